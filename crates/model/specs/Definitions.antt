@@ -1,0 +1,17 @@
+-- What paper 01 says of tables, embeddings, tree documents and the five entries, as definitions that compute.
+-- One file a concept, in reading order. "01" is paper 01 throughout, and the words in quotes after it name a section of it.
+pub mod Basics
+pub mod Commands
+pub mod Table
+pub mod Heights
+pub mod TableChecks
+pub mod Content
+pub mod Conformance
+pub mod TreeChecks
+pub mod Embedding
+pub mod EmbeddingChecks
+pub mod Filler
+pub mod Image
+pub mod Inverse
+pub mod Refusals
+pub mod Entries

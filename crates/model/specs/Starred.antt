@@ -1,0 +1,85 @@
+-- 01 "Edges of the rules": the starred cases, as one fact about the definitions, proved by computing.
+-- The bytes are those of "One patch, whole".
+use mathlib.Core.Path.{_≡_, refl}
+use mathlib.Core.List.{List, [], _∷_, _++_}
+use Prim.Native.Nat.{ℕ}
+use lib.ListN.{replicate}
+use Rattle.model.specs.Definitions.Entries.{Answer, answerOf, judgeTable, judgeEmbedding, judgeTree, carry, bringBack}
+use Rattle.model.specs.Computing.{definitions}
+
+unfoldable pub sourceTable : List ℕ
+sourceTable = 0x12 ∷ 0x15 ∷ 0x01 ∷ 0x15 ∷ 0x02 ∷ 0x10 ∷ 0x13 ∷ 0x15 ∷ 0x03 ∷ 0x15 ∷ 0x04 ∷ 0x11 ∷ 0x11 ∷ 0x1F ∷ []
+
+unfoldable pub targetTable : List ℕ
+targetTable =
+    0x12 ∷ 0x15 ∷ 0x01 ∷ 0x15 ∷ 0x02 ∷ 0x12 ∷ 0x15 ∷ 0x03 ∷ 0x15 ∷ 0x03 ∷ 0x13 ∷ 0x15 ∷ 0x04 ∷ 0x15 ∷ 0x05 ∷ 0x10 ∷ 0x11 ∷ 0x11 ∷ 0x1F ∷ []
+
+-- the patch's embedding, with its last map and the second path of source type 2 left open
+unfoldable pub embeddingWith : ℕ → ℕ → List ℕ
+embeddingWith secondStep lastTarget =
+    0x20 ∷ 0x00 ∷ 0x21 ∷ 0x22 ∷ 0x01 ∷ 0x22 ∷ 0x01 ∷ 0x21 ∷ 0x22 ∷ 0x02 ∷ 0x20 ∷ 0x03 ∷ 0x21 ∷ 0x20 ∷ 0x02 ∷ 0x21 ∷ 0x22 ∷ 0x02 ∷ 0x21 ∷ 0x22 ∷ secondStep ∷ 0x20 ∷ 0x05 ∷ 0x20 ∷ lastTarget ∷ 0x2F ∷ []
+
+unfoldable pub embedding : List ℕ
+embedding = embeddingWith 0x01 0x04
+
+unfoldable pub tree : List ℕ
+tree = 0x30 ∷ 0x00 ∷ 0x30 ∷ 0x01 ∷ 0x31 ∷ 0x41 ∷ 0x32 ∷ 0x30 ∷ 0x02 ∷ 0x30 ∷ 0x03 ∷ 0x32 ∷ 0x32 ∷ 0x32 ∷ 0x3F ∷ []
+
+-- the image, with what the filler text at offset 9 holds left open
+unfoldable pub imageWith : List ℕ → List ℕ
+imageWith inFiller =
+    0x30 ∷ 0x00 ∷ 0x30 ∷ 0x01 ∷ 0x30 ∷ 0x03 ∷ 0x31 ∷ 0x41 ∷ 0x32 ∷ 0x30 ∷ 0x03
+    ∷ (inFiller ++ 0x32 ∷ 0x32 ∷ 0x30 ∷ 0x02 ∷ 0x30 ∷ 0x05 ∷ 0x32 ∷ 0x32 ∷ 0x32 ∷ 0x3F ∷ [])
+
+-- an output of n bytes with something in them
+unfoldable pub junk : ℕ → List ℕ
+junk n = replicate n 0xA5
+
+-- 01's answers
+unfoldable pub refusal : ℕ → ℕ → ℕ → Answer
+refusal number document mark = record { refusal = number; document = document; mark = mark; value = 0; filler = 0 }
+
+unfoldable pub answer : ℕ → ℕ → Answer
+answer value filler = record { refusal = 0; document = 0; mark = 0; value = value; filler = filler }
+
+pub record StarredCases : Type 0 where
+  -- the patch, carried
+  pub carried : answerOf (carry sourceTable targetTable embedding tree (junk 60000) .result) ≡ answer 21 1
+  pub carried-bytes : carry sourceTable targetTable embedding tree (junk 60000) .output ≡ imageWith [] ++ junk 59979
+  -- its image, brought back
+  pub brought-back : answerOf (bringBack sourceTable targetTable embedding (imageWith []) (junk 60000) .result) ≡ answer 15 0
+  pub brought-back-bytes : bringBack sourceTable targetTable embedding (imageWith []) (junk 60000) .output ≡ tree ++ junk 59985
+  -- the patch carried into 21 bytes
+  pub into-21 : answerOf (carry sourceTable targetTable embedding tree (junk 21) .result) ≡ answer 21 1
+  pub into-21-bytes : carry sourceTable targetTable embedding tree (junk 21) .output ≡ imageWith []
+  -- into 20 bytes
+  pub into-20 : answerOf (carry sourceTable targetTable embedding tree (junk 20) .result) ≡ refusal 14 5 0
+  pub into-20-bytes : carry sourceTable targetTable embedding tree (junk 20) .output ≡ junk 20
+  -- the image with 31 42 put in at offset 11
+  pub altered : answerOf (bringBack sourceTable targetTable embedding (imageWith (0x31 ∷ 0x42 ∷ [])) (junk 60000) .result) ≡ refusal 15 4 0
+  pub altered-bytes : bringBack sourceTable targetTable embedding (imageWith (0x31 ∷ 0x42 ∷ [])) (junk 60000) .output ≡ junk 60000
+  -- an empty tree document
+  pub no-bytes : answerOf (judgeTree sourceTable []) ≡ refusal 2 4 0
+  -- under the source table, a root that holds nothing
+  pub bare-root : answerOf (judgeTree sourceTable (0x30 ∷ 0x00 ∷ 0x32 ∷ 0x3F ∷ [])) ≡ refusal 11 4 2
+  -- a sequence that holds itself
+  pub endless : answerOf (judgeTable (0x12 ∷ 0x15 ∷ 0x00 ∷ 0x1F ∷ [])) ≡ refusal 6 1 0
+  -- a list of itself
+  pub list-of-itself : answerOf (judgeTable (0x14 ∷ 0x00 ∷ 0x1F ∷ [])) ≡ answer 1 0
+  -- the patch's embedding with both paths of source type 2 the same
+  pub same-paths : answerOf (judgeEmbedding sourceTable targetTable (embeddingWith 0x02 0x04)) ≡ refusal 8 3 18
+  -- and with its last map 20 05
+  pub same-ends : answerOf (judgeEmbedding sourceTable targetTable (embeddingWith 0x02 0x05)) ≡ refusal 10 3 18
+  -- the paths of a choice part at a sequence
+  pub part-at-sequence :
+      answerOf
+      (judgeEmbedding
+      (0x13 ∷ 0x15 ∷ 0x01 ∷ 0x15 ∷ 0x02 ∷ 0x11 ∷ 0x11 ∷ 0x1F ∷ [])
+      (0x12 ∷ 0x15 ∷ 0x01 ∷ 0x15 ∷ 0x01 ∷ 0x13 ∷ 0x15 ∷ 0x02 ∷ 0x15 ∷ 0x03 ∷ 0x11 ∷ 0x11 ∷ 0x1F ∷ [])
+      (0x20 ∷ 0x00 ∷ 0x21 ∷ 0x22 ∷ 0x01 ∷ 0x22 ∷ 0x01 ∷ 0x21 ∷ 0x22 ∷ 0x02 ∷ 0x22 ∷ 0x01 ∷ 0x20 ∷ 0x02 ∷ 0x20 ∷ 0x02 ∷ 0x2F ∷ []))
+      ≡ refusal 10 3 7
+
+pub starred-cases : StarredCases
+unfolding definitions sourceTable targetTable embeddingWith embedding tree imageWith junk refusal answer
+starred-cases =
+    record { carried = refl; carried-bytes = refl; brought-back = refl; brought-back-bytes = refl; into-21 = refl; into-21-bytes = refl; into-20 = refl; into-20-bytes = refl; altered = refl; altered-bytes = refl; no-bytes = refl; bare-root = refl; endless = refl; list-of-itself = refl; same-paths = refl; same-ends = refl; part-at-sequence = refl }
