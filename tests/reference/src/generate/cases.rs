@@ -1,0 +1,257 @@
+//! Random cases: an entry with its documents and the length of its output.
+
+use super::damage::{
+    alter, damage_bytes, damage_commands, damage_embedding, damage_table, damage_tree, make_too_long,
+};
+use super::embeddings::{random_embedded, Embedded};
+use super::tables::{random_table, TableSize};
+use super::trees::{pad, random_tree, recursive_types, Shape};
+use super::Rng;
+use crate::image::Mapping;
+use crate::table::ContentModel;
+use crate::tree::{self, commands, Command, Element};
+use crate::vectors::{Answer, Case, Entry};
+use crate::{MOST_BYTES, MOST_LEVELS};
+
+/// Two tables, a valid embedding and a conforming source tree.
+#[derive(Debug, Clone)]
+pub struct World {
+    pub embedded: Embedded,
+    pub tree: Element,
+}
+
+impl World {
+    /// A world with tables of a size and a tree of a shape.
+    pub fn random(rng: &mut Rng, size: TableSize, shape: Shape) -> World {
+        loop {
+            let source = random_table(rng, size);
+            if let Some(tree) = random_tree(rng, &source, shape) {
+                return World { embedded: random_embedded(rng, &source), tree };
+            }
+        }
+    }
+
+    /// A world of mixed size, sometimes near the limits.
+    pub fn mixed(rng: &mut Rng) -> World {
+        let size = TableSize::random(rng);
+        let shape = match rng.weighted(&[81, 10, 1, 7, 1]) {
+            0 => Shape::small(rng),
+            1 => Shape::deep(rng),
+            2 => Shape::wide(rng),
+            3 => return World::at_most_levels(rng, size),
+            _ => return World::at_most_bytes(rng, size),
+        };
+        World::random(rng, size, shape)
+    }
+
+    /// The first of some random worlds for which a test holds, else the last.
+    fn found(rng: &mut Rng, size: TableSize, shape: Shape, test: impl Fn(&World) -> bool) -> World {
+        let mut world = World::random(rng, size, shape);
+        for _ in 0..20 {
+            if test(&world) {
+                break;
+            }
+            world = World::random(rng, size, shape);
+        }
+        world
+    }
+
+    /// A world whose image has about the greatest number of levels, where the
+    /// source table lets trees be that deep.
+    pub fn at_most_levels(rng: &mut Rng, size: TableSize) -> World {
+        let mut shape = Shape { levels: 30, bytes: 800, deep: true, wide: false };
+        let mut world = World::found(rng, size, shape, |world| recursive_types(&world.embedded.source)[0]);
+        let (mut low, mut high) = (1, MOST_LEVELS);
+        while low < high {
+            shape.levels = (low + high).div_ceil(2);
+            let Some(tree) = random_tree(rng, &world.embedded.source, shape) else {
+                low = shape.levels;
+                continue;
+            };
+            world.tree = tree;
+            match world.measure().0 <= MOST_LEVELS as u64 {
+                true => low = shape.levels,
+                false => high = shape.levels - 1,
+            }
+        }
+        world
+    }
+
+    /// A world whose source or image has about the greatest length, where the
+    /// source tree has a text element.
+    pub fn at_most_bytes(rng: &mut Rng, size: TableSize) -> World {
+        let shape = Shape::small(rng);
+        let mut world = World::found(rng, size, shape, World::has_text);
+        let source = world.tree.to_bytes().len();
+        let image = world.measure().1.min(u64::MAX / 2) as usize;
+        let length = if rng.chance(60) { image } else { source };
+        let more = rng.below(2);
+        let count = MOST_BYTES.saturating_sub(length) / 2 + more;
+        pad(rng, &world.embedded.source, &mut world.tree, count);
+        world
+    }
+
+    /// Whether the source tree has a text element.
+    fn has_text(&self) -> bool {
+        let source = &self.embedded.source;
+        let document = self.tree.to_bytes();
+        let texts = commands(&document).filter(|(_, command)| match command {
+            Command::Open(t) => source.types[*t as usize] == ContentModel::Text,
+            _ => false,
+        });
+        texts.count() > 0
+    }
+
+    /// The embedding prepared for carrying.
+    pub fn mapping(&self) -> Mapping {
+        let Embedded { source, target, embedding } = &self.embedded;
+        Mapping::new(source, target, embedding)
+    }
+
+    /// Levels and length of the image.
+    pub fn measure(&self) -> (u64, u64) {
+        let mapping = self.mapping();
+        let measure = mapping.measure(&self.tree);
+        (measure.levels, measure.length)
+    }
+
+    /// The image, if it keeps within the limits.
+    pub fn image(&self) -> Option<Element> {
+        let mut output = vec![0; MOST_BYTES];
+        let carried = self.mapping().carry(&self.tree, &mut output).ok()?;
+        Some(tree::build(&output[..carried.length as usize]))
+    }
+
+    /// The documents of an entry: valid ones, and for bringing back an image
+    /// or another tree that conforms to the target table.
+    pub fn documents(&self, rng: &mut Rng, entry: Entry) -> Vec<Vec<u8>> {
+        let Embedded { source, target, embedding } = &self.embedded;
+        let all = [source.to_bytes(), target.to_bytes(), embedding.to_bytes(), self.tree.to_bytes()];
+        match entry {
+            Entry::JudgeTable => vec![all[rng.below(2)].clone()],
+            Entry::JudgeTree => vec![all[0].clone(), all[3].clone()],
+            Entry::JudgeEmbedding => all[..3].to_vec(),
+            Entry::Carry => all.to_vec(),
+            Entry::BringBack => [&all[..3], &[self.given_image(rng)]].concat(),
+        }
+    }
+
+    /// A tree to bring back: the image, an altered image or a random tree.
+    fn given_image(&self, rng: &mut Rng) -> Vec<u8> {
+        let target = &self.embedded.target;
+        let shape = Shape::small(rng);
+        let image = self.image();
+        match (image, rng.weighted(&[50, 40, 10])) {
+            (Some(image), 0) => image.to_bytes(),
+            (Some(image), 1) => alter(rng, target, &image).to_bytes(),
+            _ => random_tree(rng, target, shape).unwrap_or(self.tree.clone()).to_bytes(),
+        }
+    }
+}
+
+/// A case over all entries, refusals and sizes. Most documents have some
+/// hundred bytes, a few up to 60,000.
+pub fn random_case(rng: &mut Rng) -> Case {
+    let world = World::mixed(rng);
+    let entry = Entry::ALL[rng.weighted(&[10, 20, 14, 32, 24])];
+    case_of(rng, &world, entry)
+}
+
+/// A case whose documents have at most 60 bytes together.
+pub fn random_small_case(rng: &mut Rng) -> Case {
+    loop {
+        let bytes = rng.pick(&[4, 8, 12, 20]);
+        let size = TableSize { types: rng.between(1, 4), members: 2 };
+        let shape = Shape { levels: 6, bytes, deep: rng.chance(30), wide: false };
+        let world = World::random(rng, size, shape);
+        // Tables of one type would else be most of those that fit.
+        if world.embedded.source.types.len() == 1 && rng.chance(75) {
+            continue;
+        }
+        let entry = Entry::ALL[rng.weighted(&[6, 24, 12, 30, 28])];
+        let case = case_of(rng, &world, entry);
+        if case.documents.iter().map(Vec::len).sum::<usize>() <= 60 {
+            return case;
+        }
+    }
+}
+
+/// A case of an entry in a world; about half of them have damage.
+pub fn case_of(rng: &mut Rng, world: &World, entry: Entry) -> Case {
+    let mut documents = world.documents(rng, entry);
+    for _ in 0..rng.pick(&[0, 0, 0, 0, 0, 1, 1, 1, 1, 2]) {
+        // Later documents are damaged more often than tables.
+        let at = rng.weighted(&[20, 20, 35, 30][..documents.len()]);
+        damage(rng, world, entry, &mut documents, at);
+    }
+    if rng.below(400) == 0 {
+        let at = rng.below(documents.len());
+        make_too_long(rng, &mut documents[at]);
+    }
+    let output_length = if entry.writes() { MOST_BYTES } else { 0 };
+    let mut case = Case { entry, documents, output_length };
+    if entry.writes() {
+        case.output_length = random_output_length(rng, &case);
+    }
+    case
+}
+
+/// Damages one document of a case.
+fn damage(rng: &mut Rng, world: &World, entry: Entry, documents: &mut [Vec<u8>], at: usize) {
+    let is_tree = at == 3 || (entry == Entry::JudgeTree && at == 1);
+    let bytes = &mut documents[at];
+    match rng.weighted(&[22, 22, 6, 50]) {
+        0 => damage_bytes(rng, bytes),
+        1 => damage_commands(rng, bytes),
+        2 => *bytes = soup(rng, if is_tree { 2 } else { at / 2 }),
+        _ if is_tree && entry == Entry::BringBack => {
+            if let Some(image) = world.image() {
+                *bytes = damage_tree(rng, &world.embedded.target, &image);
+            }
+        }
+        _ if is_tree => *bytes = damage_tree(rng, &world.embedded.source, &world.tree),
+        _ if at == 2 => *bytes = damage_embedding(rng, &world.embedded),
+        _ if at == 1 => *bytes = damage_table(rng, &world.embedded.target),
+        _ => *bytes = damage_table(rng, &world.embedded.source),
+    }
+}
+
+/// Random commands of one kind of document (0 table, 1 embedding, 2 tree),
+/// with small operands and mostly the command that ends it.
+fn soup(rng: &mut Rng, kind: usize) -> Vec<u8> {
+    let codes: [&[u8]; 3] = [
+        &[0x10, 0x11, 0x12, 0x13, 0x14, 0x15, 0x15, 0x15],
+        &[0x20, 0x21, 0x21, 0x22, 0x22],
+        &[0x30, 0x30, 0x31, 0x32, 0x32],
+    ];
+    let mut bytes = Vec::new();
+    for _ in 0..rng.below(10) {
+        let code = rng.pick(codes[kind]);
+        bytes.push(code);
+        if matches!(code, 0x14 | 0x15 | 0x20 | 0x22 | 0x30 | 0x31) {
+            bytes.push(rng.below(4) as u8);
+        }
+    }
+    if rng.chance(85) {
+        bytes.push([0x1F, 0x2F, 0x3F][kind]);
+    }
+    bytes
+}
+
+/// A length of output: the greatest length, the length needed, one less, one
+/// more, or any.
+fn random_output_length(rng: &mut Rng, case: &Case) -> usize {
+    let needed = match case.run_into(&mut vec![0; MOST_BYTES]) {
+        Answer::Ok { value, .. } => value as usize,
+        Answer::Refused(_) => rng.below(100),
+    };
+    match rng.weighted(&[40, 20, 14, 8, 4, 4, 10]) {
+        0 => MOST_BYTES,
+        1 => needed,
+        2 => needed.saturating_sub(1),
+        3 => needed + 1,
+        4 => 0,
+        5 => MOST_BYTES + 1 + rng.below(5000),
+        _ => rng.below(2 * needed),
+    }
+}

@@ -1,0 +1,545 @@
+//! Random valid embeddings. The target table is derived from the source
+//! table, then paths and maps are replaced by others found in the target.
+
+use super::tables::{random_table, tower, TableSize};
+use super::Rng;
+use crate::embedding::{self, Embedding, Path, TypeMap};
+use crate::table::{self, ContentModel, Table};
+use crate::{MOST_MEMBERS, MOST_STEPS, MOST_TYPES, TARGET};
+
+/// Two tables and a valid embedding of the source in the target.
+#[derive(Debug, Clone)]
+pub struct Embedded {
+    pub source: Table,
+    pub target: Table,
+    pub embedding: Embedding,
+}
+
+impl Embedded {
+    /// Whether the embedding is valid.
+    fn is_valid(&self) -> bool {
+        embedding::accept(&self.source, &self.target, &self.embedding.to_bytes()).is_ok()
+    }
+}
+
+/// A target table and a valid embedding for a source table.
+pub fn random_embedded(rng: &mut Rng, source: &Table) -> Embedded {
+    for _ in 0..8 {
+        let wrap = rng.pick(&[0, 20, 40, 60, 85]);
+        let extra = rng.pick(&[0, 15, 30, 50]);
+        if let Some(mut embedded) = derive(rng, source, wrap, extra) {
+            vary(rng, &mut embedded);
+            return embedded;
+        }
+    }
+    identity(source)
+}
+
+/// The embedding of a table in itself.
+pub fn identity(source: &Table) -> Embedded {
+    let maps = source.types.iter().enumerate().map(|(t, model)| {
+        let path = |edge: usize| match model {
+            ContentModel::Text => Vec::new(),
+            _ => vec![edge as u8 + 1],
+        };
+        type_map(t as u8, (0..model.edges()).map(path).collect())
+    });
+    let embedding = Embedding { maps: maps.collect() };
+    Embedded { source: source.clone(), target: source.clone(), embedding }
+}
+
+/// A map with the steps of its paths; the offsets are left 0.
+fn type_map(target: u8, paths: Vec<Vec<u8>>) -> TypeMap {
+    let paths = paths.into_iter().map(|steps| Path { offset: 0, steps }).collect();
+    TypeMap { offset: 0, target, paths }
+}
+
+/// Builds a target table around the maps of a source table. `wrap` and
+/// `extra` are the chances of longer paths and of filler members.
+struct Derivation<'a> {
+    rng: &'a mut Rng,
+    source: &'a Table,
+    wrap: usize,
+    extra: usize,
+    /// The target type of each source type.
+    maps: Vec<u8>,
+    /// The models of the target types; `None` while not yet decided.
+    target: Vec<Option<ContentModel>>,
+    /// The target types that filler members are drawn from.
+    fillers: Vec<u8>,
+}
+
+/// The paths found for the edges of one source type.
+type Paths = Vec<Vec<u8>>;
+
+/// A derived target table and embedding; `None` where the limits are passed.
+fn derive(rng: &mut Rng, source: &Table, wrap: usize, extra: usize) -> Option<Embedded> {
+    let mut derivation =
+        Derivation { rng, source, wrap, extra, maps: vec![0], target: vec![None], fillers: Vec::new() };
+    derivation.add_fillers()?;
+    derivation.choose_maps()?;
+    let paths = derivation.define_types()?;
+    let maps = derivation.maps.iter().zip(paths).map(|(&t, paths)| type_map(t, paths)).collect();
+    let empty = ContentModel::Empty;
+    let types = derivation.target.iter().map(|model| model.clone().unwrap_or(empty.clone())).collect();
+    let mut embedded =
+        Embedded { source: source.clone(), target: Table { types }, embedding: Embedding { maps } };
+    if rng.chance(60) {
+        renumber(rng, &mut embedded);
+    }
+    table::accept(&embedded.target.to_bytes(), TARGET).ok()?;
+    embedded.is_valid().then_some(embedded)
+}
+
+impl Derivation<'_> {
+    /// A new target type, not yet decided.
+    fn new_type(&mut self) -> Option<u8> {
+        let t = self.target.len();
+        self.target.push(None);
+        (t < MOST_TYPES).then_some(t as u8)
+    }
+
+    /// Adds types that no path needs: none, a random table or a tower.
+    fn add_fillers(&mut self) -> Option<()> {
+        let table = match self.rng.below(30) {
+            0 => tower(self.rng.between(2, 40), self.rng.between(1, MOST_MEMBERS)),
+            1..=5 => tower(self.rng.between(2, 7), self.rng.between(1, 8)),
+            6..=12 => return Some(()),
+            _ => random_table(self.rng, TableSize { types: 4, members: 3 }),
+        };
+        let first = self.target.len() as u8;
+        for model in &table.types {
+            self.new_type()?;
+            let renamed = rename(model, |t| t + first);
+            *self.target.last_mut()? = Some(renamed);
+        }
+        self.fillers = (first..self.target.len() as u8).collect();
+        Some(())
+    }
+
+    /// A type for a filler member: mostly one of the filler types.
+    fn filler_type(&mut self) -> u8 {
+        if self.fillers.is_empty() || self.rng.chance(10) {
+            return self.rng.below(self.target.len()) as u8;
+        }
+        self.rng.pick(&self.fillers)
+    }
+
+    /// Chooses the target type of each source type: a new one, or one that
+    /// another source type has.
+    fn choose_maps(&mut self) -> Option<()> {
+        for t in 1..self.source.types.len() {
+            let map = match self.source.types[t] {
+                ContentModel::Empty if self.rng.chance(30) => self.rng.pick(&self.maps),
+                ContentModel::Empty if self.rng.chance(30) => self.filler_type(),
+                _ => self.new_type()?,
+            };
+            self.maps.push(map);
+        }
+        for t in 1..self.source.types.len() {
+            if self.rng.chance(50) {
+                self.share_map(t);
+            }
+        }
+        Some(())
+    }
+
+    /// Maps a source type to the target type of an earlier one of the same
+    /// kind whose members have the same maps.
+    fn share_map(&mut self, t: usize) {
+        let mapped = |model: &ContentModel| rename(model, |named| self.maps[named as usize]);
+        let model = mapped(&self.source.types[t]);
+        let earlier = (0..t).find(|&other| mapped(&self.source.types[other]) == model);
+        if let Some(other) = earlier {
+            self.maps[t] = self.maps[other];
+        }
+    }
+
+    /// Decides the target types that source types are mapped to, and gives
+    /// the paths of each source type.
+    fn define_types(&mut self) -> Option<Vec<Paths>> {
+        let mut found: Vec<Paths> = Vec::new();
+        // Types with edges decide first which model their target type has.
+        for t in 0..self.source.types.len() {
+            let earlier = (0..t)
+                .find(|&other| self.maps[other] == self.maps[t] && self.source.types[other].edges() > 0);
+            let paths = match earlier {
+                _ if self.source.types[t] == ContentModel::Empty => Vec::new(),
+                Some(other) => found[other].clone(),
+                None => self.define_type(t)?,
+            };
+            found.push(paths);
+        }
+        for t in 0..self.source.types.len() {
+            let map = self.maps[t] as usize;
+            if self.target[map].is_none() {
+                self.target[map] = Some(self.any_model());
+            }
+        }
+        Some(found)
+    }
+
+    /// A model of filler types, for the image of an empty type.
+    fn any_model(&mut self) -> ContentModel {
+        match self.rng.below(6) {
+            0 => ContentModel::Text,
+            1 => ContentModel::List(self.filler_type()),
+            2 => ContentModel::Sequence(vec![self.filler_type(), self.filler_type()]),
+            3 if self.fillers.len() > 1 => ContentModel::Choice(self.distinct_fillers(&[], 2)),
+            _ => ContentModel::Empty,
+        }
+    }
+
+    /// Some distinct filler types besides the given ones.
+    fn distinct_fillers(&mut self, besides: &[u8], most: usize) -> Vec<u8> {
+        let mut fillers: Vec<u8> = self.fillers.clone();
+        fillers.retain(|t| !besides.contains(t));
+        self.rng.shuffle(&mut fillers);
+        fillers.truncate(most);
+        fillers
+    }
+
+    /// Decides the target type of a source type and finds its paths.
+    fn define_type(&mut self, t: usize) -> Option<Paths> {
+        let model = self.source.types[t].clone();
+        let at = self.maps[t];
+        let mut route = Route { model: &model, paths: vec![Vec::new(); model.edges()] };
+        let edges: Vec<usize> = (0..model.edges()).collect();
+        match model {
+            ContentModel::Text if !self.rng.chance(self.wrap / 2) => {
+                self.target[at as usize] = Some(ContentModel::Text);
+            }
+            ContentModel::Choice(_) => self.lay_choice(&mut route, at, &edges, Vec::new(), false)?,
+            ContentModel::List(_) => self.lay(&mut route, at, &edges, Vec::new(), true)?,
+            _ => self.lay(&mut route, at, &edges, Vec::new(), false)?,
+        }
+        Some(route.paths)
+    }
+
+    /// The target type at which the path of an edge ends.
+    fn end_type(&mut self, route: &Route, edge: usize) -> Option<u8> {
+        if let Some(&named) = route.model.named().get(edge) {
+            return Some(self.maps[named as usize]);
+        }
+        let is_text = |t: &u8| self.target[*t as usize] == Some(ContentModel::Text);
+        let texts: Vec<u8> = (0..self.target.len() as u8).filter(is_text).collect();
+        if !texts.is_empty() && self.rng.chance(50) {
+            return Some(self.rng.pick(&texts));
+        }
+        let t = self.new_type()?;
+        self.target[t as usize] = Some(ContentModel::Text);
+        Some(t)
+    }
+
+    /// Makes `at` a sequence or list that the paths of some edges leave.
+    /// `list` says that a list has still to be on the path.
+    fn lay(&mut self, route: &mut Route, at: u8, edges: &[usize], prefix: Vec<u8>, list: bool) -> Option<()> {
+        let last = prefix.len() + 1 >= MOST_STEPS;
+        let as_list = if list { last || self.rng.chance(60) } else { self.rng.chance(15) };
+        if as_list && (edges.len() == 1 || !last) {
+            let item = self.next(route, edges, longer(&prefix, 0), false)?;
+            self.target[at as usize] = Some(ContentModel::List(item));
+            return Some(());
+        }
+        let groups = self.split(edges, last);
+        let members = self.with_fillers(groups);
+        let mut types = Vec::new();
+        for (place, group) in members.iter().enumerate() {
+            types.push(match group {
+                Some(group) => self.next(route, group, longer(&prefix, place), list)?,
+                None => self.filler_type(),
+            });
+        }
+        self.target[at as usize] = Some(ContentModel::Sequence(types));
+        Some(())
+    }
+
+    /// The type after the last step of `prefix`: the end of a path, or a new
+    /// type that the paths go on from.
+    fn next(&mut self, route: &mut Route, edges: &[usize], prefix: Vec<u8>, list: bool) -> Option<u8> {
+        let full = prefix.len() >= MOST_STEPS;
+        if edges.len() == 1 && !list && (full || !self.rng.chance(self.wrap)) {
+            route.paths[edges[0]] = prefix;
+            return self.end_type(route, edges[0]);
+        }
+        if full {
+            return None;
+        }
+        let t = self.new_type()?;
+        self.lay(route, t, edges, prefix, list)?;
+        Some(t)
+    }
+
+    /// Makes `at` a choice or sequence that the paths of some members of a
+    /// choice leave. `passed` says that a choice is already on the path.
+    fn lay_choice(
+        &mut self,
+        route: &mut Route,
+        at: u8,
+        edges: &[usize],
+        prefix: Vec<u8>,
+        passed: bool,
+    ) -> Option<()> {
+        let last = prefix.len() + 1 >= MOST_STEPS;
+        let may_wait = !last || (passed && edges.len() == 1);
+        if may_wait && self.rng.chance(30) {
+            let members = self.with_fillers(vec![edges.to_vec()]);
+            let mut types = Vec::new();
+            for (place, group) in members.iter().enumerate() {
+                types.push(match group {
+                    Some(group) => self.next_choice(route, group, longer(&prefix, place), passed, &[])?,
+                    None => self.filler_type(),
+                });
+            }
+            self.target[at as usize] = Some(ContentModel::Sequence(types));
+            return Some(());
+        }
+        let groups = self.split(edges, last);
+        let mut types: Vec<u8> = Vec::new();
+        for (place, group) in groups.iter().enumerate() {
+            let t = self.next_choice(route, group, longer(&prefix, place), true, &types)?;
+            types.push(t);
+        }
+        let others = if types.len() < 2 { 1 } else { self.rng.below(3) * self.extra / 50 };
+        let others = self.distinct_fillers(&types, others.min(MOST_MEMBERS - types.len()));
+        types.extend(others);
+        self.target[at as usize] = (types.len() >= 2).then_some(ContentModel::Choice(types));
+        self.target[at as usize].as_ref().map(|_| ())
+    }
+
+    /// As `next`, for members of a choice; the type isn't one of `taken`.
+    fn next_choice(
+        &mut self,
+        route: &mut Route,
+        edges: &[usize],
+        prefix: Vec<u8>,
+        passed: bool,
+        taken: &[u8],
+    ) -> Option<u8> {
+        let full = prefix.len() >= MOST_STEPS;
+        if edges.len() == 1 && passed && (full || !self.rng.chance(self.wrap)) {
+            let end = self.end_type(route, edges[0])?;
+            if !taken.contains(&end) {
+                route.paths[edges[0]] = prefix;
+                return Some(end);
+            }
+        }
+        if full {
+            return None;
+        }
+        let t = self.new_type()?;
+        self.lay_choice(route, t, edges, prefix, passed)?;
+        Some(t)
+    }
+
+    /// Splits edges into groups that go through one member each; groups of
+    /// one where `single`.
+    fn split(&mut self, edges: &[usize], single: bool) -> Vec<Vec<usize>> {
+        let apart = single || self.rng.chance(100 - self.wrap);
+        let count = if apart { edges.len() } else { self.rng.between(1, edges.len()) };
+        let mut groups = vec![Vec::new(); count];
+        for (place, &edge) in edges.iter().enumerate() {
+            let group = if place < count { place } else { self.rng.below(count) };
+            groups[group].push(edge);
+        }
+        groups
+    }
+
+    /// Adds places for filler members and puts all in random order.
+    fn with_fillers(&mut self, groups: Vec<Vec<usize>>) -> Vec<Option<Vec<usize>>> {
+        let mut members: Vec<Option<Vec<usize>>> = groups.into_iter().map(Some).collect();
+        while members.len() < MOST_MEMBERS && self.rng.chance(self.extra) {
+            members.push(None);
+        }
+        if self.rng.chance(50) {
+            self.rng.shuffle(&mut members);
+        }
+        members
+    }
+}
+
+/// The source type whose paths are being found, and the paths.
+struct Route<'a> {
+    model: &'a ContentModel,
+    paths: Paths,
+}
+
+/// A path with one more step, to the member at a place counted from 0.
+fn longer(prefix: &[u8], place: usize) -> Vec<u8> {
+    let mut steps = prefix.to_vec();
+    steps.push(place as u8 + 1);
+    steps
+}
+
+/// A content model with other type numbers.
+fn rename(model: &ContentModel, name: impl Fn(u8) -> u8) -> ContentModel {
+    match model {
+        ContentModel::Sequence(members) => ContentModel::Sequence(members.iter().map(|&t| name(t)).collect()),
+        ContentModel::Choice(members) => ContentModel::Choice(members.iter().map(|&t| name(t)).collect()),
+        ContentModel::List(item) => ContentModel::List(name(*item)),
+        other => other.clone(),
+    }
+}
+
+/// Puts the target types, but for the root, in another order.
+fn renumber(rng: &mut Rng, embedded: &mut Embedded) {
+    let mut new: Vec<u8> = (0..embedded.target.types.len() as u8).collect();
+    rng.shuffle(&mut new[1..]);
+    let old = embedded.target.types.clone();
+    for (t, model) in old.iter().enumerate() {
+        embedded.target.types[new[t] as usize] = rename(model, |named| new[named as usize]);
+    }
+    for map in &mut embedded.embedding.maps {
+        map.target = new[map.target as usize];
+    }
+}
+
+/// Which steps a random path may have.
+#[derive(Debug, Clone, Copy, PartialEq, Eq)]
+pub enum Steps {
+    /// Those that the source type asks for.
+    Valid,
+    /// Any that exist.
+    Any,
+}
+
+/// Whether a path of an edge of `source` may leave a target type, and whether
+/// that is the step it must have.
+fn may_leave(source: &ContentModel, target: &ContentModel, steps: Steps) -> Option<bool> {
+    match (source, target) {
+        (_, ContentModel::Text | ContentModel::Empty) => None,
+        _ if steps == Steps::Any => Some(true),
+        (ContentModel::Choice(_), ContentModel::Choice(_)) => Some(true),
+        (ContentModel::Choice(_), ContentModel::List(_)) => None,
+        (_, ContentModel::Choice(_)) => None,
+        (ContentModel::List(_), ContentModel::List(_)) => Some(true),
+        _ => Some(false),
+    }
+}
+
+/// A random path from `start` to `end` (to a text type where it is `None`)
+/// for an edge of a source type.
+pub fn random_path(
+    rng: &mut Rng,
+    target: &Table,
+    source: &ContentModel,
+    start: u8,
+    end: Option<u8>,
+    steps: Steps,
+) -> Option<Vec<u8>> {
+    let needs = matches!(source, ContentModel::Choice(_) | ContentModel::List(_)) && steps == Steps::Valid;
+    let search = PathSearch::new(target, source, end, steps);
+    let least = if *source == ContentModel::Text || steps == Steps::Any { 0 } else { 1 };
+    let lengths: Vec<usize> =
+        (least..=MOST_STEPS).filter(|&length| search.reaches(length, needs, start)).collect();
+    if lengths.is_empty() {
+        return None;
+    }
+    let length = if rng.chance(50) { lengths[0] } else { rng.pick(&lengths) };
+    Some(search.path(rng, length, needs, start))
+}
+
+/// From which types an end is reached by so many steps, with or without
+/// the step that must still come.
+struct PathSearch<'a> {
+    target: &'a Table,
+    source: &'a ContentModel,
+    steps: Steps,
+    reached: Vec<[Vec<bool>; 2]>,
+}
+
+impl<'a> PathSearch<'a> {
+    /// Computes the types for every number of steps.
+    fn new(target: &'a Table, source: &'a ContentModel, end: Option<u8>, steps: Steps) -> PathSearch<'a> {
+        let is_end = |t: usize| match end {
+            Some(end) => t == end as usize,
+            None => target.types[t] == ContentModel::Text,
+        };
+        let count = target.types.len();
+        let first = [(0..count).map(is_end).collect(), vec![false; count]];
+        let mut search = PathSearch { target, source, steps, reached: vec![first] };
+        for length in 1..=MOST_STEPS {
+            let row =
+                |needs| (0..count).map(|t| !search.choices(length, needs, t as u8).is_empty()).collect();
+            let rows = [row(false), row(true)];
+            search.reached.push(rows);
+        }
+        search
+    }
+
+    /// Whether the end is reached from a type by just so many steps.
+    fn reaches(&self, length: usize, needs: bool, t: u8) -> bool {
+        self.reached[length][needs as usize][t as usize]
+    }
+
+    /// The first steps of such paths, each with the type it leads to and
+    /// what is still needed after it.
+    fn choices(&self, length: usize, needs: bool, t: u8) -> Vec<(u8, u8, bool)> {
+        let model = &self.target.types[t as usize];
+        let Some(satisfies) = may_leave(self.source, model, self.steps) else {
+            return Vec::new();
+        };
+        let needs = needs && !satisfies;
+        let named = model.named().iter().enumerate();
+        let reaching = named.filter(|(_, &next)| self.reaches(length - 1, needs, next));
+        reaching.map(|(place, &next)| (place as u8 + 1, next, needs)).collect()
+    }
+
+    /// A random path of this length.
+    fn path(&self, rng: &mut Rng, length: usize, mut needs: bool, mut t: u8) -> Vec<u8> {
+        let mut steps = Vec::new();
+        for left in (1..=length).rev() {
+            let (step, next, still) = rng.pick(&self.choices(left, needs, t));
+            steps.push(step);
+            (t, needs) = (next, still);
+        }
+        steps
+    }
+}
+
+/// Replaces some paths and maps by others that are valid too.
+fn vary(rng: &mut Rng, embedded: &mut Embedded) {
+    for _ in 0..rng.pick(&[0, 0, 1, 3, 6]) {
+        let before = embedded.embedding.clone();
+        let t = rng.below(embedded.source.types.len());
+        if rng.chance(60) {
+            let edge = rng.below(embedded.source.types[t].edges());
+            reroute(rng, embedded, t, edge, Steps::Valid);
+        } else {
+            remap(rng, embedded, t);
+        }
+        if !embedded.is_valid() {
+            embedded.embedding = before;
+        }
+    }
+}
+
+/// Replaces the path of an edge by a random one to the same end, if there is
+/// such an edge.
+pub fn reroute(rng: &mut Rng, embedded: &mut Embedded, t: usize, edge: usize, steps: Steps) {
+    let model = &embedded.source.types[t];
+    let maps = &mut embedded.embedding.maps;
+    let end = model.named().get(edge).map(|&named| maps[named as usize].target);
+    let start = maps[t].target;
+    if edge < model.edges() {
+        if let Some(path) = random_path(rng, &embedded.target, model, start, end, steps) {
+            maps[t].paths[edge].steps = path;
+        }
+    }
+}
+
+/// Maps a type to another target type and replaces all paths from and to it.
+fn remap(rng: &mut Rng, embedded: &mut Embedded, t: usize) {
+    if t == 0 {
+        return;
+    }
+    embedded.embedding.maps[t].target = rng.below(embedded.target.types.len()) as u8;
+    for other in 0..embedded.source.types.len() {
+        for edge in 0..embedded.source.types[other].edges() {
+            let named = embedded.source.types[other].named().get(edge).copied();
+            if other == t || named == Some(t as u8) {
+                reroute(rng, embedded, other, edge, Steps::Valid);
+            }
+        }
+    }
+}

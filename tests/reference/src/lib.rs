@@ -1,0 +1,138 @@
+//! A reference for the five entries of paper 01, written from that paper
+//! and the list of readings alone, in plain Rust.
+//!
+//! | Entry | Function |
+//! |---|---|
+//! | judge a table | [`judge_table`] |
+//! | judge an embedding | [`judge_embedding`] |
+//! | judge a tree | [`judge_tree`] |
+//! | carry | [`carry`] |
+//! | bring back | [`bring_back`] |
+//!
+//! Every function answers on arbitrary bytes. A refusal changes no byte of the
+//! output; an answer changes none after those it writes.
+
+pub mod embedding;
+pub mod generate;
+pub mod image;
+pub mod inverse;
+pub mod reader;
+pub mod table;
+pub mod tree;
+pub mod vectors;
+
+use image::Mapping;
+
+/// The greatest length of a document, in bytes.
+pub const MOST_BYTES: usize = 60_000;
+/// The greatest number of types of a table.
+pub const MOST_TYPES: usize = 64;
+/// The greatest number of members of a type.
+pub const MOST_MEMBERS: usize = 16;
+/// The greatest number of steps of a path.
+pub const MOST_STEPS: usize = 12;
+/// The greatest number of levels of a tree.
+pub const MOST_LEVELS: usize = 128;
+
+/// Document 1: the table, or the source table where there are two.
+pub const SOURCE: u64 = 1;
+/// Document 2: the target table.
+pub const TARGET: u64 = 2;
+/// Document 3: the embedding.
+pub const EMBEDDING: u64 = 3;
+/// Document 4: the tree.
+pub const TREE: u64 = 4;
+/// Document 5: the output.
+pub const OUTPUT: u64 = 5;
+
+/// An answer of refusal: number, document and mark, as paper 01 lists them.
+#[derive(Debug, Clone, Copy, PartialEq, Eq)]
+pub struct Refusal {
+    pub number: u64,
+    pub document: u64,
+    pub mark: u64,
+}
+
+impl Refusal {
+    /// A refusal of a document at a place.
+    pub fn new(number: u64, document: u64, mark: usize) -> Refusal {
+        Refusal { number, document, mark: mark as u64 }
+    }
+}
+
+/// The answer of [`carry`]: length of the image, number of filler elements.
+#[derive(Debug, Clone, Copy, PartialEq, Eq)]
+pub struct Carried {
+    pub length: u64,
+    pub filler: u64,
+}
+
+/// Judges a table and answers its number of types.
+pub fn judge_table(table: &[u8]) -> Result<u64, Refusal> {
+    Ok(table::accept(table, SOURCE)?.types.len() as u64)
+}
+
+/// Judges an embedding between two tables and answers its number of edges.
+pub fn judge_embedding(source: &[u8], target: &[u8], embedding: &[u8]) -> Result<u64, Refusal> {
+    let source = table::accept(source, SOURCE)?;
+    let target = table::accept(target, TARGET)?;
+    embedding::accept(&source, &target, embedding)?;
+    Ok(source.edges() as u64)
+}
+
+/// Judges a tree by a table and answers its number of elements.
+pub fn judge_tree(table: &[u8], tree: &[u8]) -> Result<u64, Refusal> {
+    let table = table::accept(table, SOURCE)?;
+    tree::judge(&table, tree)?;
+    Ok(tree::count(tree) as u64)
+}
+
+/// Writes the image of a tree at the start of the output.
+pub fn carry(
+    source: &[u8],
+    target: &[u8],
+    embedding: &[u8],
+    tree: &[u8],
+    output: &mut [u8],
+) -> Result<Carried, Refusal> {
+    let source = table::accept(source, SOURCE)?;
+    let target = table::accept(target, TARGET)?;
+    let embedding = embedding::accept(&source, &target, embedding)?;
+    tree::judge(&source, tree)?;
+    let root = tree::build(tree);
+    Mapping::new(&source, &target, &embedding).carry(&root, output)
+}
+
+/// Writes the source document of an image at the start of the output and
+/// answers its length.
+pub fn bring_back(
+    source: &[u8],
+    target: &[u8],
+    embedding: &[u8],
+    tree: &[u8],
+    output: &mut [u8],
+) -> Result<u64, Refusal> {
+    let source = table::accept(source, SOURCE)?;
+    let target = table::accept(target, TARGET)?;
+    let embedding = embedding::accept(&source, &target, embedding)?;
+    tree::judge(&target, tree)?;
+    let root = tree::build(tree);
+    let mapping = Mapping::new(&source, &target, &embedding);
+    inverse::bring_back(&mapping, &root, output)
+}
+
+/// Refuses a document longer than 60,000 bytes.
+fn check_length(bytes: &[u8], document: u64) -> Result<(), Refusal> {
+    if bytes.len() > MOST_BYTES {
+        return Err(Refusal::new(1, document, 0));
+    }
+    Ok(())
+}
+
+/// Turns the place a check found into a refusal.
+fn refuse_at(place: Option<usize>, number: u64, document: u64) -> Result<(), Refusal> {
+    match place {
+        Some(mark) => Err(Refusal::new(number, document, mark)),
+        None => Ok(()),
+    }
+}

@@ -1,0 +1,105 @@
+//! The command line of the reference:
+//!
+//! - `reference vectors FILE..` runs vector files and compares the answers.
+//! - `reference generate SEED COUNT [small]` prints random cases with answers.
+//! - `reference ENTRY FILE.. [OUTLEN]` runs one entry on documents in files.
+
+use lafindry_reference::generate::{random_case, random_small_case, Rng};
+use lafindry_reference::vectors::{check_line, is_skipped, Answer, Case, Entry};
+use std::collections::BTreeMap;
+use std::io::Write;
+use std::process::ExitCode;
+
+const USAGE: &str = "usage: reference vectors FILE..
+       reference generate SEED COUNT [small]
+       reference ENTRY FILE.. [OUTLEN]";
+
+fn main() -> ExitCode {
+    let arguments: Vec<String> = std::env::args().skip(1).collect();
+    let words: Vec<&str> = arguments.iter().map(String::as_str).collect();
+    let result = match words[..] {
+        ["vectors", ref files @ ..] if !files.is_empty() => run_vectors(files),
+        ["generate", seed, count] => generate(seed, count, random_case),
+        ["generate", seed, count, "small"] => generate(seed, count, random_small_case),
+        [entry, ref files @ ..] => run_entry(entry, files),
+        [] => Err(USAGE.to_string()),
+    };
+    match result {
+        Ok(true) => ExitCode::SUCCESS,
+        Ok(false) => ExitCode::from(1),
+        Err(message) => {
+            eprintln!("{message}");
+            ExitCode::from(2)
+        }
+    }
+}
+
+/// Counts of answers: the order and the text of each kind, and its number.
+type Histogram = BTreeMap<(u64, u64, String), u64>;
+
+/// Runs all lines of some files; true if all agree.
+fn run_vectors(files: &[&str]) -> Result<bool, String> {
+    let mut histogram = Histogram::new();
+    let (mut passed, mut failed) = (0, 0);
+    for file in files {
+        let text = std::fs::read_to_string(file).map_err(|error| format!("{file}: {error}"))?;
+        for (number, line) in text.lines().enumerate().filter(|(_, line)| !is_skipped(line)) {
+            match check_line(line) {
+                Ok((case, answer)) => {
+                    passed += 1;
+                    *histogram.entry(kind(&case, &answer)).or_default() += 1;
+                }
+                Err(message) => {
+                    failed += 1;
+                    println!("{file}:{}: {message}", number + 1);
+                }
+            }
+        }
+    }
+    for ((_, _, text), count) in &histogram {
+        println!("{text} {count}");
+    }
+    println!("{passed} passed, {failed} failed");
+    Ok(failed == 0)
+}
+
+/// The kind of an answer in the histogram.
+fn kind(case: &Case, answer: &Answer) -> (u64, u64, String) {
+    match answer {
+        Answer::Ok { .. } => (0, case.entry as u64, format!("ok {}", case.entry.name())),
+        Answer::Refused(refusal) => {
+            let (number, document) = (refusal.number, refusal.document);
+            (number, document, format!("refused {number} {document}"))
+        }
+    }
+}
+
+/// Prints random cases with their answers.
+fn generate(seed: &str, count: &str, random: impl Fn(&mut Rng) -> Case) -> Result<bool, String> {
+    let mut rng = Rng::new(seed.parse().map_err(|_| USAGE)?);
+    let count: u64 = count.parse().map_err(|_| USAGE)?;
+    let mut out = std::io::BufWriter::new(std::io::stdout().lock());
+    for _ in 0..count {
+        let case = random(&mut rng);
+        let answer = case.run()?;
+        writeln!(out, "{case} -> {answer}").map_err(|error| error.to_string())?;
+    }
+    out.flush().map_err(|error| error.to_string())?;
+    Ok(true)
+}
+
+/// Runs one entry on documents in files, with 60,000 bytes of output unless
+/// another length is given.
+fn run_entry(name: &str, words: &[&str]) -> Result<bool, String> {
+    let entry = Entry::ALL.into_iter().find(|entry| entry.name() == name).ok_or(USAGE)?;
+    let (files, length) = match words.len().checked_sub(entry.documents()) {
+        Some(0) => (words, "60000"),
+        Some(1) if entry.writes() => (&words[..words.len() - 1], words[words.len() - 1]),
+        _ => return Err(USAGE.to_string()),
+    };
+    let read = |file: &&str| std::fs::read(file).map_err(|error| format!("{file}: {error}"));
+    let documents = files.iter().map(read).collect::<Result<_, _>>()?;
+    let case = Case { entry, documents, output_length: length.parse().map_err(|_| USAGE)? };
+    println!("{}", case.run()?);
+    Ok(true)
+}
