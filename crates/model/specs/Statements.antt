@@ -1,0 +1,198 @@
+-- What is proved of the definitions, for every pair of accepted tables and every accepted embedding, one theorem after the
+-- other. A reader who believes `Definitions` needs to read only this page; the proofs are in `Theorems`.
+--
+-- Documents here have any length and any number of levels, unless limits are named. `Theorems.Terms` has the few terms
+-- used: accepted by an entry, the image of a document given by its bytes, its levels.
+use mathlib.Core.Path.{_≡_, sym}
+use mathlib.Core.Bool.{true}
+use mathlib.Core.List.{List, _++_}
+use mathlib.Core.Logic.{_↔_, _⊎_}
+use mathlib.Core.Option.{none, some}
+use Prim.Native.Nat.{ℕ, suc, _≤_, _<_}
+use lib.ListN.{length, drop}
+use lib.Dec.{leb}
+use Rattle.model.specs.Definitions.Basics.{passes, fails}
+use Rattle.model.specs.Definitions.Table.{Kind, Table, kindOf, tableOf}
+use Rattle.model.specs.Definitions.Heights.{heights, heightIn, heightOf, hasInstance}
+use Rattle.model.specs.Definitions.TableChecks.{tableForm, tableOperands, tableRepeats}
+use Rattle.model.specs.Definitions.Content.{Content, document, contentOf, levels}
+use Rattle.model.specs.Definitions.Conformance.{Holds, Conforming, Instance, conforms}
+use Rattle.model.specs.Definitions.TreeChecks.{treeForm, treeOperands, treeExpected, maxLevels}
+use Rattle.model.specs.Definitions.Filler.{content, known, fillers}
+use Rattle.model.specs.Definitions.Image.{Setting, image, imageBy, imageLevels, imageLength, imageFiller}
+use Rattle.model.specs.Definitions.Inverse.{readBack}
+use Rattle.model.specs.Definitions.Refusals.{Refusal, output-too-short, no-image, maxLength}
+use Rattle.model.specs.Definitions.Entries.{accepted, refused, settingOf, carry, bringWithin, bringBack}
+use Rattle.model.specs.Theorems.Terms.{AcceptedTable, AcceptedEmbedding, AcceptedTree, imageOf, fillerOf, levelsIn}
+use Rattle.model.specs.Theorems.FillerLaws.{filler-conforms, filler-levels, has-instance, instance-of}
+use Rattle.model.specs.Theorems.HeightLaws.{Solves, heights-solve, heights-least, instance-finite}
+use Rattle.model.specs.Theorems.JudgedTables.{table-sound, table-well-formed}
+use Rattle.model.specs.Theorems.Conforms.{holds-conforms, conforms-holds}
+use Rattle.model.specs.Theorems.Documents.{document-injective, checks-conforming, conforming-checks}
+use Rattle.model.specs.Theorems.Expected.{UnexpectedCommand, unexpected-command}
+use Rattle.model.specs.Theorems.Measures.{image-levels, image-length, marked, unmarked, countFiller, marked-is-image, marked-filler}
+use Rattle.model.specs.Theorems.BringingBack.{read-conforms}
+use Rattle.model.specs.Theorems.EntryLaws.{judges-accept, judge-accepts, judges-valid}
+use Rattle.model.specs.Theorems.OnBytes.{conform, equal-exactly, read-gives-back, shorter, refused-15, brought, brought-only, carried, not-carried, brought-back, not-brought-back, carry-beyond}
+use Rattle.model.specs.Theorems.RulesNeeded.{PrefixRuleTooWeak, prefix-rule-too-weak, FirstMemberEndless, first-member-endless}
+
+-- ---- 1. conforming and bytes
+
+-- The bytes of a document determine it.
+pub bytes-determine-document : (t u : ℕ) (k l : Content) → document t k ≡ document u l → (t ≡ u) × (k ≡ l)
+bytes-determine-document = document-injective
+
+-- A byte string is the bytes of a conforming document exactly when the tree checks other than length and levels accept it.
+pub conforming-exactly : (t : List ℕ) → AcceptedTable t → (d : List ℕ)
+    → Conforming (tableOf t) d ↔ ((treeForm d ≡ passes) × (treeOperands (length (tableOf t)) d ≡ passes) × (treeExpected (tableOf t) d ≡ passes))
+conforming-exactly t a d =
+    let wf = table-sound t (judge-accepts t (a .1)) .well-formed in
+    (conforming-checks (tableOf t) wf d, λ checks. checks-conforming (tableOf t) wf d (checks .0) (checks .1) (checks .2))
+
+-- Test and predicate of conformance agree.
+pub test-is-predicate : (S : Table) (κ : Kind) (k : Content) → (conforms S κ k ≡ true) ↔ Holds S κ k
+test-is-predicate S κ k = (conforms-holds S κ k, holds-conforms)
+
+-- ---- 2. check 11
+
+-- Its mark is the offset of the first command such that no conforming document begins with the bytes up to and including
+-- it, while some conforming document begins with the bytes before it.
+pub mark-of-unexpected : (t : List ℕ) → AcceptedTable t → (d : List ℕ) (at : ℕ)
+    → treeForm d ≡ passes → treeOperands (length (tableOf t)) d ≡ passes → treeExpected (tableOf t) d ≡ fails at → UnexpectedCommand (tableOf t) d at
+mark-of-unexpected t a =
+    let sound-table = table-sound t (judge-accepts t (a .1)) in
+    unexpected-command (tableOf t) sound-table (instance-of (tableOf t) sound-table)
+
+-- ---- 3. finite instances, heights, filler
+
+-- In a table that passes checks 2 to 5, a type passes check 6 exactly when some conforming element of that type exists.
+pub instance-exactly : (t : List ℕ) → tableForm t ≡ passes → tableOperands (length (tableOf t)) t ≡ passes → tableRepeats t ≡ passes
+    → (τ : ℕ) → τ < length (tableOf t) → (hasInstance (tableOf t) τ ≡ true) ↔ Instance (tableOf t) τ
+instance-exactly t form operands repeats τ exists =
+    (has-instance (tableOf t) (table-well-formed t form operands repeats) τ exists, instance-finite (tableOf t) τ)
+
+-- Heights satisfy 01's equations, and no other solution has a smaller number anywhere.
+pub heights-are-least : (t : List ℕ) → AcceptedTable t
+    → Solves (tableOf t) (heights (tableOf t)) × ((hs : List ℕ) → Solves (tableOf t) hs → (τ : ℕ) → heightOf (tableOf t) τ ≤ heightIn hs τ)
+heights-are-least t a = (heights-solve (tableOf t) (table-sound t (judge-accepts t (a .1))), heights-least (tableOf t))
+
+-- Filler of a type conforms, and its levels are the type's height.
+pub filler-is-right : (t : List ℕ) → AcceptedTable t → (τ : ℕ) → τ < length (tableOf t)
+    → Holds (tableOf t) (kindOf (tableOf t) τ) (known content (fillers content (tableOf t)) τ)
+    × (suc (levels (known content (fillers content (tableOf t)) τ)) ≡ heightOf (tableOf t) τ)
+filler-is-right t a τ exists =
+    let sound-table = table-sound t (judge-accepts t (a .1)) in
+    (filler-conforms (tableOf t) sound-table τ exists, filler-levels (tableOf t) sound-table τ exists)
+
+-- ---- 4. images conform
+
+-- The image of a document that conforms to the source table conforms to the target table.
+pub images-conform : (s t e : List ℕ) → AcceptedEmbedding s t e → (d : List ℕ) → Conforming (tableOf s) d → Conforming (tableOf t) (imageOf s t e d)
+images-conform = conform
+
+-- ---- 5. reading an image gives back the source
+
+-- Reading the image of a document along the paths gives what the document's root holds.
+pub reading-gives-back : (s t e : List ℕ) → AcceptedEmbedding s t e → (d : List ℕ) → Conforming (tableOf s) d
+    → readBack (settingOf s t e) (contentOf (imageOf s t e d)) ≡ some (contentOf d)
+reading-gives-back = read-gives-back
+
+-- So two documents have equal images exactly when they are equal.
+pub images-equal-exactly : (s t e : List ℕ) → AcceptedEmbedding s t e → (d f : List ℕ) → Conforming (tableOf s) d → Conforming (tableOf s) f
+    → (imageOf s t e d ≡ imageOf s t e f) ↔ (d ≡ f)
+images-equal-exactly = equal-exactly
+
+-- ---- 6. never longer
+
+-- A source document has at most the bytes and at most the levels of its image.
+pub never-longer : (s t e : List ℕ) → AcceptedEmbedding s t e → (d : List ℕ) → Conforming (tableOf s) d
+    → (length d ≤ length (imageOf s t e d)) × (levelsIn d ≤ levelsIn (imageOf s t e d))
+never-longer = shorter
+
+-- ---- 7. no image
+
+-- For an accepted target document: bring back refuses with 15 exactly when no conforming source document has it as its
+-- image, whatever the output.
+pub refused-15-exactly : (s t e : List ℕ) → AcceptedEmbedding s t e → (tr : List ℕ) → AcceptedTree t tr → (out : List ℕ)
+    → (bringBack s t e tr out .result ≡ refused no-image) ↔ ((d : List ℕ) → Conforming (tableOf s) d → imageOf s t e d ≡ tr → ⊥)
+refused-15-exactly = refused-15
+
+-- And where some conforming source document has it as its image, that one is brought back, if there is room for it.
+pub brings-the-source : (s t e : List ℕ) → AcceptedEmbedding s t e → (tr : List ℕ) → AcceptedTree t tr → (out d : List ℕ)
+    → Conforming (tableOf s) d → imageOf s t e d ≡ tr → bringBack s t e tr out ≡ bringWithin out d (leb (length d) (length out))
+brings-the-source = brought
+
+-- Whatever bring back writes is such a document.
+pub brings-only-sources : (s t e : List ℕ) → AcceptedEmbedding s t e → (tr : List ℕ) → AcceptedTree t tr → (out : List ℕ) (n f : ℕ)
+    → bringBack s t e tr out .result ≡ accepted n f
+    → (d : List ℕ) × Conforming (tableOf s) d × (imageOf s t e d ≡ tr) × (bringBack s t e tr out ≡ bringWithin out d (leb (length d) (length out)))
+brings-only-sources = brought-only
+
+-- ---- 8. reading yields conforming documents
+
+-- What reading a conforming target document yields, where it yields something, conforms to the source table.
+pub reading-conforms : (s t e : List ℕ) → AcceptedEmbedding s t e → (j k : Content) → Holds (tableOf t) (kindOf (tableOf t) 0) j
+    → readBack (settingOf s t e) j ≡ some k → Holds (tableOf s) (kindOf (tableOf s) 0) k
+reading-conforms s t e a = read-conforms (settingOf s t e) (judges-valid s t e (judges-accept s t e (a .1)))
+
+-- ---- 9. measures
+
+-- The levels, the length and the number of filler elements that are found without building the image are those of the
+-- built image; `marked` builds it with a mark at each element that no path builds, and `unmarked` forgets the marks.
+pub record MeasuresAgree (X : Setting) (k : Content) : Type 0 where
+  pub levels-agree : imageLevels X k ≡ suc (levels (image X k))
+  pub length-agrees : imageLength X k ≡ length (document 0 (image X k))
+  pub filler-agrees : imageFiller X k ≡ countFiller (imageBy marked X k)
+  pub marks-the-image : unmarked (imageBy marked X k) ≡ image X k
+
+pub measures-agree : (X : Setting) (k : Content) → MeasuresAgree X k
+measures-agree X k =
+    record { levels-agree = image-levels X k; length-agrees = image-length X k; filler-agrees = sym (marked-filler X k); marks-the-image = marked-is-image X k }
+
+-- ---- 10. demand 3
+
+-- Images conform, and are equal exactly when the documents are. For an image of at most 128 levels and 60,000 bytes, and
+-- whatever the outputs held before: carry writes it at the start, leaves later bytes, and answers its length and its
+-- number of filler elements exactly when the output is long enough, else 14 with the output unchanged; bringing it
+-- back writes the source's bytes and answers their length exactly when that output is long enough. Where the image has
+-- more levels or more bytes, carry is refused.
+pub record DemandThree (s t e : List ℕ) : Type 0 where
+  pub conforming : (d : List ℕ) → Conforming (tableOf s) d → Conforming (tableOf t) (imageOf s t e d)
+  pub distinct : (d f : List ℕ) → Conforming (tableOf s) d → Conforming (tableOf s) f → (imageOf s t e d ≡ imageOf s t e f) ↔ (d ≡ f)
+  pub carry-writes : (d : List ℕ) → Conforming (tableOf s) d → levelsIn (imageOf s t e d) ≤ maxLevels → length (imageOf s t e d) ≤ maxLength
+      → (out : List ℕ) → length (imageOf s t e d) ≤ length out
+      → carry s t e d out ≡ record { result = accepted (length (imageOf s t e d)) (fillerOf s t e d); output = imageOf s t e d ++ drop (length (imageOf s t e d)) out }
+  pub carry-needs-room : (d : List ℕ) → Conforming (tableOf s) d → levelsIn (imageOf s t e d) ≤ maxLevels → length (imageOf s t e d) ≤ maxLength
+      → (out : List ℕ) → length out < length (imageOf s t e d)
+      → carry s t e d out ≡ record { result = refused output-too-short; output = out }
+  pub bring-back-returns : (d : List ℕ) → Conforming (tableOf s) d → levelsIn (imageOf s t e d) ≤ maxLevels → length (imageOf s t e d) ≤ maxLength
+      → (out : List ℕ) → length d ≤ length out
+      → bringBack s t e (imageOf s t e d) out ≡ record { result = accepted (length d) 0; output = d ++ drop (length d) out }
+  pub bring-back-needs-room : (d : List ℕ) → Conforming (tableOf s) d → levelsIn (imageOf s t e d) ≤ maxLevels → length (imageOf s t e d) ≤ maxLength
+      → (out : List ℕ) → length out < length d
+      → bringBack s t e (imageOf s t e d) out ≡ record { result = refused output-too-short; output = out }
+  pub beyond-limits : (d : List ℕ) → Conforming (tableOf s) d → (out : List ℕ)
+      → (maxLevels < levelsIn (imageOf s t e d)) ⊎ (maxLength < length (imageOf s t e d))
+      → (why : Refusal) × (carry s t e d out ≡ record { result = refused why; output = out })
+
+pub demand-three : (s t e : List ℕ) → AcceptedEmbedding s t e → DemandThree s t e
+demand-three s t e a =
+    record {
+      conforming = conform s t e a;
+      distinct = equal-exactly s t e a;
+      carry-writes = carried s t e a;
+      carry-needs-room = not-carried s t e a;
+      bring-back-returns = brought-back s t e a;
+      bring-back-needs-room = not-brought-back s t e a;
+      beyond-limits = carry-beyond s t e a;
+    }
+
+-- ---- 11. rules that are needed
+
+-- With 000's prefix rule alone, the last starred case gives two documents one image.
+pub choices-must-part-at-choices : PrefixRuleTooWeak
+choices-must-part-at-choices = prefix-rule-too-weak
+
+-- Filler that takes a choice's first member has no end on an accepted table.
+pub filler-goes-by-height : FirstMemberEndless
+filler-goes-by-height = first-member-endless

@@ -1,0 +1,25 @@
+-- What is proved of the definitions.
+pub mod Facts
+pub mod Tools
+pub mod Runs
+pub mod Bytes
+pub mod Conforms
+pub mod Documents
+pub mod Expected
+pub mod HeightLaws
+pub mod FillerLaws
+pub mod JudgedTables
+pub mod JudgedEmbeddings
+pub mod Placing
+pub mod ByElements
+pub mod ImageConforms
+pub mod ReadBack
+pub mod ReadConforms
+pub mod Measures
+pub mod NeverLonger
+pub mod BringingBack
+pub mod EntryLaws
+pub mod DemandThree
+pub mod Terms
+pub mod OnBytes
+pub mod RulesNeeded

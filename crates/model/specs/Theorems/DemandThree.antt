@@ -1,0 +1,84 @@
+-- Demand 3 of the entries' definitions, for one source document by what its root holds. `Statements` says it for bytes.
+use mathlib.Core.Path.{_≡_, refl, sym, ap, _∙_, subst}
+use mathlib.Core.Bool.{Bool, true, false}
+use mathlib.Core.List.{List, [], _∷_, _++_}
+use mathlib.Core.Logic.{_⊎_, inl, inr}
+use mathlib.Core.Option.{Option, none, some}
+use Prim.Native.Nat.{ℕ, zero, suc, _+_, _≤_, _<_}
+use native.Mathlib.Decide.{decLe}
+use native.Mathlib.Nat.{lt-of-not-le}
+use native.Mathlib.Omega.{arith}
+use lib.ListN.{length, drop}
+use borrow.Author.Tests.{le-leb, lt-leb}
+use Rattle.model.specs.Definitions.Table.{tableOf, kindOf}
+use Rattle.model.specs.Definitions.Content.{Content, document, levels}
+use Rattle.model.specs.Definitions.Conformance.{Holds}
+use Rattle.model.specs.Definitions.TreeChecks.{maxLevels}
+use Rattle.model.specs.Definitions.Image.{Setting, image, imageFiller}
+use Rattle.model.specs.Definitions.Refusals.{Judged, sound, has, Refusal, faulty, tree, output-too-short, image-too-deep, image-too-long, maxLength}
+use Rattle.model.specs.Definitions.Entries.{judgedTree, refused, accepted, Outcome, unlessFaulty, untouched, written, settingOf, carryContent, carry, bringWithin, bringContent, bringBack}
+use Rattle.model.specs.Theorems.Facts.{Valid}
+use Rattle.model.specs.Theorems.NeverLonger.{levels-never-more, document-never-longer}
+use Rattle.model.specs.Theorems.BringingBack.{Source, image-conforms, brought-image}
+use Rattle.model.specs.Theorems.EntryLaws.{Judges, judges-valid, document-accepted, carry-content, bring-content, written-start, content-carried, content-no-room, content-too-deep, content-too-long}
+
+module _ (s t e : List ℕ) (j : Judges s t e) (k : Content) (h : Holds (tableOf s) (kindOf (tableOf s) 0) k) where
+  abbrev X : Setting
+  X = settingOf s t e
+
+  abbrev carriedBytes : List ℕ
+  carriedBytes = document 0 (image X k)
+
+  valid : Valid X
+  valid = judges-valid s t e j
+
+  -- within the limits, image and source are both accepted: the source is never longer nor deeper
+  module _ (low : suc (levels (image X k)) ≤ maxLevels) (short : length carriedBytes ≤ maxLength) where
+    source-accepted : judgedTree (tableOf s) (document 0 k) ≡ sound
+    source-accepted =
+        let less : levels k ≤ levels (image X k) = levels-never-more X valid k h in
+        let shorter : length (document 0 k) ≤ length carriedBytes = document-never-longer X valid k h in
+        document-accepted (tableOf s) (valid .source-sound .well-formed) k h (omega arith) (omega arith)
+
+    image-accepted : judgedTree (tableOf t) carriedBytes ≡ sound
+    image-accepted = document-accepted (tableOf t) (valid .target-sound .well-formed) (image X k) (image-conforms X valid k h) short low
+
+    pub carries : (out : List ℕ) → length carriedBytes ≤ length out
+        → carry s t e (document 0 k) out ≡ record { result = accepted (length carriedBytes) (imageFiller X k); output = carriedBytes ++ drop (length carriedBytes) out }
+    carries out room = carry-content s t e out k j source-accepted ∙ content-carried X out k low short room
+
+    pub carries-not : (out : List ℕ) → length out < length carriedBytes → carry s t e (document 0 k) out ≡ record { result = refused output-too-short; output = out }
+    carries-not out less = carry-content s t e out k j source-accepted ∙ content-no-room X out k low short less
+
+    pub brings : (out : List ℕ) → length (document 0 k) ≤ length out
+        → bringBack s t e carriedBytes out ≡ record { result = accepted (length (document 0 k)) 0; output = document 0 k ++ drop (length (document 0 k)) out }
+    unfolding bringContent bringWithin written
+    brings out room =
+        bring-content s t e out (image X k) j image-accepted
+        ∙ rw (brought-image X valid k h, le-leb _ _ room, written-start out (document 0 k) room)
+
+    pub brings-not : (out : List ℕ) → length out < length (document 0 k) → bringBack s t e carriedBytes out ≡ record { result = refused output-too-short; output = out }
+    unfolding bringContent bringWithin untouched
+    brings-not out less = bring-content s t e out (image X k) j image-accepted ∙ rw (brought-image X valid k h, lt-leb _ _ less)
+
+  -- beyond the limits of levels or bytes, the image is refused
+  content-beyond : (out : List ℕ) → (maxLevels < suc (levels (image X k))) ⊎ (maxLength < length carriedBytes)
+      → (why : Refusal) × (carryContent out X k ≡ record { result = refused why; output = out })
+  content-beyond out (inl high) = (image-too-deep, content-too-deep X out k high)
+  content-beyond out (inr long) =
+      elim (decLe (suc (levels (image X k))) maxLevels)
+      [ yes low ↦ (image-too-long, content-too-long X out k low long) | no high ↦ (image-too-deep, content-too-deep X out k (lt-of-not-le high)) ]
+
+  -- a tree that is not accepted is refused for its fault
+  carry-faulty : (out : List ℕ) (f : _) → judgedTree (tableOf s) (document 0 k) ≡ has f → carry s t e (document 0 k) out ≡ record { result = refused (faulty tree f); output = out }
+  unfolding carry unlessFaulty untouched
+  carry-faulty out f g = rw (j .source-sound, j .target-sound, j .embedding-sound, g)
+
+  pub beyond-refused : (out : List ℕ) → (maxLevels < suc (levels (image X k))) ⊎ (maxLength < length carriedBytes)
+      → (why : Refusal) × (carry s t e (document 0 k) out ≡ record { result = refused why; output = out })
+  beyond-refused out far = go (judgedTree (tableOf s) (document 0 k)) refl (content-beyond out far)
+    where
+      go : (v : Judged) → judgedTree (tableOf s) (document 0 k) ≡ v → (why : Refusal) × (carryContent out X k ≡ record { result = refused why; output = out })
+          → (why : Refusal) × (carry s t e (document 0 k) out ≡ record { result = refused why; output = out })
+      go sound g (why, c) = (why, carry-content s t e out k j g ∙ c)
+      go (has f) g c = (faulty tree f, carry-faulty out f g)

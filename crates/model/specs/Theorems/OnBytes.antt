@@ -1,0 +1,185 @@
+-- What is proved of contents, said of documents as bytes, for `Statements`.
+use mathlib.Core.Path.{_≡_, refl, sym, ap, _∙_, subst}
+use mathlib.Core.List.{List, [], _∷_, _++_}
+use mathlib.Core.Logic.{_↔_, _⊎_, inl, inr}
+use mathlib.Core.Bool.{Bool, true, false}
+use mathlib.Core.Option.{Option, none, some}
+use Prim.Native.Nat.{ℕ, suc, _≤_, _<_}
+use native.Mathlib.Omega.{arith}
+use lib.ListN.{length, drop}
+use lib.Dec.{leb}
+use Rattle.model.specs.Definitions.Table.{Table, kindOf, tableOf}
+use Rattle.model.specs.Definitions.Content.{Content, document, contentOf, levels}
+use Rattle.model.specs.Definitions.Conformance.{Holds, Conforming}
+use Rattle.model.specs.Definitions.TreeChecks.{maxLevels}
+use Rattle.model.specs.Definitions.Image.{Setting, image}
+use Rattle.model.specs.Definitions.Inverse.{readBack, bringBackContent}
+use Rattle.model.specs.Definitions.Refusals.{sound, Refusal, output-too-short, no-image, source-table, tree, maxLength}
+use Rattle.model.specs.Definitions.Entries.{judgedTable, judgedTree, Result, Outcome, accepted, refused, untouched, written, unlessFaulty, judgeTree, settingOf, carry, bringWithin, bringContent, bringBack}
+use Rattle.model.specs.Theorems.Facts.{Valid}
+use Rattle.model.specs.Theorems.Tools.{some-none}
+use Rattle.model.specs.Theorems.Terms.{AcceptedEmbedding, AcceptedTree, imageOf, fillerOf, levelsIn}
+use Rattle.model.specs.Theorems.JudgedTables.{tree-checks, table-sound}
+use Rattle.model.specs.Theorems.Documents.{document-injective, content-of-document, accepted-content}
+use Rattle.model.specs.Theorems.NeverLonger.{levels-never-more, document-never-longer}
+use Rattle.model.specs.Theorems.BringingBack.{image-conforms, read-image, image-injective, brought-image, brought-source, nothing-exactly, read-conforms}
+use Rattle.model.specs.Theorems.EntryLaws.{Judges, judges-accept, judges-valid, accepted-refused, past-judge}
+use Rattle.model.specs.Theorems.DemandThree.{carries, carries-not, brings, brings-not, beyond-refused}
+
+-- a conforming document and what its root holds
+pub conforming-content : {S : Table} {d : List ℕ} → Conforming S d → (d ≡ document 0 (contentOf d)) × Holds S (kindOf S 0) (contentOf d)
+unfolding Conforming
+conforming-content {S} {d} c =
+    let k : Content = c .0 in
+    let is : contentOf d ≡ k = ap contentOf (c .1) ∙ content-of-document 0 k in
+    (c .1 ∙ ap (document 0) (sym is), subst (λ (j : Content). Holds S (kindOf S 0) j) (sym is) (c .2))
+
+content-conforming : {S : Table} (k : Content) → Holds S (kindOf S 0) k → Conforming S (document 0 k)
+unfolding Conforming
+content-conforming k h = (k, refl, h)
+
+-- the judges that an accepted tree went past
+tree-judged : (t d : List ℕ) → AcceptedTree t d → (judgedTable t ≡ sound) × (judgedTree (tableOf t) d ≡ sound)
+unfolding judgeTree
+tree-judged t d a =
+    let first = past-judge source-table (judgedTable t) _ (a .1) in
+    let second = past-judge tree (judgedTree (tableOf t) d) _ (first .1) in
+    (first .0, second .0)
+
+-- an accepted tree and what its root holds
+accepted-tree : (t d : List ℕ) → AcceptedTree t d → (d ≡ document 0 (contentOf d)) × Holds (tableOf t) (kindOf (tableOf t) 0) (contentOf d)
+accepted-tree t d a =
+    let checks = tree-checks (tableOf t) d (tree-judged t d a .1) in
+    accepted-content (tableOf t) (table-sound t (tree-judged t d a .0) .well-formed) d (checks .form) (checks .operands) (checks .expected)
+
+-- what bring back answers about a content
+none-answer : (out : List ℕ) (o : Option Content) → (bringContent out o .result ≡ refused no-image) ↔ (o ≡ none)
+unfolding bringContent bringWithin untouched written
+none-answer out none = (λ e. refl, λ e. refl)
+none-answer out (some k) = (λ e. absurd (go (leb (length (document 0 k)) (length out)) e), λ e. some-none refl e)
+  where
+    go : (b : Bool) → bringWithin out (document 0 k) b .result ≡ refused no-image → ⊥
+    go true e = let z : _≡_ {A = ℕ} 0 1 = cc in omega arith
+    go false e = let z : _≡_ {A = ℕ} 0 1 = cc in omega arith
+
+module _ (s t e : List ℕ) (a : AcceptedEmbedding s t e) where
+  abbrev X : Setting
+  X = settingOf s t e
+
+  judges : Judges s t e
+  judges = judges-accept s t e (a .1)
+
+  valid : Valid X
+  valid = judges-valid s t e judges
+
+  image-of-content : (k : Content) → imageOf s t e (document 0 k) ≡ document 0 (image X k)
+  image-of-content k = ap (λ (j : Content). document 0 (image X j)) (content-of-document 0 k)
+
+  pub conform : (d : List ℕ) → Conforming (tableOf s) d → Conforming (tableOf t) (imageOf s t e d)
+  conform d c = content-conforming (image X (contentOf d)) (image-conforms X valid (contentOf d) (conforming-content c .1))
+
+  pub equal-exactly : (d f : List ℕ) → Conforming (tableOf s) d → Conforming (tableOf s) f → (imageOf s t e d ≡ imageOf s t e f) ↔ (d ≡ f)
+  equal-exactly d f c b = (
+    λ same.
+        conforming-content c .0
+        ∙ ap (document 0) (image-injective X valid (contentOf d) (contentOf f) (conforming-content c .1) (conforming-content b .1) (document-injective 0 0 _ _ same .1))
+        ∙ sym (conforming-content b .0),
+    λ same. ap (imageOf s t e) same,
+  )
+
+  pub read-gives-back : (d : List ℕ) → Conforming (tableOf s) d → readBack X (contentOf (imageOf s t e d)) ≡ some (contentOf d)
+  read-gives-back d c = rw (content-of-document 0 (image X (contentOf d))) (read-image X valid (contentOf d) (conforming-content c .1))
+
+  pub shorter : (d : List ℕ) → Conforming (tableOf s) d → (length d ≤ length (imageOf s t e d)) × (levelsIn d ≤ levelsIn (imageOf s t e d))
+  shorter d c =
+      let held = conforming-content c .1 in
+      let bytes-fewer : length (document 0 (contentOf d)) ≤ length (imageOf s t e d) = document-never-longer X valid (contentOf d) held in
+      let levels-fewer : levels (contentOf d) ≤ levels (image X (contentOf d)) = levels-never-more X valid (contentOf d) held in (
+        subst (λ (b : List ℕ). length b ≤ length (imageOf s t e d)) (sym (conforming-content c .0)) bytes-fewer,
+        rw (content-of-document 0 (image X (contentOf d))) (omega arith),
+      )
+
+  -- ---- bring back
+
+  module _ (tr : List ℕ) (b : AcceptedTree t tr) where
+    bring-tree : (out : List ℕ) → bringBack s t e tr out ≡ bringContent out (bringBackContent X (contentOf tr))
+    unfolding bringBack unlessFaulty
+    bring-tree out = rw (judges .source-sound, judges .target-sound, judges .embedding-sound, tree-judged t tr b .1)
+
+    -- a document with this image has it as its content's image
+    same-content : (d : List ℕ) → imageOf s t e d ≡ tr → image X (contentOf d) ≡ contentOf tr
+    same-content d is = document-injective 0 0 (image X (contentOf d)) (contentOf tr) (is ∙ accepted-tree t tr b .0) .1
+
+    pub refused-15 : (out : List ℕ) → (bringBack s t e tr out .result ≡ refused no-image) ↔ ((d : List ℕ) → Conforming (tableOf s) d → imageOf s t e d ≡ tr → ⊥)
+    refused-15 out = (
+      λ h d c is.
+          nothing-exactly X valid (contentOf tr) .0 (none-answer out (bringBackContent X (contentOf tr)) .0 (sym (ap (λ (o : Outcome). o .result) (bring-tree out)) ∙ h))
+          (contentOf d) (conforming-content c .1) (same-content d is),
+      λ none-has.
+          ap (λ (o : Outcome). o .result) (bring-tree out)
+          ∙ none-answer out (bringBackContent X (contentOf tr)) .1
+          (nothing-exactly X valid (contentOf tr) .1 (λ k h is. none-has (document 0 k) (content-conforming k h) (image-of-content k ∙ ap (document 0) is ∙ sym (accepted-tree t tr b .0)))),
+    )
+
+    pub brought : (out d : List ℕ) → Conforming (tableOf s) d → imageOf s t e d ≡ tr → bringBack s t e tr out ≡ bringWithin out d (leb (length d) (length out))
+    unfolding bringContent
+    brought out d c is =
+        let found : bringBackContent X (contentOf tr) ≡ some (contentOf d) = subst (λ (j : Content). bringBackContent X j ≡ some (contentOf d)) (same-content d is) (brought-image X valid (contentOf d) (conforming-content c .1)) in
+        bring-tree out ∙ rw found (subst (λ (f : List ℕ). bringWithin out f (leb (length f) (length out)) ≡ bringWithin out d (leb (length d) (length out))) (conforming-content c .0) refl)
+
+    -- whatever bring back writes is a conforming document with this image
+    pub brought-only : (out : List ℕ) (n f : ℕ) → bringBack s t e tr out .result ≡ accepted n f
+        → (d : List ℕ) × Conforming (tableOf s) d × (imageOf s t e d ≡ tr) × (bringBack s t e tr out ≡ bringWithin out d (leb (length d) (length out)))
+    brought-only out n f h = go (bringBackContent X (contentOf tr)) refl (sym (ap (λ (o : Outcome). o .result) (bring-tree out)) ∙ h)
+      where
+        go : (o : Option Content) → bringBackContent X (contentOf tr) ≡ o → bringContent out (bringBackContent X (contentOf tr)) .result ≡ accepted n f
+            → (d : List ℕ) × Conforming (tableOf s) d × (imageOf s t e d ≡ tr) × (bringBack s t e tr out ≡ bringWithin out d (leb (length d) (length out)))
+        go none g r = accepted-refused r (none-answer out (bringBackContent X (contentOf tr)) .1 g)
+        go (some k) g r =
+            let found = brought-source X valid (contentOf tr) k g in
+            let c : Conforming (tableOf s) (document 0 k) = content-conforming k (found .0) in
+            let is : imageOf s t e (document 0 k) ≡ tr = image-of-content k ∙ ap (document 0) (found .1) ∙ sym (accepted-tree t tr b .0) in
+            (document 0 k, c, is, brought out (document 0 k) c is)
+
+  -- ---- carry
+
+  module _ (d : List ℕ) (c : Conforming (tableOf s) d) where
+    is-document : document 0 (contentOf d) ≡ d
+    is-document = sym (conforming-content c .0)
+
+    image-levels-in : levelsIn (imageOf s t e d) ≡ suc (levels (image X (contentOf d)))
+    image-levels-in = ap (λ (k : Content). suc (levels k)) (content-of-document 0 (image X (contentOf d)))
+
+    module _ (low : levelsIn (imageOf s t e d) ≤ maxLevels) (short : length (imageOf s t e d) ≤ maxLength) where
+      low-image : suc (levels (image X (contentOf d))) ≤ maxLevels
+      low-image = subst (λ (n : ℕ). n ≤ maxLevels) image-levels-in low
+
+      pub carried : (out : List ℕ) → length (imageOf s t e d) ≤ length out
+          → carry s t e d out ≡ record { result = accepted (length (imageOf s t e d)) (fillerOf s t e d); output = imageOf s t e d ++ drop (length (imageOf s t e d)) out }
+      carried out room =
+          subst (λ (b : List ℕ). carry s t e b out ≡ record { result = accepted (length (imageOf s t e d)) (fillerOf s t e d); output = imageOf s t e d ++ drop (length (imageOf s t e d)) out }) is-document
+          (carries s t e judges (contentOf d) (conforming-content c .1) low-image short out room)
+
+      pub not-carried : (out : List ℕ) → length out < length (imageOf s t e d) → carry s t e d out ≡ record { result = refused output-too-short; output = out }
+      not-carried out less =
+          subst (λ (b : List ℕ). carry s t e b out ≡ record { result = refused output-too-short; output = out }) is-document
+          (carries-not s t e judges (contentOf d) (conforming-content c .1) low-image short out less)
+
+      pub brought-back : (out : List ℕ) → length d ≤ length out → bringBack s t e (imageOf s t e d) out ≡ record { result = accepted (length d) 0; output = d ++ drop (length d) out }
+      brought-back out room =
+          subst (λ (b : List ℕ). bringBack s t e (imageOf s t e d) out ≡ record { result = accepted (length b) 0; output = b ++ drop (length b) out }) is-document
+          (brings s t e judges (contentOf d) (conforming-content c .1) low-image short out (subst (λ (b : List ℕ). length b ≤ length out) (sym is-document) room))
+
+      pub not-brought-back : (out : List ℕ) → length out < length d → bringBack s t e (imageOf s t e d) out ≡ record { result = refused output-too-short; output = out }
+      not-brought-back out less =
+          brings-not s t e judges (contentOf d) (conforming-content c .1) low-image short out (subst (λ (b : List ℕ). length out < length b) (sym is-document) less)
+
+    pub carry-beyond : (out : List ℕ) → (maxLevels < levelsIn (imageOf s t e d)) ⊎ (maxLength < length (imageOf s t e d))
+        → (why : Refusal) × (carry s t e d out ≡ record { result = refused why; output = out })
+    carry-beyond out far =
+        subst (λ (b : List ℕ). (why : Refusal) × (carry s t e b out ≡ record { result = refused why; output = out })) is-document
+        (beyond-refused s t e judges (contentOf d) (conforming-content c .1) out (as-content far))
+      where
+        as-content : (maxLevels < levelsIn (imageOf s t e d)) ⊎ (maxLength < length (imageOf s t e d)) → (maxLevels < suc (levels (image X (contentOf d)))) ⊎ (maxLength < length (imageOf s t e d))
+        as-content (inl high) = inl (subst (λ (n : ℕ). maxLevels < n) image-levels-in high)
+        as-content (inr long) = inr long

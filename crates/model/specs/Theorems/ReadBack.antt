@@ -1,0 +1,423 @@
+-- Reading an image gives back the source: following the paths in an image finds what was placed there, the path of a
+-- choice's member that was not taken is not there, and so every element is read as it was.
+use mathlib.Core.Path.{_≡_, refl, sym, ap, _∙_, subst}
+use mathlib.Core.Bool.{Bool, true, false, not}
+use mathlib.Core.List.{List, [], _∷_, List·Memᴰ, List·Memᴰ·head, List·Memᴰ·tail, List·Memᴰ·not-nil, List·Memᴰ·cases-cons}
+use mathlib.Core.Logic.{_⊎_, inl, inr}
+use mathlib.Core.Option.{Option, none, some}
+use Prim.Native.Nat.{ℕ, zero, suc, _+_, _≤_, _<_, max}
+use native.Mathlib.Nat.{add-zero, add-suc, suc-add}
+use native.Mathlib.Omega.{arith}
+use lib.ListN.{length}
+use lib.Dec.{eqb}
+use borrow.Author.Tests.{eqb-true, eqb-false, eq-eqb, ne-eqb}
+use Rattle.model.specs.Definitions.Basics.{entry, pick, andThen, some-of}
+use Rattle.model.specs.Definitions.Table.{Kind, text, empty, sequence, choice, list, Table, kindOf, membersOf, stepFrom, isChoice, isList}
+use Rattle.model.specs.Definitions.Content.{Content, end, char, elem, levels}
+use Rattle.model.specs.Definitions.Conformance.{Holds, no-character, one-character, nothing, no-member, one-member, chosen, no-item, one-item}
+use Rattle.model.specs.Definitions.Embedding.{targetOf, pathsOf, next, endOf, leaves, divide, Divided, parting, Parting, beginning, apart}
+use Rattle.model.specs.Definitions.EmbeddingChecks.{maxSteps, rightSteps, clash, clashing}
+use Rattle.model.specs.Definitions.Filler.{Builder, content, known}
+use Rattle.model.specs.Definitions.Image.{Setting, Placement, placed, under, beyond, isPlaced, growMembers, growKind, grow, place, Child, letter, element, children, imageOfElement, placements, lettersOf, alongPaths, alongChoice, pathOfMember, onlyPath, itemsOf, alongList}
+use Rattle.model.specs.Definitions.Inverse.{childAt, childOfType, enter, follow, readOne, readMembers, readIfThere, readChoice, readItems, readList, readKind, readTo}
+use Rattle.model.specs.Theorems.Facts.{WellFormed, SoundTable, Walks, arrived, onward, GoodPath, MemberPath, Along, along-none, along-both, All, all-none, all-more, Pairs, pairs-none, pairs-more, Compatible, ValidEdges, text-edge, no-edge, sequence-edges, choice-edges, list-edge, Valid, Starts, starts-none, starts-more, Leads, Fits, nothing-placed, right-here, below-sequence, below-choice, below-list}
+use Rattle.model.specs.Theorems.Tools.{entry-member, true-false, some-none, pick-true, pick-false, and-right}
+use Rattle.model.specs.Theorems.Placing.{next-is, entry-next, item-next, under-same, under-other, single-fits, placements-fit, GoodParts, divide-good, AtList, divide-at-list, walks-step, walks-rest, member-walks}
+use Rattle.model.specs.Theorems.ByElements.{Each, each-end, each-char, each-elem, by-elements}
+use Rattle.model.specs.Theorems.ImageConforms.{letters-back}
+
+-- ---- one step into what was grown
+
+one-plus : (j : ℕ) → 1 + j ≡ suc j
+one-plus j = omega arith
+
+-- member number p of a sequence
+child-of-members : (inside : ℕ → List (Placement Content) → Content) (ps : List (Placement Content)) (i p : ℕ) (ms : List ℕ) (m : ℕ)
+    → entry (suc p) ms ≡ some m → childAt (growMembers content inside ps i ms) (suc p) ≡ some (inside m (under (i + p) ps))
+unfolding growMembers content entry childAt
+child-of-members inside ps i zero [] m e = some-none e refl
+child-of-members inside ps i (suc p) [] m e = some-none e refl
+child-of-members inside ps i zero (n ∷ ms) m e = let same : n ≡ m = cc in rw (add-zero i, same)
+child-of-members inside ps i (suc p) (n ∷ ms) m e = rw (add-suc i p, ← suc-add i p) (child-of-members inside ps (suc i) p ms m e)
+
+-- a placement's first step, and what is under it
+first-step : {A : Type 0} {ok : ℕ → Type 0} {ps : List (Placement A)} {path : List ℕ} {a : A} → Starts ok ps → List·Memᴰ (placed path a) ps
+    → (q : ℕ) × (rest : List ℕ) × (path ≡ q ∷ rest) × ok q
+first-step starts-none h = absurd (List·Memᴰ·not-nil h)
+first-step {A} {ok} {path = path} {a = a} (starts-more {q = q} {path = other} {a = b} f st) h = go (List·Memᴰ·cases-cons h) (first-step st)
+  where
+    go : {ps : List (Placement A)} → (placed path a ≡ placed (q ∷ other) b) ⊎ List·Memᴰ (placed path a) ps
+        → (List·Memᴰ (placed path a) ps → (q : ℕ) × (rest : List ℕ) × (path ≡ q ∷ rest) × ok q) → (q : ℕ) × (rest : List ℕ) × (path ≡ q ∷ rest) × ok q
+    go (inl e) rec = (q, other, (let same : path ≡ q ∷ other = cc in same), f)
+    go (inr there) rec = rec there
+
+under-member : {A : Type 0} (q : ℕ) (path : List ℕ) (a : A) (ps : List (Placement A)) → List·Memᴰ (placed (q ∷ path) a) ps → List·Memᴰ (placed path a) (under q ps)
+unfolding under beyond
+under-member q path a [] h = absurd (List·Memᴰ·not-nil h)
+under-member {A} q path a (placed [] b ∷ ps) h = go (List·Memᴰ·cases-cons h) (under-member q path a ps)
+  where
+    go : (placed (q ∷ path) a ≡ placed [] b) ⊎ List·Memᴰ (placed (q ∷ path) a) ps
+        → (List·Memᴰ (placed (q ∷ path) a) ps → List·Memᴰ (placed path a) (under q ps)) → List·Memᴰ (placed path a) (under q ps)
+    go (inl e) rec = let z : _≡_ {A = ℕ} 0 1 = cc in absurd (omega arith)
+    go (inr there) rec = rec there
+under-member {A} q path a (placed (p ∷ other) b ∷ ps) h = go (eqb q p) refl (List·Memᴰ·cases-cons h) (under-member q path a ps)
+  where
+    go : (t : Bool) → eqb q p ≡ t → (placed (q ∷ path) a ≡ placed (p ∷ other) b) ⊎ List·Memᴰ (placed (q ∷ path) a) ps
+        → (List·Memᴰ (placed (q ∷ path) a) ps → List·Memᴰ (placed path a) (under q ps)) → List·Memᴰ (placed path a) (under q (placed (p ∷ other) b ∷ ps))
+    go true t (inl e) rec = rw (pick-true (eqb q p) (placed other b ∷ under q ps) (under q ps) t) (let same : placed path a ≡ placed other b = cc in List·Memᴰ·head same)
+    go true t (inr there) rec = rw (pick-true (eqb q p) (placed other b ∷ under q ps) (under q ps) t) (List·Memᴰ·tail (rec there))
+    go false t (inl e) rec = let same : q ≡ p = cc in absurd (eqb-false q p t same)
+    go false t (inr there) rec = rw (pick-false (eqb q p) (placed other b ∷ under q ps) (under q ps) t) (rec there)
+
+under-nil : {A : Type 0} (p : ℕ) → under {A = A} p [] ≡ []
+unfolding under
+under-nil p = refl
+
+under-one : {A : Type 0} (p : ℕ) (path : List ℕ) (a : A) → under p (placed (p ∷ path) a ∷ []) ≡ placed path a ∷ []
+under-one {A} p path a = under-same p path a [] ∙ ap (λ (ps : List (Placement A)). placed path a ∷ ps) (under-nil p)
+
+child-of-sequence : (inside : ℕ → List (Placement Content) → Content) (ps : List (Placement Content)) (q : ℕ) (ms : List ℕ) (m : ℕ)
+    → entry q ms ≡ some m → childAt (growMembers content inside ps 1 ms) q ≡ some (inside m (under q ps))
+unfolding entry
+child-of-sequence inside ps zero ms m e = some-none e refl
+child-of-sequence inside ps (suc p) ms m e = child-of-members inside ps 1 p ms m e ∙ ap (λ (i : ℕ). some (inside m (under i ps))) (one-plus p)
+
+-- the first element is found by its type
+child-of-its-type : (t : ℕ) (k r : Content) → childOfType (elem t k r) t ≡ some k
+unfolding childOfType
+child-of-its-type t k r = pick-true (eqb t t) (some k) none (eq-eqb t t refl)
+
+is-choice : (κ : Kind) → isChoice κ ≡ true → κ ≡ choice (membersOf κ)
+unfolding isChoice membersOf
+is-choice text e = true-false refl (sym e)
+is-choice empty e = true-false refl (sym e)
+is-choice (sequence ms) e = true-false refl (sym e)
+is-choice (choice ms) e = refl
+is-choice (list m) e = true-false refl (sym e)
+
+no-first-step : {X : Type 0} {q : ℕ} {rest : List ℕ} → [] ≡ q ∷ rest → X
+no-first-step e = let z : _≡_ {A = ℕ} 0 1 = cc in absurd (omega arith)
+
+-- paths are shorter than what bounds them
+no-fit : {A X : Type 0} {T : Table} {τ : ℕ} {ps : List (Placement A)} → Fits T zero τ ps → X
+no-fit h = elim h [ ]
+
+module _ (T : Table) (fs : List Content) where
+  -- entering by step q, one finds what was grown from what is placed under it, and that fits
+  abbrev Entered : ℕ → ℕ → List (Placement Content) → ℕ → Type 0
+  Entered n τ ps q =
+      (enter (kindOf T τ) q (next T τ q) (grow content T fs (suc n) τ ps) ≡ some (grow content T fs n (next T τ q) (under q ps)))
+      × Fits T n (next T τ q) (under q ps)
+
+  -- a step into a sequence
+  enter-sequence : (n τ q m : ℕ) (path : List ℕ) (a : Content) (ps : List (Placement Content)) (ms : List ℕ) (p : ℕ)
+      → kindOf T τ ≡ sequence ms → entry q ms ≡ some m → Fits T n m (under q (placed (p ∷ path) a ∷ ps)) → Entered n τ (placed (p ∷ path) a ∷ ps) q
+  unfolding enter grow growKind
+  enter-sequence n τ q m path a ps ms p e at fits =
+      let found : childAt (growMembers content (λ t qs. grow content T fs n t qs) (placed (p ∷ path) a ∷ ps) 1 ms) q ≡ some (grow content T fs n m (under q (placed (p ∷ path) a ∷ ps))) =
+      child-of-sequence (λ t qs. grow content T fs n t qs) (placed (p ∷ path) a ∷ ps) q ms m at in
+      rw (entry-next T τ q m e at, e) (found, fits)
+
+  -- a step into a choice, to the member that was taken
+  enter-choice : (n τ q : ℕ) (path : List ℕ) (a : Content) (ps : List (Placement Content)) (ms : List ℕ)
+      → kindOf T τ ≡ choice ms → Fits T n (next T τ q) (under q (placed (q ∷ path) a ∷ ps)) → Entered n τ (placed (q ∷ path) a ∷ ps) q
+  unfolding enter grow growKind content
+  enter-choice n τ q path a ps ms e fits = rw e (child-of-its-type (next T τ q) _ end, fits)
+
+  -- a step into a list
+  enter-list : (n τ m : ℕ) (path : List ℕ) (a : Content) (ps : List (Placement Content))
+      → kindOf T τ ≡ list m → Fits T n m (under 1 (placed (1 ∷ path) a ∷ ps)) → Entered n τ (placed (1 ∷ path) a ∷ ps) 1
+  unfolding enter grow growKind content childAt
+  enter-list n τ m path a ps e fits = rw (item-next T τ m e, e) (refl, fits)
+
+  enter-placed : {n τ q : ℕ} {path : List ℕ} {a : Content} {ps : List (Placement Content)} → Fits T (suc n) τ ps → List·Memᴰ (placed (q ∷ path) a) ps → Entered n τ ps q
+  unfolding stepFrom membersOf
+  enter-placed nothing-placed h = absurd (List·Memᴰ·not-nil h)
+  enter-placed {n} {τ} {q} {path} {a} (right-here {a = b}) h = go (List·Memᴰ·cases-cons h)
+    where
+      go : (placed (q ∷ path) a ≡ placed [] b) ⊎ List·Memᴰ (placed (q ∷ path) a) [] → Entered n τ (placed [] b ∷ []) q
+      go (inl e) = let z : _≡_ {A = ℕ} 0 1 = cc in absurd (omega arith)
+      go (inr there) = absurd (List·Memᴰ·not-nil there)
+  enter-placed {n} {τ} {q} {path} {a} (below-sequence {q = p} {path = other} {a = b} {ps = ps} ms e st sub) h =
+      let found = first-step st h in
+      let same : q ∷ path ≡ found .0 ∷ found .1 = found .2 in
+      let q-is : q ≡ found .0 = cc in
+      let at : entry q ms ≡ some (found .3 .0) = subst (λ (i : ℕ). entry i ms ≡ some (found .3 .0)) (sym q-is) (found .3 .1) in
+      enter-sequence n τ q (found .3 .0) other b ps ms p e at (sub q (found .3 .0) at)
+  enter-placed {n} {τ} {q} {path} {a} (below-choice {q = p} {path = other} {a = b} {ps = ps} ms e w st sub) h =
+      let found = first-step st h in
+      let same : q ∷ path ≡ found .0 ∷ found .1 = found .2 in
+      let r-is : found .0 ≡ p = found .3 in
+      let q-is : p ≡ q = cc in
+      subst (λ (i : ℕ). Entered n τ (placed (p ∷ other) b ∷ ps) i) q-is (enter-choice n τ p other b ps ms e sub)
+  enter-placed {n} {τ} {q} {path} {a} (below-list {path = other} {a = b} {ps = ps} m e st sub) h =
+      let found = first-step st h in
+      let same : q ∷ path ≡ found .0 ∷ found .1 = found .2 in
+      let r-is : found .0 ≡ 1 = found .3 in
+      let q-is : 1 ≡ q = cc in
+      subst (λ (i : ℕ). Entered n τ (placed (1 ∷ other) b ∷ ps) i) q-is (enter-list n τ m other b ps e sub)
+
+  -- ---- along a whole path
+
+  -- what stands right here is the whole
+  found-here : {n τ : ℕ} {a : Content} {ps : List (Placement Content)} → Fits T n τ ps → List·Memᴰ (placed [] a) ps → grow content T fs n τ ps ≡ a
+  unfolding grow
+  found-here nothing-placed h = absurd (List·Memᴰ·not-nil h)
+  found-here {a = a} (right-here {a = b}) h = go (List·Memᴰ·cases-cons h)
+    where
+      go : (placed [] a ≡ placed [] b) ⊎ List·Memᴰ (placed [] a) [] → b ≡ a
+      go (inl e) = cc
+      go (inr there) = absurd (List·Memᴰ·not-nil there)
+  found-here (below-sequence ms e st sub) h = no-first-step (first-step st h .2)
+  found-here (below-choice ms e w st sub) h = no-first-step (first-step st h .2)
+  found-here (below-list m e st sub) h = no-first-step (first-step st h .2)
+
+  -- following the path of a placement finds what was placed
+  pub follow-placed : (n τ : ℕ) (path : List ℕ) (a : Content) (ps : List (Placement Content)) → Fits T n τ ps → List·Memᴰ (placed path a) ps
+      → follow T τ path (grow content T fs n τ ps) ≡ some a
+  unfolding follow andThen
+  follow-placed n τ [] a ps fits h = ap some (found-here fits h)
+  follow-placed zero τ (q ∷ path) a ps fits h = no-fit fits
+  follow-placed (suc n) τ (q ∷ path) a ps fits h =
+      let entered : Entered n τ ps q = enter-placed fits h in
+      rw (entered .0) (follow-placed n (next T τ q) path a (under q ps) (entered .1) (under-member q path a ps h))
+
+  -- ---- the path of a member that was not taken
+
+  -- two steps of a choice lead to different types
+  other-member : WellFormed T → (τ p q : ℕ) (ms : List ℕ) → kindOf T τ ≡ choice ms → stepFrom (kindOf T τ) p ≡ some (next T τ p) → stepFrom (kindOf T τ) q ≡ some (next T τ q)
+      → eqb q p ≡ false → eqb (next T τ q) (next T τ p) ≡ false
+  unfolding stepFrom membersOf
+  other-member wf τ p q ms e wp wq d =
+      ne-eqb (next T τ q) (next T τ p)
+      (λ same.
+      let at-p : entry p ms ≡ some (next T τ p) = rw e at wp in
+      let at-q : entry q ms ≡ some (next T τ p) = rw same at (rw e at wq) in
+      eqb-false q p d (wf .choices-distinct τ ms e q p (next T τ p) at-q at-p))
+
+  -- what following finds, one step further on
+  follow-single : (n τ p : ℕ) (ps qs : List ℕ) (a : Content) → Walks T τ (p ∷ ps) → length (p ∷ ps) ≤ suc n
+      → follow T τ (p ∷ qs) (grow content T fs (suc (suc n)) τ (placed (p ∷ ps) a ∷ [])) ≡ follow T (next T τ p) qs (grow content T fs (suc n) (next T τ p) (placed ps a ∷ []))
+  unfolding follow andThen
+  follow-single n τ p ps qs a w h =
+      let entered : Entered (suc n) τ (placed (p ∷ ps) a ∷ []) p = enter-placed (single-fits T (suc n) a w h) (List·Memᴰ·head refl) in
+      let beyond-it : under p (placed (p ∷ ps) a ∷ []) ≡ placed ps a ∷ [] = under-one p ps a in
+      rw (entered .0, beyond-it) refl
+
+  -- where a first step finds nothing, the path isn't there
+  follow-none : (τ q : ℕ) (qs : List ℕ) (k : Content) → enter (kindOf T τ) q (next T τ q) k ≡ none → follow T τ (q ∷ qs) k ≡ none
+  unfolding follow andThen
+  follow-none τ q qs k e = rw e refl
+
+  -- the child of a choice is not of another member's type
+  enter-other : (n τ p q : ℕ) (ps : List ℕ) (a : Content) (ms : List ℕ) → kindOf T τ ≡ choice ms → eqb (next T τ q) (next T τ p) ≡ false
+      → enter (kindOf T τ) q (next T τ q) (grow content T fs (suc n) τ (placed (p ∷ ps) a ∷ [])) ≡ none
+  unfolding enter grow growKind content childOfType pick
+  enter-other n τ p q ps a ms e d = rw (e, d) refl
+
+  -- a path that parts at a choice from the only one placed isn't there
+  pub not-there : WellFormed T → (n τ : ℕ) (ps qs : List ℕ) (a : Content) (κ : Kind) → Walks T τ ps → Walks T τ qs → length ps ≤ n
+      → parting T τ qs ps ≡ apart κ → isChoice κ ≡ true → follow T τ qs (grow content T fs (suc n) τ (placed ps a ∷ [])) ≡ none
+  unfolding parting
+  not-there wf n τ ps [] a κ wp wq h e c = let z : _≡_ {A = ℕ} 0 1 = cc in absurd (omega arith)
+  not-there wf n τ [] (q ∷ qs) a κ wp wq h e c = let z : _≡_ {A = ℕ} 0 1 = cc in absurd (omega arith)
+  not-there wf zero τ (p ∷ ps) (q ∷ qs) a κ wp wq h e c = absurd (omega arith)
+  not-there wf (suc n) τ (p ∷ ps) (q ∷ qs) a κ wp wq h e c =
+      go (eqb q p) refl (λ w. not-there wf n (next T τ p) ps qs a κ (walks-rest wp) w (omega arith))
+    where
+      K : Content
+      K = grow content T fs (suc (suc n)) τ (placed (p ∷ ps) a ∷ [])
+
+      go : (b : Bool) → eqb q p ≡ b
+          → (Walks T (next T τ p) qs → parting T (next T τ p) qs ps ≡ apart κ → isChoice κ ≡ true
+          → follow T (next T τ p) qs (grow content T fs (suc n) (next T τ p) (placed ps a ∷ [])) ≡ none)
+          → follow T τ (q ∷ qs) K ≡ none
+      go true d rec =
+          let same : q ≡ p = eqb-true q p d in
+          let parts : parting T (next T τ q) qs ps ≡ apart κ = sym (pick-true (eqb q p) _ _ d) ∙ e in
+          subst (λ (i : ℕ). follow T τ (i ∷ qs) K ≡ none) (sym same)
+          (follow-single n τ p ps qs a wp h
+          ∙ rec (subst (λ (i : ℕ). Walks T (next T τ i) qs) same (walks-rest wq)) (subst (λ (i : ℕ). parting T (next T τ i) qs ps ≡ apart κ) same parts) c)
+      go false d rec =
+          let parts : apart (kindOf T τ) ≡ apart κ = sym (pick-false (eqb q p) (parting T (next T τ q) qs ps) (apart (kindOf T τ)) d) ∙ e in
+          let here : kindOf T τ ≡ κ = cc in
+          let choosing : isChoice (kindOf T τ) ≡ true = rw here c in
+          let ms : List ℕ = membersOf (kindOf T τ) in
+          let is : kindOf T τ ≡ choice ms = is-choice (kindOf T τ) choosing in
+          follow-none τ q qs K (enter-other (suc n) τ p q ps a ms is (other-member wf τ p q ms is (walks-step wp) (walks-step wq) d))
+
+-- ---- one source element
+
+-- an element read, before what was read after it
+read-one : (read : ℕ → Content → Option Content) (m : ℕ) (found rest : Option Content) (a k r : Content)
+    → found ≡ some a → read m a ≡ some k → rest ≡ some r → readOne read m found rest ≡ some (elem m k r)
+unfolding readOne andThen
+read-one read m found rest a k r e f g = rw (e, f, g) refl
+
+-- the path of a member is one of the paths
+path-in : {R : ℕ → List ℕ → Type 0} (t : ℕ) {ms : List ℕ} {pss : List (List ℕ)} → Along R ms pss → List·Memᴰ t ms → List·Memᴰ (pathOfMember t ms pss) pss
+unfolding pathOfMember
+path-in t along-none h = absurd (List·Memᴰ·not-nil h)
+path-in t (along-both {a = m} {b = ps} {xs = ms} {ys = pss} r al) h = go (eqb t m) refl (path-in t al) (List·Memᴰ·cases-cons h)
+  where
+    go : (b : Bool) → eqb t m ≡ b → (List·Memᴰ t ms → List·Memᴰ (pathOfMember t ms pss) pss) → (t ≡ m) ⊎ List·Memᴰ t ms
+        → List·Memᴰ (pathOfMember t (m ∷ ms) (ps ∷ pss)) (ps ∷ pss)
+    go true e rec c = List·Memᴰ·head (pick-true (eqb t m) ps (pathOfMember t ms pss) e)
+    go false e rec (inl same) = absurd (eqb-false t m e same)
+    go false e rec (inr there) = rw (pick-false (eqb t m) ps (pathOfMember t ms pss) e) (List·Memᴰ·tail (rec there))
+
+-- what holds of all entries holds of each
+pub all-member : {A : Type 0} {P : A → Type 0} {x : A} {xs : List A} → All P xs → List·Memᴰ x xs → P x
+all-member all-none h = absurd (List·Memᴰ·not-nil h)
+all-member {P = P} {x = x} (all-more {a = y} {xs = xs} p al) h = go (List·Memᴰ·cases-cons h) (all-member al)
+  where
+    go : (x ≡ y) ⊎ List·Memᴰ x xs → (List·Memᴰ x xs → P x) → P x
+    go (inl e) rec = subst P (sym e) p
+    go (inr there) rec = rec there
+
+-- two paths of a choice that don't clash part at a choice
+choice-apart : (T : Table) (τ : ℕ) (ms ps qs : List ℕ) → clash T (choice ms) τ ps qs ≡ false → (κ : Kind) × (parting T τ ps qs ≡ apart κ) × (isChoice κ ≡ true)
+unfolding clash clashing
+choice-apart T τ ms ps qs e = go (parting T τ ps qs) refl
+  where
+    go : (v : Parting) → parting T τ ps qs ≡ v → (κ : Kind) × (parting T τ ps qs ≡ apart κ) × (isChoice κ ≡ true)
+    go beginning f = true-false refl (rw f at e)
+    go (apart κ) f = (κ, f, twice (isChoice κ) (rw f at e))
+      where
+        twice : (b : Bool) → not b ≡ false → b ≡ true
+        twice true g = refl
+        twice false g = true-false refl g
+
+module _ (X : Setting) (fs : List Content) (read : ℕ → Content → Option Content) where
+  -- an element is read from its image as it was
+  abbrev Reads : ℕ → Content → Type 0
+  Reads t k = read t (imageOfElement content X fs t (children content X fs k)) ≡ some k
+
+  members-back : {R : ℕ → List ℕ → Type 0} (at : List ℕ → Option Content) {ms : List ℕ} {pss : List (List ℕ)} {k : Content} → Along R ms pss
+      → Holds (X .source) (sequence ms) k → Each Reads k
+      → ((path : List ℕ) (a : Content) → List·Memᴰ (placed path a) (alongPaths pss (children content X fs k)) → at path ≡ some a)
+      → readMembers read at ms pss ≡ some k
+  unfolding readMembers alongPaths children
+  members-back at along-none no-member ea f = refl
+  members-back at (along-both {b = ps} {xs = ms} {ys = pss} r al) (one-member {m = m} {k = k} {r = rest} hk hr) (each-elem p ea) f =
+      read-one read m (at ps) (readMembers read at ms pss) (imageOfElement content X fs m (children content X fs k)) k rest
+      (f ps _ (List·Memᴰ·head refl)) p (members-back at al hr ea (λ path a there. f path a (List·Memᴰ·tail there)))
+
+  items-back : (inside : List (Placement Content) → Content) (d : Divided) (beyond-it : Content → Option Content) (m : ℕ) {k : Content}
+      → ((a : Content) → beyond-it (inside (placed (d .rest) a ∷ [])) ≡ some a) → Holds (X .source) (list m) k → Each Reads k
+      → readItems read beyond-it m (itemsOf content inside d (children content X fs k)) ≡ some k
+  unfolding readItems itemsOf children content
+  items-back inside d beyond-it m f no-item ea = refl
+  items-back inside d beyond-it m f (one-item {k = k} {r = rest} hk hr) (each-elem p ea) =
+      read-one read m (beyond-it (inside (placed (d .rest) (imageOfElement content X fs m (children content X fs k)) ∷ []))) _ (imageOfElement content X fs m (children content X fs k)) k rest
+      (f _) p (items-back inside d beyond-it m f hr ea)
+
+  -- the member that was taken is read, since no path before its own is there
+  choice-back : (τ t : ℕ) (κ : Kind) (at : List ℕ → Option Content) (a k : Content) {ms : List ℕ} {pss : List (List ℕ)} → read t a ≡ some k
+      → Along (MemberPath X τ κ) ms pss → Pairs (Compatible X τ κ) pss → List·Memᴰ t ms → at (pathOfMember t ms pss) ≡ some a
+      → ((qs : List ℕ) → Walks (X .target) τ qs → Compatible X τ κ qs (pathOfMember t ms pss) → at qs ≡ none)
+      → readChoice read at ms pss ≡ some (elem t k end)
+  unfolding readChoice pathOfMember readIfThere
+  choice-back τ t κ at a k e along-none pr h found absent = absurd (List·Memᴰ·not-nil h)
+  choice-back τ t κ at a k e (along-both {a = m} {b = ps} {xs = ms} {ys = pss} g al) (pairs-more apart-from pr) h found absent =
+      go (eqb t m) refl (choice-back τ t κ at a k e al pr) (List·Memᴰ·cases-cons h)
+    where
+      go : (b : Bool) → eqb t m ≡ b
+          → (List·Memᴰ t ms → at (pathOfMember t ms pss) ≡ some a → ((qs : List ℕ) → Walks (X .target) τ qs → Compatible X τ κ qs (pathOfMember t ms pss) → at qs ≡ none)
+          → readChoice read at ms pss ≡ some (elem t k end))
+          → (t ≡ m) ⊎ List·Memᴰ t ms → readChoice read at (m ∷ ms) (ps ∷ pss) ≡ some (elem t k end)
+      go true d rec c =
+          let same : m ≡ t = sym (eqb-true t m d) in
+          let here : at ps ≡ some a = sym (ap at (pick-true (eqb t m) ps (pathOfMember t ms pss) d)) ∙ found in
+          rw (here, same) (read-one read t (some a) (some end) a k end refl e refl)
+      go false d rec (inl same) = absurd (eqb-false t m d same)
+      go false d rec (inr there) =
+          let later : pathOfMember t (m ∷ ms) (ps ∷ pss) ≡ pathOfMember t ms pss = pick-false (eqb t m) ps (pathOfMember t ms pss) d in
+          let compatible : Compatible X τ κ ps (pathOfMember t ms pss) = all-member apart-from (path-in t al there) in
+          let none-here : at ps ≡ none = absent ps (g .good .walks) (rw later compatible) in
+          rw none-here (rec there (rw later at found) (λ qs w f. absent qs w (rw later f)))
+
+-- ---- all elements
+
+module _ (X : Setting) (wf : WellFormed (X .target)) (fs : List Content) (read : ℕ → Content → Option Content) where
+  -- what is placed below an element's image is found there
+  placed-found : (τ : ℕ) {κ : Kind} {pss : List (List ℕ)} (ks : List (Child Content)) → ValidEdges X τ κ pss
+      → (path : List ℕ) (a : Content) → List·Memᴰ (placed path a) (placements content (X .target) fs κ τ pss ks)
+      → follow (X .target) τ path (place content (X .target) fs τ (placements content (X .target) fs κ τ pss ks)) ≡ some a
+  unfolding place
+  placed-found τ {κ} {pss} ks edges path a h =
+      follow-placed (X .target) fs (suc maxSteps) τ path a (placements content (X .target) fs κ τ pss ks) (placements-fit content X fs τ κ pss ks edges) h
+
+  -- what is placed alone at the end of a path is found there
+  one-found : (τ : ℕ) (path : List ℕ) (a : Content) → Walks (X .target) τ path → length path ≤ maxSteps
+      → follow (X .target) τ path (place content (X .target) fs τ (placed path a ∷ [])) ≡ some a
+  unfolding place
+  one-found τ path a w h = follow-placed (X .target) fs (suc maxSteps) τ path a (placed path a ∷ []) (single-fits (X .target) maxSteps a w h) (List·Memᴰ·head refl)
+
+  text-back : (τ : ℕ) (ps : List ℕ) {k : Content} → ValidEdges X τ text (ps ∷ []) → Holds (X .source) text k
+      → readKind read (X .target) text τ (ps ∷ []) (place content (X .target) fs τ (placements content (X .target) fs text τ (ps ∷ []) (children content X fs k))) ≡ some k
+  unfolding readKind placements onlyPath
+  text-back τ ps {k} edges h = placed-found τ (children content X fs k) edges ps _ (List·Memᴰ·head refl) ∙ ap some (letters-back X fs h)
+
+  sequence-back : (τ : ℕ) {ms : List ℕ} {pss : List (List ℕ)} {k : Content} → Along (MemberPath X τ (sequence ms)) ms pss → Pairs (Compatible X τ (sequence ms)) pss
+      → Holds (X .source) (sequence ms) k → Each (Reads X fs read) k
+      → readKind read (X .target) (sequence ms) τ pss (place content (X .target) fs τ (placements content (X .target) fs (sequence ms) τ pss (children content X fs k))) ≡ some k
+  unfolding readKind placements
+  sequence-back τ {ms} {pss} {k} al pr h ea = members-back X fs read _ al h ea (λ path a there. placed-found τ (children content X fs k) (sequence-edges al pr) path a there)
+
+  choice-read : (τ : ℕ) {ms : List ℕ} {pss : List (List ℕ)} {k : Content} → Along (MemberPath X τ (choice ms)) ms pss → Pairs (Compatible X τ (choice ms)) pss
+      → Holds (X .source) (choice ms) k → Each (Reads X fs read) k
+      → readKind read (X .target) (choice ms) τ pss (place content (X .target) fs τ (placements content (X .target) fs (choice ms) τ pss (children content X fs k))) ≡ some k
+  unfolding readKind placements alongChoice children place
+  choice-read τ {ms} {pss} al pr (chosen {m = m} {k = k} there hk) (each-elem p ea) =
+      let image : Content = imageOfElement content X fs m (children content X fs k) in
+      let walks : Walks (X .target) τ (pathOfMember m ms pss) × (length (pathOfMember m ms pss) ≤ maxSteps) = member-walks X τ m (choice ms) ms pss al in
+      choice-back X fs read τ m (choice ms) _ image k p al pr there
+      (follow-placed (X .target) fs (suc maxSteps) τ (pathOfMember m ms pss) image (placed (pathOfMember m ms pss) image ∷ []) (single-fits (X .target) maxSteps image (walks .0) (walks .1)) (List·Memᴰ·head refl))
+      (λ qs w f.
+      let apart-at : (κ : Kind) × (parting (X .target) τ qs (pathOfMember m ms pss) ≡ apart κ) × (isChoice κ ≡ true) = choice-apart (X .target) τ ms qs (pathOfMember m ms pss) f in
+      not-there (X .target) fs wf maxSteps τ (pathOfMember m ms pss) qs image (apart-at .0) (walks .0) w (walks .1) (apart-at .1) (apart-at .2))
+
+  list-read : (τ m : ℕ) (ps : List ℕ) {k : Content} → MemberPath X τ (list m) m ps → Holds (X .source) (list m) k → Each (Reads X fs read) k
+      → readKind read (X .target) (list m) τ (ps ∷ []) (place content (X .target) fs τ (placements content (X .target) fs (list m) τ (ps ∷ []) (children content X fs k))) ≡ some k
+  unfolding readKind readList placements onlyPath alongList andThen
+  list-read τ m ps {k} g h ea =
+      let d : Divided = divide (X .target) τ ps in
+      let parts : GoodParts (X .target) τ maxSteps d = divide-good (X .target) τ maxSteps ps (g .good .walks) (g .good .short) in
+      rw (placed-found τ (children content X fs k) (list-edge g) (d .before) _ (List·Memᴰ·head refl))
+      (items-back X fs read (place content (X .target) fs (d .item)) d (follow (X .target) (d .item) (d .rest)) m
+      (λ a. one-found (d .item) (d .rest) a (parts .rest-walks) (parts .rest-short)) h ea)
+
+  -- what a source element of a kind holds is read back, if what its elements hold is
+  kind-back : (τ : ℕ) {κ : Kind} {pss : List (List ℕ)} {k : Content} → ValidEdges X τ κ pss → Holds (X .source) κ k → Each (Reads X fs read) k
+      → readKind read (X .target) κ τ pss (place content (X .target) fs τ (placements content (X .target) fs κ τ pss (children content X fs k))) ≡ some k
+  unfolding readKind
+  kind-back τ (text-edge {ps = ps} g e) h ea = text-back τ ps (text-edge g e) h
+  kind-back τ no-edge nothing ea = refl
+  kind-back τ (sequence-edges al pr) h ea = sequence-back τ al pr h ea
+  kind-back τ (choice-edges al pr) h ea = choice-read τ al pr h ea
+  kind-back τ (list-edge {m = m} {ps = ps} g) h ea = list-read τ m ps g h ea
+
+-- what the elements of content hold is read with a bound that the content's levels don't reach
+each-read : (X : Setting) (fs : List Content) (n : ℕ) {k : Content}
+    → Each (λ (t : ℕ) (j : Content). (b : ℕ) → levels j < b → readTo X b t (imageOfElement content X fs t (children content X fs j)) ≡ some j) k
+    → levels k < suc n → Each (Reads X fs (λ t j. readTo X n t j)) k
+unfolding levels
+each-read X fs n each-end h = each-end
+each-read X fs n (each-char ea) h = each-char (each-read X fs n ea h)
+each-read X fs n (each-elem p ea) h = each-elem (p n (omega arith)) (each-read X fs n ea (omega arith))
+
+-- Reading the image of an element of a conforming source document gives back what the element holds.
+pub read-back : (X : Setting) → Valid X → (fs : List Content) (s : ℕ) (k : Content) → s < length (X .source) → Holds (X .source) (kindOf (X .source) s) k
+    → (n : ℕ) → levels k < n → readTo X n s (imageOfElement content X fs s (children content X fs k)) ≡ some k
+read-back X v fs =
+    by-elements (X .source) (v .source-sound .well-formed)
+    (λ s k. (n : ℕ) → levels k < n → readTo X n s (imageOfElement content X fs s (children content X fs k)) ≡ some k) step
+  where
+    step : (s : ℕ) (k : Content) → s < length (X .source) → Holds (X .source) (kindOf (X .source) s) k
+        → Each (λ (t : ℕ) (j : Content). (b : ℕ) → levels j < b → readTo X b t (imageOfElement content X fs t (children content X fs j)) ≡ some j) k
+        → (n : ℕ) → levels k < n → readTo X n s (imageOfElement content X fs s (children content X fs k)) ≡ some k
+    step s k exists holds ea zero h = absurd (omega arith)
+    step s k exists holds ea (suc n) h =
+        unfold readTo imageOfElement in
+        kind-back X (v .target-sound .well-formed) fs (λ t j. readTo X n t j) (targetOf (X .embedding) s) (v .edges s exists) holds (each-read X fs n ea h)
