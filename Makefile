@@ -1,0 +1,22 @@
+# make test: everything that is tested, and last the prover's own gate, whose last line is 'N passed, 0 failed'.
+# make run: prove what there is and carry the example patch.
+# make check-definitions: have the prover confirm cases on the definitions (by hand: minutes).
+
+CARGO = CARGO_TARGET_DIR=target/cargo cargo
+REFERENCE = --manifest-path tests/reference/Cargo.toml
+
+.PHONY: test run check-definitions reference
+
+test:
+	@tools/test
+
+run:
+	@tools/run
+
+reference:
+	@$(CARGO) build --quiet --release --offline $(REFERENCE)
+
+check-definitions: reference
+	@mkdir -p target
+	@target/cargo/release/reference generate 1 3000 small > target/generated.txt
+	@tools/check-definitions --all tests/data/cases-01.txt tests/data/base.txt target/generated.txt
