@@ -1,7 +1,8 @@
 -- 01 "Three kinds of document, as commands": a command is one byte, followed by no operand or by one operand byte.
 -- Operands are read blind: the byte after 14, 15, 20, 22, 30 or 31 is its operand whatever it is.
 -- The bytes of all three kinds of document are cut into commands by one function; each kind then names its own
--- commands. A byte that is no command of a kind, or one whose operand is missing, is `alien` to it.
+-- commands. A byte that is no command of a kind, or one whose operand is missing, is `alien` to it: every check stops
+-- there, and check 2, the first, leaves none to the others.
 use mathlib.Core.Bool.{Bool, true, false, _||_}
 use mathlib.Core.List.{List, [], _∷_, map}
 use Prim.Native.Nat.{ℕ}

@@ -52,7 +52,7 @@ stepCount n (mapsTo t) = goes 0
 stepCount n path = goes 0
 stepCount n (step p) = goesIf (ltb n maxSteps) (suc n)
 stepCount n embeddingEnd = goes n
-stepCount n alienE = goes n
+stepCount n alienE = stops
 
 -- the 13th step
 unfoldable pub embeddingLimits : List ℕ → Verdict
@@ -74,7 +74,7 @@ pathStep T r (mapsTo t) = goesIf (ltb t (length T)) (record { start = t; now = t
 pathStep T r path = goes (record { start = r .start; now = r .start })
 pathStep T r (step p) = reaches (r .start) (stepFrom (kindOf T (r .now)) p)
 pathStep T r embeddingEnd = goes r
-pathStep T r alienE = goes r
+pathStep T r alienE = stops
 
 -- no such target type, no such step
 unfoldable pub embeddingOperands : Table → List ℕ → Verdict

@@ -92,7 +92,7 @@ limitStep n choiceType = oneTypeMore n
 limitStep n (listType t) = oneTypeMore n
 limitStep n (member t) = goesIf (ltb (n .members) maxMembers) (record { types = n .types; members = suc (n .members) })
 limitStep n tableEnd = goes n
-limitStep n alien = goes n
+limitStep n alien = stops
 
 -- the 65th type, the 17th member
 unfoldable pub tableLimits : List ℕ → Verdict
@@ -108,7 +108,7 @@ namesType types u choiceType = goes u
 namesType types u (listType t) = goesIf (ltb t types) u
 namesType types u (member t) = goesIf (ltb t types) u
 namesType types u tableEnd = goes u
-namesType types u alien = goes u
+namesType types u alien = stops
 
 -- a member or item of no such type, in a table of so many types
 unfoldable pub tableOperands : ℕ → List ℕ → Verdict
@@ -133,7 +133,7 @@ repeatStep s choiceType = goes (among [])
 repeatStep s (listType t) = goes elsewhere
 repeatStep s (member t) = chooses s t
 repeatStep s tableEnd = goes s
-repeatStep s alien = goes s
+repeatStep s alien = stops
 
 unfoldable pub tableRepeats : List ℕ → Verdict
 tableRepeats bs = run tableWidth repeatStep (λ s. true) elsewhere 0 (tableCommands bs)

@@ -64,7 +64,7 @@ levelStep n (opens t) = goesIf (ltb n maxLevels) (suc n)
 levelStep n (character c) = goes n
 levelStep n closes = goes (pred n)
 levelStep n treeEnd = goes n
-levelStep n alienT = goes n
+levelStep n alienT = stops
 
 -- the 129th level
 unfoldable pub treeLevels : List ℕ → Verdict
@@ -77,7 +77,7 @@ operandStep types u (opens t) = goesIf (ltb t types) u
 operandStep types u (character c) = goesIf (allowed c) u
 operandStep types u closes = goes u
 operandStep types u treeEnd = goes u
-operandStep types u alienT = goes u
+operandStep types u alienT = stops
 
 -- an element of no such type, in a table of so many types; a character that is not allowed
 unfoldable pub treeOperands : ℕ → List ℕ → Verdict
@@ -93,12 +93,12 @@ expectStep S [] (opens t) = goes []
 expectStep S [] (character c) = goes []
 expectStep S [] closes = goes []
 expectStep S [] treeEnd = goes []
-expectStep S [] alienT = goes []
+expectStep S [] alienT = stops
 expectStep S (κ ∷ around) (opens t) = goesIf (admits κ t) (kindOf S t ∷ after κ ∷ around)
 expectStep S (κ ∷ around) (character c) = goesIf (isText κ) (κ ∷ around)
 expectStep S (κ ∷ around) closes = goesIf (complete κ) around
 expectStep S (κ ∷ around) treeEnd = goes around
-expectStep S (κ ∷ around) alienT = goes around
+expectStep S (κ ∷ around) alienT = stops
 
 unfoldable pub treeExpected : Table → List ℕ → Verdict
 treeExpected S bs = run treeWidth (expectStep S) (λ s. true) (sequence (0 ∷ []) ∷ []) 0 (treeCommands bs)
