@@ -6,6 +6,7 @@ pub mod Bytes
 pub mod Conforms
 pub mod Documents
 pub mod Expected
+pub mod Reading
 pub mod HeightLaws
 pub mod FillerLaws
 pub mod JudgedTables

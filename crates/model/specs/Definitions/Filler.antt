@@ -64,3 +64,7 @@ fillTo B hs T (suc n) = map (fillKind B hs (fillTo B hs T n)) T
 -- what filler of each type holds: heights are at most the number of types
 unfoldable pub fillers : {A : Type 0} → Builder A → Table → List A
 fillers B T = fillTo B (heights T) T (length T)
+
+-- bytes of a filler element of a type
+unfoldable pub fillerLength : Table → ℕ → ℕ
+fillerLength T t = 3 + known lengthOf (fillers lengthOf T) t
