@@ -13,7 +13,7 @@ use lib.ListN.{length, drop}
 use lib.Dec.{leb}
 use Rattle.model.specs.Definitions.Basics.{passes, fails}
 use Rattle.model.specs.Definitions.Table.{Kind, Table, kindOf, tableOf}
-use Rattle.model.specs.Definitions.Heights.{heights, heightIn, heightOf, hasInstance}
+use Rattle.model.specs.Definitions.Heights.{heights, heightIn, heightOf, hasInstance, endlessType}
 use Rattle.model.specs.Definitions.TableChecks.{tableForm, tableOperands, tableRepeats}
 use Rattle.model.specs.Definitions.Content.{Content, document, contentOf, levels}
 use Rattle.model.specs.Definitions.Conformance.{Holds, Conforming, Instance, conforms}
@@ -25,7 +25,7 @@ use Rattle.model.specs.Definitions.Refusals.{Refusal, output-too-short, 
 use Rattle.model.specs.Definitions.Entries.{accepted, refused, settingOf, carry, bringWithin, bringBack}
 use Rattle.model.specs.Theorems.Terms.{AcceptedTable, AcceptedEmbedding, AcceptedTree, imageOf, fillerOf, levelsIn}
 use Rattle.model.specs.Theorems.FillerLaws.{filler-conforms, filler-levels, has-instance, instance-of}
-use Rattle.model.specs.Theorems.HeightLaws.{Solves, heights-solve, heights-least, instance-finite}
+use Rattle.model.specs.Theorems.HeightLaws.{Solves, heights-solve, heights-least, instance-finite, LowestEndless, endless-lowest}
 use Rattle.model.specs.Theorems.JudgedTables.{table-sound, table-well-formed}
 use Rattle.model.specs.Theorems.Conforms.{holds-conforms, conforms-holds}
 use Rattle.model.specs.Theorems.Documents.{document-injective, checks-conforming, conforming-checks}
@@ -70,6 +70,10 @@ pub instance-exactly : (t : List ℕ) → tableForm t ≡ passes → tableOperan
     → (τ : ℕ) → τ < length (tableOf t) → (hasInstance (tableOf t) τ ≡ true) ↔ Instance (tableOf t) τ
 instance-exactly t form operands repeats τ exists =
     (has-instance (tableOf t) (table-well-formed t form operands repeats) τ exists, instance-finite (tableOf t) τ)
+
+-- So its mark is the lowest type of which no conforming element exists.
+pub mark-of-endless : (t : List ℕ) (τ : ℕ) → endlessType (tableOf t) ≡ fails τ → LowestEndless (tableOf t) τ
+mark-of-endless t τ = endless-lowest (tableOf t) τ
 
 -- Heights satisfy 01's equations, and no other solution has a smaller number anywhere.
 pub heights-are-least : (t : List ℕ) → AcceptedTable t

@@ -117,7 +117,7 @@ judgeTree table tr =
 unfoldable pub untouched : List ℕ → Refusal → Outcome
 untouched out why = record { result = refused why; output = out }
 
--- a document at the start of the output, every later byte as it was; 14 where the output is shorter than the document
+-- a document at the start of the output, every later byte as it was
 unfoldable pub written : List ℕ → List ℕ → ℕ → Outcome
 written out doc filler = record { result = accepted (length doc) filler; output = sets out 0 doc }
 

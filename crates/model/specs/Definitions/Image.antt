@@ -7,7 +7,7 @@ use lib.ListN.{length}
 use lib.Dec.{eqb}
 use Rattle.model.specs.Definitions.Basics.{pick}
 use Rattle.model.specs.Definitions.Table.{Kind, text, empty, sequence, choice, list, Table, kindOf}
-use Rattle.model.specs.Definitions.Content.{Content, end, char, elem, document}
+use Rattle.model.specs.Definitions.Content.{Content, end, char, elem}
 use Rattle.model.specs.Definitions.Embedding.{Embedding, targetOf, pathsOf, next, divide, Divided}
 use Rattle.model.specs.Definitions.EmbeddingChecks.{maxSteps}
 use Rattle.model.specs.Definitions.Filler.{Builder, content, levelsOf, lengthOf, fillersOf, known, fillers}
@@ -157,9 +157,3 @@ imageLength X k = imageBy lengthOf X k + 4
 -- filler elements of the image: those that no path builds; the root isn't filler
 unfoldable pub imageFiller : Setting → Content → ℕ
 imageFiller X k = imageBy fillersOf X k
-
--- ---- images by what exists
-
--- a byte string is the image of a conforming source document
-unfoldable pub IsImage : Setting → List ℕ → Content → Type 0
-IsImage X bs k = Prim.Path (List ℕ) bs (document 0 (image X k))

@@ -107,10 +107,6 @@ pub bring-content : (s t e out : List ℕ) (k : Content) → Judges s t e → ju
 unfolding bringBack unlessFaulty
 bring-content s t e out k j tr = rw (j .source-sound, j .target-sound, j .embedding-sound, tr, content-of-document 0 k)
 
--- refused for some reason, and the output is as it was
-pub Refusing : Outcome → List ℕ → Type 0
-Refusing o out = (why : Refusal) × (o ≡ record { result = refused why; output = out })
-
 module _ (X : Setting) (out : List ℕ) (k : Content) where
   abbrev imageBytes : List ℕ
   imageBytes = document 0 (image X k)

@@ -235,19 +235,3 @@ unexpected-command S sound instances bs at f o e =
     let found : (offset : ℕ) × (at ≡ 0 + offset) × Refused treeWidth (expectStep S) expectedRoot offset (treeCommands bs)
     = run-fails treeWidth (expectStep S) expectedRoot 0 at (treeCommands bs) e in
     rw (found .1, zero-add) (refused-unexpected S (sound .well-formed) instances bs (found .0) f o (found .2))
-
-width-positive : (c : TreeCommand) → 1 ≤ treeWidth c
-unfolding treeWidth
-width-positive (opens t) = omega arith
-width-positive (character c) = omega arith
-width-positive closes = omega arith
-width-positive treeEnd = omega arith
-width-positive alienT = omega arith
-
--- the same with a width only
-pub unexpected-first : (S : Table) → SoundTable S → ((t : ℕ) → t < length S → Instance S t) → (bs : List ℕ) (at : ℕ)
-    → treeForm bs ≡ passes → treeOperands (length S) bs ≡ passes → treeExpected S bs ≡ fails at
-    → (width : ℕ) × (1 ≤ width) × FirstUnexpected S bs at width
-unexpected-first S sound instances bs at f o e =
-    let u : UnexpectedCommand S bs at = unexpected-command S sound instances bs at f o e in
-    (treeWidth (u .command), width-positive (u .command), u .first)

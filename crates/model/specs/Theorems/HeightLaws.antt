@@ -11,12 +11,13 @@ use lib.ListN.{length, getD, length-map, List·getD-eq-default}
 use lib.Seq.{ext-getD}
 use lib.Dec.{leb, eqb}
 use borrow.Author.Tests.{leb-true, leb-false, le-leb, eqb-true, eqb-false}
-use Rattle.model.specs.Definitions.Basics.{pick}
+use Rattle.model.specs.Definitions.Basics.{pick, passes, fails}
 use Rattle.model.specs.Definitions.Table.{Kind, text, empty, sequence, choice, list, Table, kindOf}
-use Rattle.model.specs.Definitions.Heights.{heightIn, highest, lowest, heightOfKind, heightsTo, heights, heightOf, hasInstance, leastMember}
+use Rattle.model.specs.Definitions.Heights.{heightIn, highest, lowest, heightOfKind, heightsTo, heights, heightOf, hasInstance, firstEndless, endlessType, leastMember}
 use Rattle.model.specs.Definitions.Content.{Content, levels}
 use Rattle.model.specs.Definitions.Conformance.{Holds, no-character, one-character, nothing, no-member, one-member, chosen, no-item, one-item, Instance}
 use Rattle.model.specs.Theorems.Facts.{SoundTable}
+use Rattle.model.specs.Theorems.Tools.{pick-true, pick-false}
 
 -- ---- rounds
 
@@ -338,3 +339,46 @@ instance-finite T t has = le-leb (heightIn (heightsTo T (suc (length T))) t) (le
 
     finite : heightIn (heightsTo T (suc (length T))) t ≤ length T
     finite = omega (arith, rises, low-finite T late t (heightIn (heightsTo T (suc late)) t) refl (omega (arith, bounded (suc late))))
+
+-- ---- the mark of check 6
+
+-- a type without a finite instance, and none below it
+pub record LowestEndless (T : Table) (t : ℕ) : Type 0 where
+  pub exists : t < length T
+  pub endless : hasInstance T t ≡ false
+  pub lower-finite : (u : ℕ) → u < t → hasInstance T u ≡ true
+
+-- a search from type `from` on fails at the first height that is too large
+first-endless : (types from : ℕ) (hs : List ℕ) (t : ℕ) → firstEndless types from hs ≡ fails t
+    → (i : ℕ) × (t ≡ from + i) × (i < length hs) × (leb (getD hs i 0) types ≡ false) × ((j : ℕ) → j < i → leb (getD hs j 0) types ≡ true)
+unfolding firstEndless
+first-endless types from [] t e = let z : _≡_ {A = ℕ} 0 1 = cc in absurd (omega arith)
+first-endless types from (h ∷ hs) t e = go (leb h types) refl (first-endless types (suc from) hs t)
+  where
+    go : (b : Bool) → leb h types ≡ b
+        → (firstEndless types (suc from) hs ≡ fails t
+        → (i : ℕ) × (t ≡ suc from + i) × (i < length hs) × (leb (getD hs i 0) types ≡ false) × ((j : ℕ) → j < i → leb (getD hs j 0) types ≡ true))
+        → (i : ℕ) × (t ≡ from + i) × (i < length (h ∷ hs)) × (leb (getD (h ∷ hs) i 0) types ≡ false) × ((j : ℕ) → j < i → leb (getD (h ∷ hs) j 0) types ≡ true)
+    go true q later =
+        let found = later (sym (pick-true (leb h types) _ (fails from) q) ∙ e) in
+        (suc (found .0), found .1 ∙ suc-add from (found .0) ∙ sym (add-suc from (found .0)), omega (arith, found .2), found .3, lower found)
+      where
+        lower : (found : (i : ℕ) × (t ≡ suc from + i) × (i < length hs) × (leb (getD hs i 0) types ≡ false) × ((j : ℕ) → j < i → leb (getD hs j 0) types ≡ true))
+            → (j : ℕ) → j < suc (found .0) → leb (getD (h ∷ hs) j 0) types ≡ true
+        lower found zero less = q
+        lower found (suc j) less = found .4 j (omega arith)
+    go false q later =
+        let here : fails from ≡ fails t = sym (pick-false (leb h types) (firstEndless types (suc from) hs) (fails from) q) ∙ e in
+        let at : t ≡ from = cc in
+        (0, omega arith, omega arith, q, λ j less. absurd (omega arith))
+
+pub endless-lowest : (T : Table) (t : ℕ) → endlessType T ≡ fails t → LowestEndless T t
+unfolding endlessType hasInstance heightOf heightIn
+endless-lowest T t e =
+    let found = first-endless (length T) 0 (heights T) t e in
+    let at : found .0 ≡ t = sym (found .1 ∙ zero-add (found .0)) in
+    record {
+      exists = omega (arith, found .2, heights-length T, at);
+      endless = rw at at (found .3);
+      lower-finite = λ u less. found .4 u (omega (arith, at));
+    }
