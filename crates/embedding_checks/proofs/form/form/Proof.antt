@@ -1,0 +1,99 @@
+-- `form` meets its contract. The loop's invariant: the verdict of what is left, from the state reached, is the verdict of the whole.
+use mathlib.Core.Path.{refl, sym, ap, _∙_}
+use Prim.Native.Nat.{_-_}
+use native.Mathlib.Omega.{arith}
+use borrow.Author.Needs.{needs}
+use lib.ListN.{length}
+use Rattle.dtd.specs.Loaded.{tableIn}
+use Rattle.model.specs.Definitions.Basics.{pick}
+use Rattle.model.specs.Definitions.EmbeddingChecks.{embeddingStep, embeddingComplete, embeddingForm}
+use Rattle.embedding_checks.specs.States.{formState, formNext}
+use Rattle.embedding_checks.proofs.Turns.{Runs, turn, refusal, finish, less}
+use Rattle.embedding_checks.proofs.Machines.{form-stops}
+use Rattle.embedding_checks.proofs.form.form.Statement.{statement}
+use Rattle.embedding_checks.proofs.form.form.Tie as tie
+
+abbrev Inv-loop : tie.InvT-loop
+Inv-loop types kinds counts members e at₀ state₀ at state =
+    Runs embeddingStep embeddingComplete (embeddingForm (tableIn types kinds counts members) e) e (formState (tableIn types kinds counts members) state) at
+
+abbrev μ-loop : tie.MeasureT-loop
+μ-loop types kinds counts members e at₀ state₀ at state = length e - at
+
+loop-holds : tie.Need-loop-holds Inv-loop μ-loop
+unfolding embeddingForm
+loop-holds c = record { within = omega arith; same = refl }
+
+command-at-requires : tie.Need-command-at-requires Inv-loop μ-loop
+command-at-requires c κs = search needs
+
+form-step-requires : tie.Need-form-step-requires Inv-loop μ-loop
+form-step-requires c κs = c .before .before .before .before .pre
+
+enum-known-next : tie.Need-enum-known-next Inv-loop μ-loop
+enum-known-next c = search needs
+
+width-requires : tie.Need-width-requires Inv-loop μ-loop
+width-requires c κs = search needs
+
+loop-again : tie.Need-loop-again Inv-loop μ-loop
+loop-again c =
+    let turned = c .before .before .before .before .before .before in
+    turn embeddingStep embeddingComplete form-stops (turned .before .loop .inv) (turned .loop-test .taken) (c .before .before .before .before .before .command-at .ensures) _ (c .width .ensures)
+    (sym (c .before .before .before .before .form-step .ensures) ∙ ap (formNext _) (c .before .before .next .given .1))
+
+add-at : tie.Need-add-at Inv-loop μ-loop
+add-at c = let within = loop-again c .within in omega arith
+
+loop-less : tie.Need-loop-less Inv-loop μ-loop
+loop-less c =
+    let turned = c .before .before .before .before .before .before in
+    less embeddingStep embeddingComplete form-stops (turned .before .loop .inv) (turned .loop-test .taken) (c .before .before .before .before .before .command-at .ensures) (c .width .ensures)
+
+enum-told : tie.Need-enum-told Inv-loop μ-loop
+enum-told c = search needs
+
+returns : tie.Need-returns Inv-loop μ-loop
+returns c =
+    let turned = c .before .before .before .before in
+    refusal embeddingStep embeddingComplete form-stops (turned .before .loop .inv) (turned .loop-test .taken) (c .before .before .before .command-at .ensures)
+    (sym (c .before .before .form-step .ensures) ∙ ap (formNext _) (c .enum-told .given .1))
+
+enum-told-2 : tie.Need-enum-told-2 Inv-loop μ-loop
+enum-told-2 c = search needs
+
+enum-told-3 : tie.Need-enum-told-3 Inv-loop μ-loop
+enum-told-3 c = search needs
+
+returns-2 : tie.Need-returns-2 Inv-loop μ-loop
+unfolding pick embeddingComplete
+returns-2 c =
+    let ends = finish embeddingStep embeddingComplete form-stops (c .before .before .before .loop .inv) (c .before .before .loop-test .left) in
+    rw (c .enum-told2 .given .1) at ends
+
+returns-3 : tie.Need-returns-3 Inv-loop μ-loop
+unfolding pick embeddingComplete
+returns-3 c =
+    let ends = finish embeddingStep embeddingComplete form-stops (c .before .before .before .loop .inv) (c .before .before .loop-test .left) in
+    rw (c .enum-told3 .given .1) at ends
+
+pub form-spec : {M : Type 1} → statement M
+form-spec =
+    tie.close
+    (tie.spec
+    Inv-loop
+    μ-loop
+    loop-holds
+    command-at-requires
+    form-step-requires
+    enum-known-next
+    width-requires
+    add-at
+    loop-less
+    loop-again
+    enum-told
+    returns
+    enum-told-2
+    enum-told-3
+    returns-2
+    returns-3)

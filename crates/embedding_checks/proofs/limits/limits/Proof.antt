@@ -1,0 +1,81 @@
+-- `limits` meets its contract. The loop's invariant: the verdict of what is left, from the steps counted, is the verdict of the whole.
+use mathlib.Core.Path.{refl, sym, ap, _∙_}
+use mathlib.Core.Bool.{true}
+use Prim.Native.Nat.{_-_}
+use native.Mathlib.Omega.{arith}
+use borrow.Author.Needs.{needs}
+use lib.ListN.{length}
+use Rattle.model.specs.Definitions.Basics.{pick}
+use Rattle.model.specs.Definitions.EmbeddingChecks.{stepCount, embeddingLimits}
+use Rattle.embedding_checks.specs.States.{countNext}
+use Rattle.embedding_checks.proofs.Turns.{Runs, turn, refusal, finish, less}
+use Rattle.embedding_checks.proofs.Machines.{count-stops}
+use Rattle.embedding_checks.proofs.limits.limits.Statement.{statement}
+use Rattle.embedding_checks.proofs.limits.limits.Tie as tie
+
+abbrev Inv-loop : tie.InvT-loop
+Inv-loop e at₀ steps₀ at steps = Runs stepCount (λ n. true) (embeddingLimits e) e steps at
+
+abbrev μ-loop : tie.MeasureT-loop
+μ-loop e at₀ steps₀ at steps = length e - at
+
+loop-holds : tie.Need-loop-holds Inv-loop μ-loop
+unfolding embeddingLimits
+loop-holds c = record { within = omega arith; same = refl }
+
+command-at-requires : tie.Need-command-at-requires Inv-loop μ-loop
+command-at-requires c κs = search needs
+
+step-count-requires : tie.Need-step-count-requires Inv-loop μ-loop
+step-count-requires c κs = search needs
+
+enum-known-next : tie.Need-enum-known-next Inv-loop μ-loop
+enum-known-next c = search needs
+
+width-requires : tie.Need-width-requires Inv-loop μ-loop
+width-requires c κs = search needs
+
+loop-again : tie.Need-loop-again Inv-loop μ-loop
+loop-again c =
+    let turned = c .before .before .before .before .before .before in
+    turn stepCount (λ n. true) count-stops (turned .before .loop .inv) (turned .loop-test .taken) (c .before .before .before .before .before .command-at .ensures) _ (c .width .ensures)
+    (sym (c .before .before .before .before .step-count .ensures) ∙ ap countNext (c .before .before .next .given .1))
+
+add-at : tie.Need-add-at Inv-loop μ-loop
+add-at c = let within = loop-again c .within in omega arith
+
+loop-less : tie.Need-loop-less Inv-loop μ-loop
+loop-less c =
+    let turned = c .before .before .before .before .before .before in
+    less stepCount (λ n. true) count-stops (turned .before .loop .inv) (turned .loop-test .taken) (c .before .before .before .before .before .command-at .ensures) (c .width .ensures)
+
+enum-told : tie.Need-enum-told Inv-loop μ-loop
+enum-told c = search needs
+
+returns : tie.Need-returns Inv-loop μ-loop
+returns c =
+    let turned = c .before .before .before .before in
+    refusal stepCount (λ n. true) count-stops (turned .before .loop .inv) (turned .loop-test .taken) (c .before .before .before .command-at .ensures)
+    (sym (c .before .before .step-count .ensures) ∙ ap countNext (c .enum-told .given .1))
+
+returns-2 : tie.Need-returns-2 Inv-loop μ-loop
+unfolding pick
+returns-2 c = finish stepCount (λ n. true) count-stops (c .before .loop .inv) (c .loop-test .left)
+
+pub limits-spec : {M : Type 1} → statement M
+limits-spec =
+    tie.close
+    (tie.spec
+    Inv-loop
+    μ-loop
+    loop-holds
+    command-at-requires
+    step-count-requires
+    enum-known-next
+    width-requires
+    add-at
+    loop-less
+    loop-again
+    enum-told
+    returns
+    returns-2)

@@ -1,0 +1,100 @@
+-- `operands` meets its contract. The loop's invariant: the verdict of what is left, from the state reached, is the verdict of the
+-- whole, and the state's two types are in the table.
+use mathlib.Core.Path.{refl, sym, ap, _∙_}
+use mathlib.Core.Bool.{true}
+use Prim.Native.Nat.{_-_}
+use native.Mathlib.Omega.{arith}
+use borrow.Author.Needs.{needs}
+use lib.ListN.{length}
+use Rattle.dtd.specs.Loaded.{tableIn, length-in}
+use Rattle.model.specs.Definitions.Basics.{pick}
+use Rattle.model.specs.Definitions.EmbeddingChecks.{pathStep, embeddingOperands}
+use Rattle.embedding_checks.specs.States.{reached, reachNext}
+use Rattle.embedding_checks.proofs.Turns.{Runs, turn, refusal, finish, less}
+use Rattle.embedding_checks.proofs.Machines.{reach-stops}
+use Rattle.embedding_checks.proofs.Paths.{InTable, stays}
+use Rattle.embedding_checks.proofs.operands.operands.Statement.{statement}
+use Rattle.embedding_checks.proofs.operands.operands.Tie as tie
+
+abbrev Inv-loop : tie.InvT-loop
+Inv-loop types kinds counts members e at₀ start₀ here₀ at start here =
+    Runs (pathStep (tableIn types kinds counts members)) (λ r. true) (embeddingOperands (tableIn types kinds counts members) e) e (reached start here) at
+    × InTable (tableIn types kinds counts members) (reached start here)
+
+abbrev μ-loop : tie.MeasureT-loop
+μ-loop types kinds counts members e at₀ start₀ here₀ at start here = length e - at
+
+loop-holds : tie.Need-loop-holds Inv-loop μ-loop
+unfolding embeddingOperands
+loop-holds c =
+    (record { within = omega arith; same = refl }, record { start-in = c .before .pre .1 .has-root; now-in = c .before .pre .1 .has-root })
+
+command-at-requires : tie.Need-command-at-requires Inv-loop μ-loop
+command-at-requires c κs = search needs
+
+path-step-requires : tie.Need-path-step-requires Inv-loop μ-loop
+path-step-requires c κs =
+    let a = c .before .before .before .before .args in
+    (c .before .before .before .before .pre .0, rw (length-in (a .types) (a .kinds .now) (a .counts .now) (a .members .now)) at (c .before .before .loop .inv .1 .now-in))
+
+enum-known-s : tie.Need-enum-known-s Inv-loop μ-loop
+enum-known-s c = search needs
+
+width-requires : tie.Need-width-requires Inv-loop μ-loop
+width-requires c κs = search needs
+
+loop-again : tie.Need-loop-again Inv-loop μ-loop
+loop-again c =
+    let a = c .before .before .before .before .before .before .before .before .before .args in
+    let table = tableIn (a .types) (a .kinds .now) (a .counts .now) (a .members .now) in
+    let turned = c .before .before .before .before .before .before in
+    let onward = sym (c .before .before .before .before .path-step .ensures) ∙ ap reachNext (c .before .before .s .given .1) in (
+      turn (pathStep table) (λ r. true) (reach-stops table) (turned .before .loop .inv .0) (turned .loop-test .taken) (c .before .before .before .before .before .command-at .ensures) _ (c .width .ensures) onward,
+      stays table (c .before .before .before .before .before .before .before .before .before .pre .1) _ _ (turned .before .loop .inv .1) _ onward,
+    )
+
+add-at : tie.Need-add-at Inv-loop μ-loop
+add-at c = let within = loop-again c .0 .within in omega arith
+
+loop-less : tie.Need-loop-less Inv-loop μ-loop
+loop-less c =
+    let a = c .before .before .before .before .before .before .before .before .before .args in
+    let table = tableIn (a .types) (a .kinds .now) (a .counts .now) (a .members .now) in
+    let turned = c .before .before .before .before .before .before in
+    less (pathStep table) (λ r. true) (reach-stops table) (turned .before .loop .inv .0) (turned .loop-test .taken) (c .before .before .before .before .before .command-at .ensures) (c .width .ensures)
+
+enum-told : tie.Need-enum-told Inv-loop μ-loop
+enum-told c = search needs
+
+returns : tie.Need-returns Inv-loop μ-loop
+returns c =
+    let a = c .before .before .before .before .before .before .before .args in
+    let table = tableIn (a .types) (a .kinds .now) (a .counts .now) (a .members .now) in
+    let turned = c .before .before .before .before in
+    refusal (pathStep table) (λ r. true) (reach-stops table) (turned .before .loop .inv .0) (turned .loop-test .taken) (c .before .before .before .command-at .ensures)
+    (sym (c .before .before .path-step .ensures) ∙ ap reachNext (c .enum-told .given .1))
+
+returns-2 : tie.Need-returns-2 Inv-loop μ-loop
+unfolding pick
+returns-2 c =
+    let a = c .before .before .before .args in
+    let table = tableIn (a .types) (a .kinds .now) (a .counts .now) (a .members .now) in
+    finish (pathStep table) (λ r. true) (reach-stops table) (c .before .loop .inv .0) (c .loop-test .left)
+
+pub operands-spec : {M : Type 1} → statement M
+operands-spec =
+    tie.close
+    (tie.spec
+    Inv-loop
+    μ-loop
+    loop-holds
+    command-at-requires
+    path-step-requires
+    enum-known-s
+    width-requires
+    add-at
+    loop-less
+    loop-again
+    enum-told
+    returns
+    returns-2)

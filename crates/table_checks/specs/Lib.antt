@@ -1,0 +1,4 @@
+pub mod Read
+pub mod Forms
+pub mod Limits
+pub mod Repeats

@@ -1,0 +1,65 @@
+// The commands of a table document.
+ghost use mathlib.Core.Path.{_≡_};
+ghost use Prim.Native.Nat.{_<_};
+ghost use lib.ListN.{length};
+ghost use Rattle.model.specs.Definitions.Commands.{tableCommand, tableWidth};
+ghost use Rattle.model.specs.Theorems.Reading.{rawAt};
+ghost use Rattle.table_checks.specs.Read.{command};
+
+// A command, with its operand; `Alien` is a byte that is no command of a table, or one whose operand is missing.
+pub enum TableCommand {
+    Text,
+    Empty,
+    Sequence,
+    Choice,
+    List(u8),
+    Member(u8),
+    End,
+    Alien,
+}
+
+// The command that stands at an offset, with the byte behind it as its operand where it takes one.
+pub fn command_at(t: &[u8], at: usize) -> TableCommand
+    requires { ⌜ at < length (now t) ⌝ }
+    ensures { λ r. ⌜ command r ≡ tableCommand (rawAt (now (t .entry)) at) ⌝ }
+{
+    let b = t[at];
+    match b {
+        0x10 => TableCommand::Text,
+        0x11 => TableCommand::Empty,
+        0x12 => TableCommand::Sequence,
+        0x13 => TableCommand::Choice,
+        0x14 => {
+            if at + 1 < t.len() {
+                TableCommand::List(t[at + 1])
+            } else {
+                TableCommand::Alien
+            }
+        }
+        0x15 => {
+            if at + 1 < t.len() {
+                TableCommand::Member(t[at + 1])
+            } else {
+                TableCommand::Alien
+            }
+        }
+        0x1F => TableCommand::End,
+        _ => TableCommand::Alien,
+    }
+}
+
+// The number of bytes of a command.
+pub fn width(c: TableCommand) -> usize
+    ensures { λ r. ⌜ r ≡ tableWidth (command c) ⌝ }
+{
+    match c {
+        TableCommand::Text => 1,
+        TableCommand::Empty => 1,
+        TableCommand::Sequence => 1,
+        TableCommand::Choice => 1,
+        TableCommand::List(_) => 2,
+        TableCommand::Member(_) => 2,
+        TableCommand::End => 1,
+        TableCommand::Alien => 1,
+    }
+}

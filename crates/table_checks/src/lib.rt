@@ -1,0 +1,7 @@
+// The checks of a table document (paper 01 "Refusal answers", 2 to 5): each runs one machine of the model over the
+// document's commands and answers the lowest place that is wrong.
+pub mod command;
+pub mod form;
+pub mod limits;
+pub mod operands;
+pub mod repeats;

@@ -1,0 +1,98 @@
+// Check 3, limits: the 65th type, or the 17th member of a type.
+use crate::command::TableCommand;
+use crate::command::command_at;
+use crate::command::width;
+use answers::Verdict;
+ghost use mathlib.Core.Path.{_≡_};
+ghost use Rattle.answers.specs.Answers.{verdict};
+ghost use Rattle.model.specs.Definitions.TableChecks.{tableLimits, limitStep, oneTypeMore};
+ghost use Rattle.table_checks.specs.Read.{command};
+ghost use Rattle.table_checks.specs.Limits.{counts, next, oneMemberMore};
+
+const MAX_TYPES: usize = 64;
+
+const MAX_MEMBERS: usize = 16;
+
+// Types so far, and members of the last one.
+struct Counts {
+    types: usize,
+    members: usize,
+}
+
+// On to the next counts, or the command is refused.
+enum Next {
+    Goes(Counts),
+    Stops,
+}
+
+// The counts with one type more, which has no members yet.
+fn type_more(n: Counts) -> Next
+    ensures { λ r. ⌜ next r ≡ oneTypeMore (counts n) ⌝ }
+{
+    let types = n.types;
+    if types < MAX_TYPES {
+        Next::Goes(Counts {
+            types: types + 1,
+            members: 0,
+        })
+    } else {
+        Next::Stops
+    }
+}
+
+// The counts with one member more of the last type.
+fn member_more(n: Counts) -> Next
+    ensures { λ r. ⌜ next r ≡ oneMemberMore (counts n) ⌝ }
+{
+    let types = n.types;
+    let members = n.members;
+    if members < MAX_MEMBERS {
+        Next::Goes(Counts {
+            types: types,
+            members: members + 1,
+        })
+    } else {
+        Next::Stops
+    }
+}
+
+// What a command makes of the counts.
+fn step(n: Counts, c: TableCommand) -> Next
+    ensures { λ r. ⌜ next r ≡ limitStep (counts n) (command c) ⌝ }
+{
+    match c {
+        TableCommand::Text => type_more(n),
+        TableCommand::Empty => type_more(n),
+        TableCommand::Sequence => type_more(n),
+        TableCommand::Choice => type_more(n),
+        TableCommand::List(_) => type_more(n),
+        TableCommand::Member(_) => member_more(n),
+        TableCommand::End => Next::Goes(n),
+        TableCommand::Alien => Next::Stops,
+    }
+}
+
+// The verdict of check 3. The loop takes one command off what is left and keeps the verdict of the whole.
+pub fn limits(t: &[u8]) -> Verdict
+    ensures { λ r. ⌜ verdict r ≡ tableLimits (now (t .entry)) ⌝ }
+{
+    let mut at = 0;
+    let mut n = Counts {
+        types: 0,
+        members: 0,
+    };
+    while at < t.len() {
+        let c = command_at(t, at);
+        let later = step(n, c);
+        match later {
+            Next::Goes(m) => {
+                n = m;
+                at += width(c);
+            }
+            Next::Stops => {
+                return Verdict::Fails(at);
+            }
+        }
+    }
+    Verdict::Passes
+}

@@ -1,0 +1,43 @@
+// Check 4, operands: a member or item that is no type of the table.
+use crate::command::TableCommand;
+use crate::command::command_at;
+use crate::command::width;
+use answers::Verdict;
+ghost use mathlib.Core.Path.{_≡_};
+ghost use Rattle.answers.specs.Answers.{verdict};
+ghost use Rattle.model.specs.Definitions.Basics.{goesIf};
+ghost use Rattle.model.specs.Definitions.TableChecks.{tableOperands, namesType};
+ghost use Rattle.table_checks.specs.Read.{command};
+
+// Whether a command is one of a table's and the type that it names, if it names one, is below `types`.
+fn named(types: usize, c: TableCommand) -> bool
+    ensures { λ r. ⌜ goesIf r tt ≡ namesType types tt (command c) ⌝ }
+{
+    match c {
+        TableCommand::Text => true,
+        TableCommand::Empty => true,
+        TableCommand::Sequence => true,
+        TableCommand::Choice => true,
+        TableCommand::List(t) => (t as usize) < types,
+        TableCommand::Member(t) => (t as usize) < types,
+        TableCommand::End => true,
+        TableCommand::Alien => false,
+    }
+}
+
+// The verdict of check 4 in a table of so many types. The loop takes one command off what is left and keeps the verdict of
+// the whole.
+pub fn operands(t: &[u8], types: usize) -> Verdict
+    ensures { λ r. ⌜ verdict r ≡ tableOperands types (now (t .entry)) ⌝ }
+{
+    let mut at = 0;
+    while at < t.len() {
+        let c = command_at(t, at);
+        if named(types, c) {
+            at += width(c);
+        } else {
+            return Verdict::Fails(at);
+        }
+    }
+    Verdict::Passes
+}

@@ -1,0 +1,5 @@
+pub mod CommandBytes
+pub mod Rooms
+pub mod Continuation
+pub mod Shapes
+pub mod Turns

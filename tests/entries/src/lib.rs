@@ -1,0 +1,174 @@
+//! The library's C entries, called as `include/lafindry.h` declares them, and
+//! compared with the cases and answers of the reference.
+//!
+//! The feature `writers` adds carry and bring back. [`ENTRIES`] lists the
+//! entries that can be called.
+
+use lafindry_reference::vectors::{Answer, Case, Entry, JUNK};
+use lafindry_reference::Refusal;
+use std::fmt;
+
+/// `struct lafindry_answer`.
+#[repr(C)]
+#[derive(Debug, Clone, Copy, PartialEq, Eq)]
+pub struct CAnswer {
+    pub refusal: u64,
+    pub document: u64,
+    pub mark: u64,
+    pub value: u64,
+    pub filler: u64,
+}
+
+extern "C" {
+    fn lafindry_judge_table(table: *const u8, table_length: usize) -> CAnswer;
+    fn lafindry_judge_embedding(
+        source_table: *const u8,
+        source_table_length: usize,
+        target_table: *const u8,
+        target_table_length: usize,
+        embedding: *const u8,
+        embedding_length: usize,
+    ) -> CAnswer;
+    fn lafindry_judge_tree(
+        table: *const u8,
+        table_length: usize,
+        tree: *const u8,
+        tree_length: usize,
+    ) -> CAnswer;
+    #[cfg(feature = "writers")]
+    fn lafindry_carry(
+        source_table: *const u8,
+        source_table_length: usize,
+        target_table: *const u8,
+        target_table_length: usize,
+        embedding: *const u8,
+        embedding_length: usize,
+        tree: *const u8,
+        tree_length: usize,
+        output: *mut u8,
+        output_length: usize,
+    ) -> CAnswer;
+    #[cfg(feature = "writers")]
+    fn lafindry_bring_back(
+        source_table: *const u8,
+        source_table_length: usize,
+        target_table: *const u8,
+        target_table_length: usize,
+        embedding: *const u8,
+        embedding_length: usize,
+        tree: *const u8,
+        tree_length: usize,
+        output: *mut u8,
+        output_length: usize,
+    ) -> CAnswer;
+}
+
+/// The entries that can be called, in the order of paper 01.
+pub const ENTRIES: &[Entry] = if cfg!(feature = "writers") {
+    &Entry::ALL
+} else {
+    &[Entry::JudgeTable, Entry::JudgeEmbedding, Entry::JudgeTree]
+};
+
+/// Calls an entry of [`ENTRIES`] on its documents, in the order of paper 01.
+/// Entries that don't write leave the output aside.
+pub fn call(entry: Entry, documents: &[Vec<u8>], output: &mut [u8]) -> CAnswer {
+    assert_eq!(documents.len(), entry.documents());
+    let (d, n) = (|at: usize| documents[at].as_ptr(), |at: usize| documents[at].len());
+    #[cfg(feature = "writers")]
+    let (o, room) = (output.as_mut_ptr(), output.len());
+    #[cfg(not(feature = "writers"))]
+    let _ = output;
+    // Each pointer comes with the length of the bytes it points to, and the
+    // output, borrowed as mutable, shares no byte with the documents.
+    unsafe {
+        match entry {
+            Entry::JudgeTable => lafindry_judge_table(d(0), n(0)),
+            Entry::JudgeEmbedding => lafindry_judge_embedding(d(0), n(0), d(1), n(1), d(2), n(2)),
+            Entry::JudgeTree => lafindry_judge_tree(d(0), n(0), d(1), n(1)),
+            #[cfg(feature = "writers")]
+            Entry::Carry => lafindry_carry(d(0), n(0), d(1), n(1), d(2), n(2), d(3), n(3), o, room),
+            #[cfg(feature = "writers")]
+            Entry::BringBack => lafindry_bring_back(d(0), n(0), d(1), n(1), d(2), n(2), d(3), n(3), o, room),
+            #[cfg(not(feature = "writers"))]
+            Entry::Carry | Entry::BringBack => panic!("{}: the feature `writers` is off", entry.name()),
+        }
+    }
+}
+
+/// How many bytes after the lent output are watched.
+const WATCHED: usize = 64;
+
+/// Runs a case through its C entry, on an output filled with [`JUNK`]. The
+/// error says that a field which doesn't apply isn't 0, or that a byte changed
+/// which should have been kept.
+pub fn run(case: &Case) -> Result<Answer, String> {
+    let before = vec![JUNK; case.output_length + WATCHED];
+    let mut after = before.clone();
+    let given = call(case.entry, &case.documents, &mut after[..case.output_length]);
+    let answer = read(case, given, &after)?;
+    if answer.final_output(&before) != after {
+        return Err(format!("{answer}, but other bytes changed too"));
+    }
+    Ok(answer)
+}
+
+/// The answer that a C answer stands for, with the bytes written.
+fn read(case: &Case, given: CAnswer, output: &[u8]) -> Result<Answer, String> {
+    let CAnswer { refusal, document, mark, value, filler } = given;
+    let answer = if refusal == 0 {
+        let written = if case.entry.writes() { value as usize } else { 0 };
+        if written > case.output_length {
+            return Err(format!("{given:?}: longer than the output"));
+        }
+        Answer::Ok { value, filler, output: output[..written].to_vec() }
+    } else {
+        Answer::Refused(Refusal { number: refusal, document, mark })
+    };
+    let unused: &[u64] = match answer {
+        Answer::Ok { .. } if case.entry == Entry::Carry => &[document, mark],
+        Answer::Ok { .. } => &[document, mark, filler],
+        Answer::Refused(_) => &[value, filler],
+    };
+    match unused.iter().all(|&field| field == 0) {
+        true => Ok(answer),
+        false => Err(format!("{given:?}: a field that doesn't apply isn't 0")),
+    }
+}
+
+/// Why a test failed. Tests return it rather than panic, so that it is printed
+/// whatever the archive brings along to handle panics.
+pub struct Failure(pub String);
+
+impl fmt::Debug for Failure {
+    fn fmt(&self, f: &mut fmt::Formatter) -> fmt::Result {
+        write!(f, "{}", self.0)
+    }
+}
+
+/// Runs a case through its C entry and compares. The failure has the case with
+/// the expected answer as a vector line, and what the library gave.
+pub fn check(case: &Case, expected: &Answer) -> Result<(), Failure> {
+    let problem = match run(case) {
+        Ok(answer) if answer == *expected => return Ok(()),
+        Ok(answer) => answer.to_string(),
+        Err(message) => message,
+    };
+    Err(Failure(format!("{case} -> {expected}\nthe library: {problem}")))
+}
+
+/// Runs a case through the reference and its C entry, compares, and gives the
+/// answer.
+pub fn compare(case: &Case) -> Result<Answer, Failure> {
+    let expected = case.run().map_err(|message| Failure(format!("{case}\nthe reference: {message}")))?;
+    check(case, &expected)?;
+    Ok(expected)
+}
+
+/// Fails with a message unless a condition holds.
+pub fn ensure(condition: bool, message: impl Into<String>) -> Result<(), Failure> {
+    match condition {
+        true => Ok(()),
+        false => Err(Failure(message.into())),
+    }
+}
