@@ -5,7 +5,6 @@ ghost use Rattle.model.specs.Definitions.Basics.{passes};
 ghost use Rattle.model.specs.Definitions.Refusals.{has};
 ghost use Rattle.model.specs.Definitions.TableChecks.{tableForm, tableLimits};
 ghost use Rattle.tables.specs.Judging.{TableJudged, AfterLimits};
-
 use answers::Fault;
 use answers::Judged;
 use answers::Verdict;

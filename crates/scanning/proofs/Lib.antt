@@ -1,0 +1,2 @@
+pub mod Skipping
+pub mod Searching

@@ -1,0 +1,117 @@
+-- The searches for a child element: the sibling reached, and how many children are still to be counted.
+use mathlib.Core.Path.{_≡_, refl, sym, ap, _∙_}
+use mathlib.Core.List.{List}
+use mathlib.Core.Option.{Option, none, some}
+use Prim.Native.Nat.{ℕ, zero, suc, _+_, _-_, _≤_, _<_}
+use native.Mathlib.Omega.{arith}
+use lib.ListN.{length, getD}
+use lib.Dec.{eqb}
+use borrow.Author.Tests.{eq-eqb, ne-eqb}
+use Rattle.model.specs.Definitions.Basics.{pick}
+use Rattle.model.specs.Definitions.Content.{Content, end, char, elem, bytes}
+use Rattle.model.specs.Definitions.Inverse.{childAt, childOfType}
+use Rattle.model.specs.Theorems.Tools.{pick-true, pick-false}
+use Rattle.scanning.specs.Scanning.{At}
+use Rattle.scanning.specs.Finding.{Begins}
+use Rattle.scanning.specs.Laws.{content-within, element-first, Opens, opens, opens-next}
+
+-- ---- a child by its place
+
+-- there is no child 0
+pub child-zero : (k : Content) → childAt k 0 ≡ none
+unfolding childAt
+child-zero end = refl
+child-zero (char c r) = refl
+child-zero (elem t k r) = refl
+
+child-one : (t : ℕ) (k r : Content) (p : ℕ) → p ≡ 1 → childAt (elem t k r) p ≡ some k
+unfolding childAt
+child-one t k r p one = rw one
+
+-- a later child is an earlier one of what follows
+child-later : (t : ℕ) (k r : Content) (p : ℕ) → 2 ≤ p → childAt (elem t k r) p ≡ childAt r (p - 1)
+unfolding childAt
+child-later t k r zero more = absurd (omega arith)
+child-later t k r (suc zero) more = absurd (omega arith)
+child-later t k r (suc (suc p)) more = let less : suc (suc p) - 1 ≡ suc p = omega arith in rw less
+
+-- content that begins with no element has no child
+child-none : {tr : List ℕ} {at : ℕ} (k : Content) → At tr at k → (getD tr at 0 ≡ 0x30 → ⊥) → (p : ℕ) → childAt k p ≡ none
+unfolding childAt
+child-none end a other p = refl
+child-none (char c r) a other p = refl
+child-none (elem t k r) a other p = absurd (other (element-first a))
+
+-- the content at offset `at` has, as its child number `left`, what is sought
+pub record Reached (tr : List ℕ) (at : ℕ) (sought : Option Content) (left : ℕ) : Type 0 where
+  pub content : Content
+  pub there : At tr at content
+  pub same : sought ≡ childAt content left
+
+module _ {tr : List ℕ} {at : ℕ} {sought : Option Content} {left : ℕ} (now : Reached tr at sought left) where
+  pub reached-within : at < length tr
+  reached-within = omega (arith, content-within (now .there))
+
+  pub reached-none : (getD tr at 0 ≡ 0x30 → ⊥) → sought ≡ none
+  reached-none other = now .same ∙ child-none (now .content) (now .there) other left
+
+  module _ (first : getD tr at 0 ≡ 0x30) where
+    abbrev o : Opens tr at (now .content) (now .there .rest)
+    o = opens (now .content) (now .there) first
+
+    same-opens : sought ≡ childAt (elem (o .type) (o .inside) (o .next)) left
+    same-opens = now .same ∙ ap (λ (k : Content). childAt k left) (o .is)
+
+    -- an element stands here, and its content begins two further
+    pub reached-inside : (at + 1 < length tr) × ((k : Content) × At tr (at + 2) k)
+    reached-inside = (o .two, (o .inside, o .within))
+
+    -- it is the one that is sought
+    pub reached-found : left ≡ 1 → Begins tr (at + 2) sought
+    reached-found one =
+        record { content = o .inside; is = same-opens ∙ child-one (o .type) (o .inside) (o .next) left one; there = o .within }
+
+    -- or a later one is; `close` is the offset of the 32 that closes it
+    module _ (close : ℕ) (skips : (k : Content) → At tr (at + 2) k → close ≡ at + 2 + length (bytes k)) where
+      pub reached-close : (at < close) × (close < length tr)
+      reached-close = omega (arith, skips (o .inside) (o .within), content-within (o .within))
+
+      pub reached-next : 2 ≤ left → Reached tr (close + 1) sought (left - 1)
+      reached-next more =
+          let place : at + 2 + length (bytes (o .inside)) ≡ close = sym (skips (o .inside) (o .within)) in
+          record {
+            content = o .next;
+            there = rw place at (opens-next o);
+            same = same-opens ∙ child-later (o .type) (o .inside) (o .next) left more;
+          }
+
+-- the loop's invariant: so it is for every content that begins at `from`
+pub record Seeks (tr : List ℕ) (from p at left : ℕ) : Type 0 where
+  pub some-left : 1 ≤ left
+  pub reached : (k : Content) → At tr from k → Reached tr at (childAt k p) left
+
+-- ---- a child by its type
+
+module _ {tr : List ℕ} {at : ℕ} (t : ℕ) where
+  -- content that begins with no element has no child of a type
+  pub typed-none : (k : Content) → At tr at k → (getD tr at 0 ≡ 0x30 → ⊥) → childOfType k t ≡ none
+  unfolding childOfType
+  typed-none end a other = refl
+  typed-none (char c r) a other = refl
+  typed-none (elem u k r) a other = absurd (other (element-first a))
+
+  module _ (k : Content) (a : At tr at k) (first : getD tr at 0 ≡ 0x30) where
+    abbrev e : Opens tr at k (a .rest)
+    e = opens k a first
+
+    typed : childOfType k t ≡ pick (eqb t (getD tr (at + 1) 0)) (some (e .inside)) none
+    unfolding childOfType
+    typed = ap (λ (l : Content). childOfType l t) (e .is) ∙ ap (λ (u : ℕ). pick (eqb t u) (some (e .inside)) none) (sym (e .named))
+
+    -- the element's type is its second byte
+    pub typed-found : getD tr (at + 1) 0 ≡ t → Begins tr (at + 2) (childOfType k t)
+    typed-found same =
+        record { content = e .inside; is = typed ∙ pick-true _ _ _ (eq-eqb t (getD tr (at + 1) 0) (sym same)); there = e .within }
+
+    pub typed-other : (getD tr (at + 1) 0 ≡ t → ⊥) → childOfType k t ≡ none
+    typed-other other = typed ∙ pick-false _ _ _ (ne-eqb t (getD tr (at + 1) 0) (λ same. other (sym same)))

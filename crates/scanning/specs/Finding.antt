@@ -1,0 +1,20 @@
+-- What a search for a child element finds.
+use mathlib.Core.Path.{_≡_}
+use mathlib.Core.List.{List}
+use mathlib.Core.Option.{Option, none, some}
+use Prim.Native.Nat.{ℕ}
+use Rattle.model.specs.Definitions.Content.{Content}
+use Rattle.scanning.specs.declared.Found.{Found}
+use Rattle.scanning.specs.declared.Found.the-variants as found
+use Rattle.scanning.specs.Scanning.{At}
+
+-- there is a content, and it begins at offset o
+pub record Begins (tr : List ℕ) (o : ℕ) (sought : Option Content) : Type 0 where
+  pub content : Content
+  pub is : sought ≡ some content
+  pub there : At tr o content
+
+-- the answer finds the content that is sought, or says that there is none
+abbrev pub Finds : List ℕ → Found → Option Content → Type 0
+Finds tr (found.At o) sought = Begins tr o sought
+Finds tr found.Missing sought = sought ≡ none

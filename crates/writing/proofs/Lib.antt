@@ -1,0 +1,4 @@
+pub mod Copying
+pub mod Choosing
+pub mod Holding
+pub mod Filling
