@@ -1,0 +1,19 @@
+-- A fault's answer has the model's numbers.
+use mathlib.Core.Path.{_≡_, refl, sym, ap, _∙_}
+use Prim.Native.Nat.{ℕ}
+use Rattle.lafindry.specs.declared.answer.Answer.{Answer}
+use Rattle.lafindry.specs.Numbers.{numbers, ForFault}
+use Rattle.answers.specs.declared.Fault.{Fault}
+use Rattle.answers.specs.Answers.{fault}
+use Rattle.model.specs.Definitions.Refusals.{Document, documentNumber, faulty, faultNumber, faultMark, numbersOf}
+use Rattle.model.specs.Definitions.Entries as model
+use Rattle.model.specs.Definitions.Entries.{answerOf, refused}
+
+-- the five numbers of a refusal
+abbrev pub refusalNumbers : ℕ → ℕ → ℕ → model.Answer
+refusalNumbers number document mark = record { refusal = number; document = document; mark = mark; value = 0; filler = 0 }
+
+-- a fault that is known, and an answer with its number and mark
+pub for-fault : (f g : Fault) (n : ℕ) (a : Answer) → f ≡ g → numbers a ≡ refusalNumbers (faultNumber (fault g)) n (faultMark (fault g)) → ForFault f n a
+for-fault f g n a same e d document =
+    e ∙ unfold answerOf numbersOf in (rw (same, ← document) refl)

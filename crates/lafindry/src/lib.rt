@@ -1,0 +1,3 @@
+// The entries that a C program calls, each on any bytes. include/lafindry.h declares them.
+pub mod answer;
+pub mod judging;
