@@ -1,0 +1,4 @@
+pub mod Commands
+pub mod Machines
+pub mod Expected
+pub mod Judging
