@@ -1,3 +1,4 @@
 pub mod Numbering
 pub mod Tables
 pub mod Trees
+pub mod Embeddings

@@ -16,7 +16,8 @@ use Rattle.model.specs.Definitions.Basics.{passes, Next, goes, stops, run, goes
 use Rattle.model.specs.Definitions.Commands.{TableCommand, textType, emptyType, sequenceType, choiceType, listType, member, tableEnd, alien, tableCommand, tableCommands, tableWidth}
 use Rattle.model.specs.Definitions.Table.{Kind, text, empty, sequence, choice, list, Table, TableTail, withCommand, tableTail, tableOf}
 use Rattle.model.specs.Definitions.TableChecks.{TableState, noType, whole, members, tableEnded, begins, joins, finishes, tableRole, tableMove, tableStep, tableComplete, tableForm, TableCount, maxTypes, maxMembers, oneTypeMore, limitStep, tableLimits}
-use Rattle.model.specs.Theorems.JudgedTables.{passes-fails, goes-stops, goes-if}
+use Rattle.model.specs.Theorems.JudgedTables.{goes-if}
+use Rattle.model.specs.Theorems.Runs.{passes-fails, goes-stops}
 use Rattle.model.specs.Theorems.Reading.{rawAt, ReadsAt, left-stops, left-goes, table-reads, no-table-commands}
 use Rattle.table_load.specs.declared.Arrays.{Arrays}
 use Rattle.table_load.specs.Loading.{nothing, begun, joined, puts, Begins, Joins, Room, LoadedAs}

@@ -24,7 +24,7 @@ use Rattle.model.specs.Definitions.Entries.{judgedTable, judgedEmbedding
 use Rattle.model.specs.Theorems.Facts.{WellFormed, SoundTable, Valid}
 use Rattle.model.specs.Theorems.Runs.{followed, reach, passes-run}
 use Rattle.model.specs.Theorems.Documents.{commandsThen, documentCommands, document-commands, content-of-document, form-accepts, conforming-checks}
-use Rattle.model.specs.Theorems.JudgedTables.{AcceptedTree, tree-accepted, table-sound}
+use Rattle.model.specs.Theorems.JudgedTables.{tree-accepted}
 use Rattle.model.specs.Theorems.JudgedEmbeddings.{embedding-valid}
 use Rattle.model.specs.Theorems.Measures.{image-levels, image-length}
 

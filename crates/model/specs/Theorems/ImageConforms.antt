@@ -19,7 +19,7 @@ use Rattle.model.specs.Definitions.EmbeddingChecks.{maxSteps, rightSteps
 use Rattle.model.specs.Definitions.Filler.{Builder, content, known}
 use Rattle.model.specs.Definitions.Image.{Setting, Placement, placed, under, isPlaced, growMembers, growKind, grow, place, Child, letter, element, children, imageOfElement, placements, lettersOf, alongPaths, alongChoice, pathOfMember, onlyPath, itemsOf, alongList}
 use Rattle.model.specs.Theorems.Facts.{WellFormed, SoundTable, Walks, GoodPath, MemberPath, Along, along-none, along-both, ValidEdges, text-edge, no-edge, sequence-edges, choice-edges, list-edge, Valid, All, all-none, all-more, Starts, Fits, nothing-placed, right-here, below-sequence, below-choice, below-list}
-use Rattle.model.specs.Theorems.Tools.{entry-member, true-false, pick-true, pick-false, and-right}
+use Rattle.model.specs.Theorems.Tools.{entry-member, true-false, pick-true, pick-false, and-right, one-plus}
 use Rattle.model.specs.Theorems.Placing.{entry-next, item-next, under-all, single-fits, placements-fit, GoodParts, divide-good, AtList, divide-at-list}
 use Rattle.model.specs.Theorems.ByElements.{Each, each-end, each-char, each-elem, by-elements}
 
@@ -44,9 +44,6 @@ members-hold T inside ps p [] f = no-member
 members-hold T inside ps p (m ∷ ms) f =
     one-member (rw add-zero at (f 0 m refl))
     (members-hold T inside ps (suc p) ms (λ j n e. subst (λ (i : ℕ). Holds T (kindOf T n) (inside n (under i ps))) (add-suc p j ∙ sym (suc-add p j)) (f (suc j) n e)))
-
-one-plus : (j : ℕ) → 1 + j ≡ suc j
-one-plus j = omega arith
 
 module _ (T : Table) (wf : WellFormed T) (fs : List Content) (fill : (t : ℕ) → t < length T → Holds T (kindOf T t) (known content fs t)) where
   -- content grown from settled placements that fit conforms

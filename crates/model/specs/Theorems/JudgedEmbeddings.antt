@@ -19,7 +19,8 @@ use Rattle.model.specs.Definitions.Refusals.{sound, fits}
 use Rattle.model.specs.Definitions.Entries.{judgedTable, judgedEmbedding, settingOf}
 use Rattle.model.specs.Theorems.Facts.{SoundTable, Walks, arrived, onward, GoodPath, MemberPath, Along, along-none, along-both, All, all-none, all-more, Pairs, pairs-none, pairs-more, Compatible, ValidEdges, text-edge, no-edge, sequence-edges, choice-edges, list-edge, Valid}
 use Rattle.model.specs.Theorems.Tools.{true-false}
-use Rattle.model.specs.Theorems.JudgedTables.{passes-fails, goes-stops, goes-if, pick-passes, run-holds, all-at, neither, no-fault-at, no-fault-unless, table-sound}
+use Rattle.model.specs.Theorems.JudgedTables.{goes-if, pick-passes, run-holds, all-at, neither, no-fault-at, no-fault-unless, table-sound}
+use Rattle.model.specs.Theorems.Runs.{passes-fails, goes-stops}
 
 -- ---- check 2, form
 
@@ -302,7 +303,7 @@ valid-edges X (list m) f n good ends apart =
 -- ---- all checks
 
 -- the checks that an accepted embedding has passed
-pub record AcceptedEmbedding (S T : Table) (bs : List ℕ) : Type 0 where
+pub record PassedEmbedding (S T : Table) (bs : List ℕ) : Type 0 where
   pub short : fits bs ≡ true
   pub form : embeddingForm S bs ≡ passes
   pub limits : embeddingLimits bs ≡ passes
@@ -312,7 +313,7 @@ pub record AcceptedEmbedding (S T : Table) (bs : List ℕ) : Type 0 where
   pub right-steps : wrongSteps S T (embeddingOf bs) ≡ passes
   pub no-clash : pathClash S T (embeddingOf bs) ≡ passes
 
-pub embedding-checks : (S T : Table) (bs : List ℕ) → judgedEmbedding S T bs ≡ sound → AcceptedEmbedding S T bs
+pub embedding-checks : (S T : Table) (bs : List ℕ) → judgedEmbedding S T bs ≡ sound → PassedEmbedding S T bs
 unfolding judgedEmbedding
 embedding-checks S T bs e =
     let r1 = no-fault-unless _ _ _ e in
@@ -356,7 +357,7 @@ embedding-valid s t e source-accepted target-accepted accepted =
     E : Embedding
     E = embeddingOf e
 
-    checks : AcceptedEmbedding S T e
+    checks : PassedEmbedding S T e
     checks = embedding-checks S T e accepted
 
     target-sound : SoundTable T
@@ -376,3 +377,11 @@ embedding-valid s t e source-accepted target-accepted accepted =
         (along-at empty noMap (each-type (stepsOf T) counts (checks .right-steps)) i h))
         (along-at empty noMap (each-type (endsOf E T) counts (checks .right-ends)) i h)
         (along-at empty noMap (each-type (clashesOf T) counts (checks .no-clash)) i h)
+
+-- once its operands are right, each type is mapped to a target type, and its paths can be walked from there
+pub paths-walk : (T : Table) (bs : List ℕ) → 0 < length T → embeddingOperands T bs ≡ passes → (s : ℕ)
+    → (targetOf (embeddingOf bs) s < length T) × All (λ (d : Edge). Walks T (targetOf (embeddingOf bs) s) (d .steps)) (getD (embeddingOf bs) s noMap .edges)
+unfolding targetOf noMap
+paths-walk T bs root e s =
+    let walks = all-at noMap (record { target-known = root; all-walk = all-none }) (operands-hold T bs e) s in
+    (walks .target-known, walks .all-walk)

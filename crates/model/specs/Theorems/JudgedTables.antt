@@ -20,17 +20,10 @@ use Rattle.model.specs.Definitions.TreeChecks.{treeForm, treeLevels, tre
 use Rattle.model.specs.Definitions.Refusals.{Fault, Judged, sound, has, faultAt, faultUnless, fits}
 use Rattle.model.specs.Definitions.Entries.{judgedTable, judgedTree}
 use Rattle.model.specs.Theorems.Facts.{WellFormed, SoundTable, All, all-none, all-more}
+use Rattle.model.specs.Theorems.Runs.{goes-stops, passes-fails}
 use Rattle.model.specs.Theorems.Tools.{true-false, some-none}
 
 -- ---- verdicts and runs
-
--- a check can't both pass and fail
-pub passes-fails {ℓ} : {X : Type ℓ} {v : Verdict} {at : ℕ} → v ≡ passes → v ≡ fails at → X
-passes-fails {v = v} {at} p q = let z : _≡_ {A = ℕ} 0 1 = cc in absurd (omega arith)
-
--- a machine can't both go on and stop
-pub goes-stops {ℓ} : {X : Type ℓ} {S : Type 0} {n : Next S} {s : S} → n ≡ goes s → n ≡ stops → X
-goes-stops {n = n} {s} p q = let z : _≡_ {A = ℕ} 0 1 = cc in absurd (omega arith)
 
 -- a machine that goes on by a test: the test passes, and the state is the one meant
 pub goes-if : {S : Type 0} (b : Bool) (s : S) {next : S} → goesIf b s ≡ goes next → (b ≡ true) × (s ≡ next)
@@ -364,7 +357,7 @@ no-fault-unless f true later e = (refl, e)
 no-fault-unless f false later e = sound-faulty e refl
 
 -- the checks that an accepted table has passed
-pub record AcceptedTable (bs : List ℕ) : Type 0 where
+pub record PassedTable (bs : List ℕ) : Type 0 where
   pub short : fits bs ≡ true
   pub form : tableForm bs ≡ passes
   pub limits : tableLimits bs ≡ passes
@@ -372,7 +365,7 @@ pub record AcceptedTable (bs : List ℕ) : Type 0 where
   pub repeats : tableRepeats bs ≡ passes
   pub instances : endlessType (tableOf bs) ≡ passes
 
-pub table-checks : (bs : List ℕ) → judgedTable bs ≡ sound → AcceptedTable bs
+pub table-checks : (bs : List ℕ) → judgedTable bs ≡ sound → PassedTable bs
 unfolding judgedTable
 table-checks bs e =
     let r1 = no-fault-unless _ _ _ e in
@@ -395,14 +388,14 @@ table-sound bs e =
 -- ---- tree documents
 
 -- the checks that an accepted tree document has passed
-pub record AcceptedTree (S : Table) (bs : List ℕ) : Type 0 where
+pub record PassedTree (S : Table) (bs : List ℕ) : Type 0 where
   pub short : fits bs ≡ true
   pub form : treeForm bs ≡ passes
   pub levels-ok : treeLevels bs ≡ passes
   pub operands : treeOperands (length S) bs ≡ passes
   pub expected : treeExpected S bs ≡ passes
 
-pub tree-checks : (S : Table) (bs : List ℕ) → judgedTree S bs ≡ sound → AcceptedTree S bs
+pub tree-checks : (S : Table) (bs : List ℕ) → judgedTree S bs ≡ sound → PassedTree S bs
 unfolding judgedTree
 tree-checks S bs e =
     let r1 = no-fault-unless _ _ _ e in
@@ -413,6 +406,6 @@ tree-checks S bs e =
     record { short = r1 .0; form = r2 .0; levels-ok = r3 .0; operands = r4 .0; expected = r5 .0 }
 
 -- a tree document that passes the checks is accepted
-pub tree-accepted : {S : Table} {bs : List ℕ} → AcceptedTree S bs → judgedTree S bs ≡ sound
+pub tree-accepted : {S : Table} {bs : List ℕ} → PassedTree S bs → judgedTree S bs ≡ sound
 unfolding judgedTree faultUnless faultAt
 tree-accepted a = rw (a .short, a .form, a .levels-ok, a .operands, a .expected)

@@ -21,15 +21,12 @@ use Rattle.model.specs.Definitions.Filler.{Builder, content, known}
 use Rattle.model.specs.Definitions.Image.{Setting, Placement, placed, under, beyond, isPlaced, growMembers, growKind, grow, place, Child, letter, element, children, imageOfElement, placements, lettersOf, alongPaths, alongChoice, pathOfMember, onlyPath, itemsOf, alongList}
 use Rattle.model.specs.Definitions.Inverse.{childAt, childOfType, enter, follow, readOne, readMembers, readIfThere, readChoice, readItems, readList, readKind, readTo}
 use Rattle.model.specs.Theorems.Facts.{WellFormed, SoundTable, Walks, arrived, onward, GoodPath, MemberPath, Along, along-none, along-both, All, all-none, all-more, Pairs, pairs-none, pairs-more, Compatible, ValidEdges, text-edge, no-edge, sequence-edges, choice-edges, list-edge, Valid, Starts, starts-none, starts-more, Leads, Fits, nothing-placed, right-here, below-sequence, below-choice, below-list}
-use Rattle.model.specs.Theorems.Tools.{entry-member, true-false, some-none, pick-true, pick-false, and-right}
+use Rattle.model.specs.Theorems.Tools.{entry-member, true-false, some-none, pick-true, pick-false, and-right, one-plus}
 use Rattle.model.specs.Theorems.Placing.{next-is, entry-next, item-next, under-same, under-other, single-fits, placements-fit, GoodParts, divide-good, AtList, divide-at-list, walks-step, walks-rest, member-walks}
 use Rattle.model.specs.Theorems.ByElements.{Each, each-end, each-char, each-elem, by-elements}
 use Rattle.model.specs.Theorems.ImageConforms.{letters-back}
 
 -- ---- one step into what was grown
-
-one-plus : (j : ℕ) → 1 + j ≡ suc j
-one-plus j = omega arith
 
 -- member number p of a sequence
 child-of-members : (inside : ℕ → List (Placement Content) → Content) (ps : List (Placement Content)) (i p : ℕ) (ms : List ℕ) (m : ℕ)

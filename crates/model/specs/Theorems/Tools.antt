@@ -56,3 +56,6 @@ entry-member zero xs {x} e = some-none e refl
 entry-member (suc p) [] {x} e = some-none e refl
 entry-member (suc zero) (y ∷ xs) {x} e = let same : x ≡ y = cc in List·Memᴰ·head same
 entry-member (suc (suc p)) (y ∷ xs) {x} e = List·Memᴰ·tail (entry-member (suc p) xs e)
+
+pub one-plus : (j : ℕ) → 1 + j ≡ suc j
+one-plus j = omega arith

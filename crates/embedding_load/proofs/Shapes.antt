@@ -1,0 +1,84 @@
+-- What holds of the arrays at every place of a document, and that each command keeps it.
+use mathlib.Core.Path.{_≡_, refl, _∙_}
+use mathlib.Core.List.{List}
+use mathlib.Core.Bool.{Bool, true, false}
+use Prim.Native.Nat.{ℕ, _+_, _*_, _≤_, _<_}
+use native.Mathlib.Omega.{arith}
+use lib.ListN.{length, getD, set, replicate, length-set, length-replicate, getD-replicate, List·getD-eq-default}
+use lib.Seq.{getD-set-same, getD-set-other}
+use lib.Dec.{eqb, ltb}
+use borrow.Author.Tests.{eqb-true, eqb-false, ltb-true, ltb-false}
+use Rattle.embedding_load.specs.declared.Arrays.{Arrays}
+use Rattle.embedding_load.specs.Loading.{nothing, mapped}
+
+-- the arrays have their lengths, and every path is within the document and has at most 12 steps
+pub record Shaped (em : List ℕ) (a : Arrays) : Type 0 where
+  pub targets-long : length (a .targets) ≡ 64
+  pub starts-long : length (a .starts) ≡ 1024
+  pub lengths-long : length (a .lengths) ≡ 1024
+  pub short : (i : ℕ) → getD (a .lengths) i 0 ≤ 12
+  pub within : (i : ℕ) → getD (a .starts) i 0 + 1 + 2 * getD (a .lengths) i 0 ≤ length em
+
+-- a list of zeros
+abbrev zeros : ℕ → List ℕ
+zeros n = replicate n 0
+
+zeros-long : (n : ℕ) → length (zeros n) ≡ n
+zeros-long n = length-replicate {A = ℕ} n 0
+
+zeros-at : (n t : ℕ) → getD (zeros n) t 0 ≡ 0
+zeros-at n t = go (ltb t n) refl
+  where
+    go : (b : Bool) → ltb t n ≡ b → getD (zeros n) t 0 ≡ 0
+    go true e = getD-replicate n t 0 0 (ltb-true t n e)
+    go false e = List·getD-eq-default (zeros n) 0 (rw (zeros-long n) (ltb-false t n e))
+
+pub shaped-nothing : (em : List ℕ) → 1 ≤ length em → Shaped em nothing
+unfolding nothing
+shaped-nothing em some =
+    record {
+      targets-long = zeros-long 64;
+      starts-long = zeros-long 1024;
+      lengths-long = zeros-long 1024;
+      short = λ i. rw (zeros-at 1024 i) (omega arith);
+      within = λ i. rw (zeros-at 1024 i) (omega arith);
+    }
+
+pub shaped-mapped : (em : List ℕ) (a : Arrays) (t : ℕ) → Shaped em a → Shaped em (mapped a t)
+unfolding mapped
+shaped-mapped em a t h =
+    record {
+      targets-long = length-set (a .targets) (a .maps) t ∙ h .targets-long;
+      starts-long = h .starts-long;
+      lengths-long = h .lengths-long;
+      short = h .short;
+      within = h .within;
+    }
+
+-- The arrays with a path written at a place: its start and its number of steps.
+module _ (em : List ℕ) (a : Arrays) (h : Shaped em a) (place start count : ℕ) (room : place < 1024) (few : count ≤ 12) (inside : start + 1 + 2 * count ≤ length em) where
+  short-written : (i : ℕ) → getD (set (a .lengths) place count) i 0 ≤ 12
+  short-written i = go (eqb i place) refl
+    where
+      go : (b : Bool) → eqb i place ≡ b → getD (set (a .lengths) place count) i 0 ≤ 12
+      go false e = rw (getD-set-other (a .lengths) place i count 0 (eqb-false i place e)) (h .short i)
+      go true e = rw (eqb-true i place e, getD-set-same (a .lengths) place count 0 (rw (h .lengths-long) room)) few
+
+  within-written : (i : ℕ) → getD (set (a .starts) place start) i 0 + 1 + 2 * getD (set (a .lengths) place count) i 0 ≤ length em
+  within-written i = go (eqb i place) refl
+    where
+      go : (b : Bool) → eqb i place ≡ b → getD (set (a .starts) place start) i 0 + 1 + 2 * getD (set (a .lengths) place count) i 0 ≤ length em
+      go false e = rw (getD-set-other (a .starts) place i start 0 (eqb-false i place e), getD-set-other (a .lengths) place i count 0 (eqb-false i place e)) (h .within i)
+      go true e =
+          rw (eqb-true i place e, getD-set-same (a .starts) place start 0 (rw (h .starts-long) room), getD-set-same (a .lengths) place count 0 (rw (h .lengths-long) room)) inside
+
+  pub shaped-written : (maps edges : ℕ)
+      → Shaped em (record { maps = maps; edges = edges; targets = a .targets; starts = set (a .starts) place start; lengths = set (a .lengths) place count })
+  shaped-written maps edges =
+      record {
+        targets-long = h .targets-long;
+        starts-long = length-set (a .starts) place start ∙ h .starts-long;
+        lengths-long = length-set (a .lengths) place count ∙ h .lengths-long;
+        short = short-written;
+        within = within-written;
+      }

@@ -1,0 +1,77 @@
+-- What each command of an embedding document does to the arrays that it is loaded into, and what `load` gives.
+use mathlib.Core.Path.{_≡_}
+use mathlib.Core.List.{List}
+use Prim.Native.Nat.{ℕ, _+_, _-_, _*_, _≤_, _<_}
+use lib.ListN.{getD, set, replicate}
+use Rattle.embedding_load.specs.declared.Arrays.{Arrays}
+use Rattle.maps.specs.declared.Embedding.{Embedding}
+use Rattle.maps.specs.Loaded.{embeddingIn, Bounded}
+use Rattle.model.specs.Definitions.Commands.{EmbeddingCommand, mapsTo, path, step, embeddingEnd, alienE}
+use Rattle.model.specs.Definitions.Table.{Table}
+use Rattle.model.specs.Definitions.Embedding.{embeddingOf}
+
+-- ---- what a command does
+
+-- the arrays with no map
+unfoldable pub nothing : Arrays
+nothing = record { maps = 0; edges = 0; targets = replicate 64 0; starts = replicate 1024 0; lengths = replicate 1024 0 }
+
+-- one type more, mapped to t, with no path yet
+unfoldable pub mapped : Arrays → ℕ → Arrays
+mapped a t =
+    record { maps = a .maps + 1; edges = 0; targets = set (a .targets) (a .maps) t; starts = a .starts; lengths = a .lengths }
+
+-- one path more of the last type, whose 21 stands at an offset, with no step yet
+unfoldable pub begun : Arrays → ℕ → Arrays
+begun a at =
+    let place = (a .maps - 1) * 16 + a .edges in
+    record { maps = a .maps; edges = a .edges + 1; targets = a .targets; starts = set (a .starts) place at; lengths = set (a .lengths) place 0 }
+
+-- one step more of the last path
+unfoldable pub stepped : Arrays → Arrays
+stepped a =
+    let place = (a .maps - 1) * 16 + (a .edges - 1) in
+    record { maps = a .maps; edges = a .edges; targets = a .targets; starts = a .starts; lengths = set (a .lengths) place (getD (a .lengths) place 0 + 1) }
+
+-- what the arrays are after the command at an offset
+unfoldable pub puts : Arrays → ℕ → EmbeddingCommand → Arrays
+puts a at (mapsTo t) = mapped a t
+puts a at path = begun a at
+puts a at (step p) = stepped a
+puts a at embeddingEnd = a
+puts a at alienE = a
+
+-- ---- room for a command
+
+-- there is room for one map more
+pub record Maps (a : Arrays) : Type 0 where
+  pub room : a .maps < 64
+
+-- there is a type, with room for one path more, at an offset that fits its entry
+pub record Begins (a : Arrays) (at : ℕ) : Type 0 where
+  pub some : 0 < a .maps
+  pub few : a .maps ≤ 64
+  pub room : a .edges < 16
+  pub fits : at < 60000
+
+-- there is a path, with room for one step more
+pub record Steps (a : Arrays) : Type 0 where
+  pub some : 0 < a .maps
+  pub few : a .maps ≤ 64
+  pub some-edge : 0 < a .edges
+  pub few-edges : a .edges ≤ 16
+  pub room : getD (a .lengths) ((a .maps - 1) * 16 + (a .edges - 1)) 0 < 12
+
+abbrev pub Room : Arrays → ℕ → EmbeddingCommand → Type 0
+Room a at (mapsTo t) = Maps a
+Room a at path = Begins a at
+Room a at (step p) = Steps a
+Room a at embeddingEnd = Unit {0}
+Room a at alienE = Unit {0}
+
+-- ---- what is loaded
+
+-- a loaded embedding, with its document, stands for the embedding of S that the document writes, within bounds
+pub record LoadedAs (bs : List ℕ) (S : Table) (r : Embedding) : Type 0 where
+  pub same-embedding : embeddingIn bs S (r .targets) (r .starts) (r .lengths) ≡ embeddingOf bs
+  pub bounded : Bounded bs (r .lengths) (r .starts)

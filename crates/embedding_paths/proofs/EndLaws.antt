@@ -1,0 +1,146 @@
+-- Check 8 for one edge: what the code compares is what the check asks.
+use mathlib.Core.Path.{_≡_, refl, sym, ap, _∙_}
+use mathlib.Core.List.{List, [], _∷_, List·Memᴰ, List·Memᴰ·head, List·Memᴰ·tail}
+use Prim.Native.Nat.{ℕ, zero, suc, _+_, _*_, _<_}
+use native.Mathlib.Omega.{arith}
+use lib.ListN.{length, getD, take, drop, length-take}
+use lib.Seq.{getD-take, getD-drop}
+use lib.Dec.{eqb}
+use borrow.Author.Tests.{eq-eqb, ne-eqb}
+use Rattle.model.specs.Definitions.Table.{Kind, text, Table, kindOf, membersOf, stepFrom, edgesOf, isText}
+use Rattle.model.specs.Definitions.Embedding.{TypeMap, Embedding, noMap, targetOf, next, endOf}
+use Rattle.model.specs.Theorems.Facts.{WellFormed, Walks, arrived, onward}
+use Rattle.model.specs.Theorems.Tools.{entry-member}
+use Rattle.dtd.specs.Loaded.{tableIn, kindIn, kindFrom, length-in, kind-in}
+use Rattle.maps.specs.Loaded.{stepsFrom, edgeIn, embeddingIn}
+use Rattle.embedding_paths.specs.Paths.{pathIn}
+use Rattle.embedding_paths.specs.Ready.{Ready}
+use Rattle.embedding_paths.specs.Tests.{edgeOf, endRight}
+use Rattle.embedding_paths.proofs.Following.{path-steps}
+use Rattle.embedding_paths.proofs.Arrays.{TypeAt, EdgeAt, type-at, edge-at}
+
+-- a path whose steps exist ends at a type
+pub end-exists : {T : Table} {τ : ℕ} {ps : List ℕ} → WellFormed T → Walks T τ ps → τ < length T → endOf T τ ps < length T
+unfolding endOf stepFrom
+end-exists w arrived h = h
+end-exists {T} {τ} w (onward {p = p} e onwards) h = end-exists w onwards (w .members-exist τ (next T τ p) (entry-member p (membersOf (kindOf T τ)) e))
+
+-- the text kind is the one with code 0
+text-code : (code count : ℕ) (row : List ℕ) → isText (kindFrom code count row) ≡ eqb code 0
+unfolding isText
+text-code zero count row = sym (eq-eqb 0 0 refl)
+text-code (suc zero) count row = sym (ne-eqb 1 0 (λ e. omega arith))
+text-code (suc (suc zero)) count row = sym (ne-eqb 2 0 (λ e. omega arith))
+text-code (suc (suc (suc zero))) count row = sym (ne-eqb 3 0 (λ e. omega arith))
+text-code (suc (suc (suc (suc code)))) count row = sym (ne-eqb (suc (suc (suc (suc code)))) 0 (λ e. omega arith))
+
+mem-at : (xs : List ℕ) (i : ℕ) → i < length xs → List·Memᴰ (getD xs i 0) xs
+mem-at [] i h = absurd (omega arith)
+mem-at (x ∷ xs) zero h = List·Memᴰ·head refl
+mem-at (x ∷ xs) (suc i) h = List·Memᴰ·tail (mem-at xs i (omega arith))
+
+taken : (count : ℕ) (row : List ℕ) (i : ℕ) → i < length (take count row) → getD (take count row) i 0 ≡ getD row i 0
+taken count row i h = let below : i < count = omega (arith, length-take count row) in getD-take count row i 0 below
+
+-- what is asked of edge i of a type with members, and that its member is one
+record ByMember (E : Embedding) (T : Table) (κ : Kind) (f : TypeMap) (i m : ℕ) : Type 0 where
+  asked : endRight E T κ f i ≡ eqb (endOf T (f .target) (edgeOf f i .steps)) (targetOf E m)
+  is-member : List·Memᴰ m (membersOf κ)
+
+in-taken : (ms : List ℕ) (count : ℕ) (row : List ℕ) (i : ℕ) → ms ≡ take count row → i < length ms → List·Memᴰ (getD row i 0) ms
+in-taken ms count row i e h =
+    let below : i < length (take count row) = rw e at h in
+    rw e (rw (taken count row i below) at (mem-at (take count row) i below))
+
+by-member : (E : Embedding) (T : Table) (f : TypeMap) (code count : ℕ) (row : List ℕ) (i : ℕ)
+    → (code ≡ 0 → ⊥) → i < edgesOf (kindFrom code count row) → ByMember E T (kindFrom code count row) f i (getD row i 0)
+unfolding edgesOf endRight membersOf
+by-member E T f zero count row i no-text h = absurd (no-text refl)
+by-member E T f (suc zero) count row i no-text h = absurd (omega arith)
+by-member E T f (suc (suc zero)) count row i no-text h = record {
+  asked = ap (λ (m : ℕ). eqb (endOf T (f .target) (edgeOf f i .steps)) (targetOf E m)) (taken count row i h);
+  is-member = in-taken (take count row) count row i refl h;
+}
+by-member E T f (suc (suc (suc zero))) count row i no-text h = record {
+  asked = ap (λ (m : ℕ). eqb (endOf T (f .target) (edgeOf f i .steps)) (targetOf E m)) (taken count row i h);
+  is-member = in-taken (take count row) count row i refl h;
+}
+by-member E T f (suc (suc (suc (suc code)))) count row zero no-text h = record { asked = refl; is-member = List·Memᴰ·head refl }
+by-member E T f (suc (suc (suc (suc code)))) count row (suc i) no-text h = absurd (omega arith)
+
+by-text : (E : Embedding) (T : Table) (f : TypeMap) (code count : ℕ) (row : List ℕ) (i : ℕ)
+    → code ≡ 0 → endRight E T (kindFrom code count row) f i ≡ isText (kindOf T (endOf T (f .target) (edgeOf f i .steps)))
+unfolding endRight
+by-text E T f zero count row i e = refl
+by-text E T f (suc code) count row i e = absurd (omega arith)
+
+module _ {em : List ℕ} {sources : ℕ} {skinds scounts smembers targets starts lengths : List ℕ} {types : ℕ} {kinds counts members : List ℕ}
+    (r : Ready em sources skinds scounts smembers targets starts lengths types kinds counts members)
+    (s i : ℕ) (hs : s < sources) (hi : i < edgesOf (kindOf (tableIn sources skinds scounts smembers) s)) where
+  -- the steps of the edge
+  abbrev stepsHere : List ℕ
+  stepsHere = stepsFrom em (getD starts (s * 16 + i) 0 + 2) (getD lengths (s * 16 + i) 0)
+
+  -- what is known of the end that the code finds: it is the end of the edge's path, and a type
+  pub record Found (end : ℕ) : Type 0 where
+    pub end-is : end ≡ endOf (tableIn types kinds counts members) (getD targets s 0) stepsHere
+    pub inside : end < types
+
+  pub found : {end count : ℕ} {path : List ℕ} → count ≡ getD lengths (s * 16 + i) 0
+      → path ≡ pathIn em (getD starts (s * 16 + i) 0) (getD lengths (s * 16 + i) 0)
+      → end ≡ endOf (tableIn types kinds counts members) (getD targets s 0) (take count path) → Found end
+  found {end} {count} {path} ec ep ee =
+      let here : end ≡ endOf (tableIn types kinds counts members) (getD targets s 0) stepsHere =
+      ee ∙ rw (ec, ep, path-steps em (getD starts (s * 16 + i) 0) (getD lengths (s * 16 + i) 0)) in
+      let k : EdgeAt em sources skinds scounts smembers targets starts lengths types kinds counts members s i = edge-at r s i hs hi in
+      let t : TypeAt em sources skinds scounts smembers targets starts lengths types kinds counts members s = type-at r s hs in
+      let below : endOf (tableIn types kinds counts members) (getD targets s 0) stepsHere < length (tableIn types kinds counts members) =
+      end-exists (r .target-formed) (k .walks) (rw (length-in types kinds counts members) (t .target-exists)) in
+      record { end-is = here; inside = rw here (rw (length-in types kinds counts members) at below) }
+
+  -- the edge of the model ends where the path does
+  same-end : endOf (tableIn types kinds counts members)
+      (getD (embeddingIn em (tableIn sources skinds scounts smembers) targets starts lengths) s noMap .target)
+      (edgeOf (getD (embeddingIn em (tableIn sources skinds scounts smembers) targets starts lengths) s noMap) i .steps)
+      ≡ endOf (tableIn types kinds counts members) (getD targets s 0) stepsHere
+  unfolding edgeIn
+  same-end = rw (edge-at r s i hs hi .edge-is, type-at r s hs .target-is)
+
+  -- characters: the end's kind is text
+  pub text-right : {end : ℕ} → Found end → getD skinds s 0 ≡ 0
+      → eqb (getD kinds end 0) 0
+      ≡ endRight (embeddingIn em (tableIn sources skinds scounts smembers) targets starts lengths) (tableIn types kinds counts members)
+      (kindOf (tableIn sources skinds scounts smembers) s) (getD (embeddingIn em (tableIn sources skinds scounts smembers) targets starts lengths) s noMap) i
+  text-right {end} f code =
+      sym (text-code (getD kinds end 0) (getD counts end 0) (drop (end * 16) members))
+      ∙ ap isText (sym (kind-in types kinds counts members end (f .inside)))
+      ∙ ap (λ (t : ℕ). isText (kindOf (tableIn types kinds counts members) t)) (f .end-is ∙ sym same-end)
+      ∙ sym
+      (by-text (embeddingIn em (tableIn sources skinds scounts smembers) targets starts lengths) (tableIn types kinds counts members)
+      (getD (embeddingIn em (tableIn sources skinds scounts smembers) targets starts lengths) s noMap)
+      (getD skinds s 0) (getD scounts s 0) (drop (s * 16) smembers) i code)
+      ∙ ap (λ (κ : Kind). endRight (embeddingIn em (tableIn sources skinds scounts smembers) targets starts lengths) (tableIn types kinds counts members) κ (getD (embeddingIn em (tableIn sources skinds scounts smembers) targets starts lengths) s noMap) i) (sym (type-at r s hs .kind-is))
+
+  -- a member or an item: its number is a type's, and the end is its target
+  pub record Member (end m : ℕ) : Type 0 where
+    pub inside : m < 64
+    pub right : eqb end (getD targets m 0)
+        ≡ endRight (embeddingIn em (tableIn sources skinds scounts smembers) targets starts lengths) (tableIn types kinds counts members)
+        (kindOf (tableIn sources skinds scounts smembers) s) (getD (embeddingIn em (tableIn sources skinds scounts smembers) targets starts lengths) s noMap) i
+
+  pub member-right : {end : ℕ} → Found end → (getD skinds s 0 ≡ 0 → ⊥) → Member end (getD smembers (s * 16 + i) 0)
+  unfolding targetOf
+  member-right {end} f code =
+      let asks : ByMember (embeddingIn em (tableIn sources skinds scounts smembers) targets starts lengths) (tableIn types kinds counts members)
+      (kindIn skinds scounts smembers s) (getD (embeddingIn em (tableIn sources skinds scounts smembers) targets starts lengths) s noMap) i (getD (drop (s * 16) smembers) i 0) =
+      by-member (embeddingIn em (tableIn sources skinds scounts smembers) targets starts lengths) (tableIn types kinds counts members)
+      (getD (embeddingIn em (tableIn sources skinds scounts smembers) targets starts lengths) s noMap)
+      (getD skinds s 0) (getD scounts s 0) (drop (s * 16) smembers) i code (rw (type-at r s hs .kind-is) at hi) in
+      let same : getD (drop (s * 16) smembers) i 0 ≡ getD smembers (s * 16 + i) 0 = getD-drop (s * 16) smembers i 0 in
+      let exists : getD smembers (s * 16 + i) 0 < length (tableIn sources skinds scounts smembers) =
+      r .source-formed .members-exist s (getD smembers (s * 16 + i) 0) (rw (type-at r s hs .kind-is) (rw same at (asks .is-member))) in
+      let below : getD smembers (s * 16 + i) 0 < sources = rw (length-in sources skinds scounts smembers) at exists in
+      record {
+        inside = omega (arith, r .source-bounded .few-types);
+        right = cc (f .end-is, same-end, type-at r (getD smembers (s * 16 + i) 0) below .target-is, same, asks .asked, type-at r s hs .kind-is);
+      }

@@ -1,0 +1,4 @@
+pub mod Paths
+pub mod Ready
+pub mod Tests
+pub mod Kinds
