@@ -18,6 +18,8 @@ fn run(entry: u8, a: &mut [u8], b: &mut [u8], c: &mut [u8]) {
         print(lafindry::judging::lafindry_judge_tree(&a[..la], &b[..lb]));
         return;
     }
+    let lc = read(c);
+    print(lafindry::judging::lafindry_judge_embedding(&a[..la], &b[..lb], &c[..lc]));
 }
 
 // One case, with buffers of its own.

@@ -2,7 +2,6 @@
 use mathlib.Core.Path.{_≡_, refl, sym, ap, _∙_, subst, subst₂}
 use mathlib.Core.List.{List}
 use Prim.Native.Nat.{ℕ}
-use lib.ListN.{length}
 use Rattle.lafindry.specs.declared.answer.Answer.{Answer}
 use Rattle.lafindry.specs.Numbers.{numbers, ForFault}
 use Rattle.lafindry.specs.Judging.{embeddingResult, EmbeddingAnswer, TablesSound}
@@ -12,12 +11,11 @@ use Rattle.answers.specs.Answers.{judged, fault}
 use Rattle.tables.specs.declared.JudgedTable.{JudgedTable}
 use Rattle.tables.specs.Judging.{TableJudged}
 use Rattle.embeddings.specs.declared.JudgedEmbedding.{JudgedEmbedding}
-use Rattle.embeddings.specs.Judging.{Judgeable, EmbeddingJudged}
-use Rattle.dtd.specs.declared.Table as dtd
+use Rattle.embeddings.specs.Judging.{EmbeddingJudged}
 use Rattle.dtd.specs.Loaded.{tableIn}
 use Rattle.model.specs.Definitions.Table.{Table, tableOf}
 use Rattle.model.specs.Definitions.Refusals.{sound, has, source-table, target-table, embedding, documentNumber}
-use Rattle.model.specs.Definitions.Entries.{answerOf, accepted, refused, unlessFaulty, judgedTable, judgedEmbedding, judgeEmbedding, edgeCount}
+use Rattle.model.specs.Definitions.Entries.{answerOf, accepted, refused, unlessFaulty, judgedEmbedding, judgeEmbedding, edgeCount}
 use Rattle.model.specs.Theorems.Facts.{SoundTable}
 use Rattle.model.specs.Theorems.JudgedTables.{table-sound}
 use Rattle.lafindry.proofs.Tables.{judged-sound, judged-has}
@@ -46,12 +44,6 @@ tables-sound {bs} {cs} {a} {b} h k e f =
       source-sound = subst SoundTable (sym (first .same-table)) (table-sound bs (judged-sound h e));
       target-sound = subst SoundTable (sym (second .same-table)) (table-sound cs (judged-sound k f));
     }
-
--- what judging the embedding asks, with the array's length
-pub judgeable : {s t : dtd.Table} → TablesSound s t → length (s .members) ≡ 1024
-    → Judgeable (s .types) (s .kinds) (s .counts) (s .members) (t .types) (t .kinds) (t .counts) (t .members)
-judgeable h whole =
-    record { source-bounded = h .source-bounded; target-bounded = h .target-bounded; rows-whole = whole; source-sound = h .source-sound; target-sound = h .target-sound }
 
 -- the entry: a table's fault, or the embedding's answer
 pub source-faulty : (bs cs em : List ℕ) (r : JudgedTable) (f : Fault) (a : Answer) → TableJudged bs r → r .judged ≡ Judged.Has f → ForFault f 1 a → numbers a ≡ answerOf (judgeEmbedding bs cs em)

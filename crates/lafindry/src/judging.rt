@@ -93,24 +93,20 @@ fn judge_embedding_by(source: Table, target: Table, embedding: &[u8]) -> Answer
 
 // Judges an embedding, after both tables: number of edges.
 #[no_mangle]
-pub extern "C" fn lafindry_judge_embedding(
-    source_table: &[u8],
-    target_table: &[u8],
-    embedding: &[u8],
-) -> Answer
-    ensures { λ r. ⌜ numbers r ≡ answerOf (judgeEmbedding (now (source_table .entry)) (now (target_table .entry)) (now (embedding .entry))) ⌝ }
+pub extern "C" fn lafindry_judge_embedding(source: &[u8], target: &[u8], embedding: &[u8]) -> Answer
+    ensures { λ r. ⌜ numbers r ≡ answerOf (judgeEmbedding (now (source .entry)) (now (target .entry)) (now (embedding .entry))) ⌝ }
 {
-    let a = tables::judge(source_table);
+    let a = tables::judge(source);
     let first = a.judged;
     if let Judged::Has(f) = first {
         return crate::answer::faulting(f, 1);
     }
-    let b = tables::judge(target_table);
+    let b = tables::judge(target);
     let second = b.judged;
     if let Judged::Has(f) = second {
         return crate::answer::faulting(f, 2);
     }
-    let source = a.table;
-    let target = b.table;
-    judge_embedding_by(source, target, embedding)
+    let s = a.table;
+    let t = b.table;
+    judge_embedding_by(s, t, embedding)
 }

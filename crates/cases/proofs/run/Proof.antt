@@ -7,6 +7,7 @@ use Rattle.cases.proofs.run.Reads as reads
 use Rattle.cases.proofs.run.Lts as lts
 use Rattle.cases.proofs.answers_of.print.Reads as print-reads
 use Rattle.cases.proofs.documents.read.Reads as read-reads
+use Rattle.lafindry.proofs.judging.lafindry_judge_embedding.Reads as lafindry-judge-embedding-reads
 use Rattle.lafindry.proofs.judging.lafindry_judge_table.Reads as lafindry-judge-table-reads
 use Rattle.lafindry.proofs.judging.lafindry_judge_tree.Reads as lafindry-judge-tree-reads
 
@@ -78,6 +79,45 @@ same-length-3 c = search needs
 returns-2 : tie.Need-returns-2
 returns-2 c = search needs
 
+-- src/main.rt:21:9
+read-requires-3 : tie.Need-read-requires-3
+read-requires-3 c κs = search needs
+
+-- src/main.rt:22:55
+slice-reshare-prefix-lafindry-judge-embedding :
+    tie.Need-slice-reshare-prefix-lafindry-judge-embedding
+slice-reshare-prefix-lafindry-judge-embedding c = search needs
+
+-- src/main.rt:22:55
+slice-aggregate-lafindry-judge-embedding : tie.Need-slice-aggregate-lafindry-judge-embedding
+slice-aggregate-lafindry-judge-embedding c = sym (length-take-le _ _ (c .before .before .before .before .before .before .before .before .before .before .before .before .before .read .ensures))
+
+-- src/main.rt:22:65
+slice-reshare-prefix-lafindry-judge-embedding-2 :
+    tie.Need-slice-reshare-prefix-lafindry-judge-embedding-2
+slice-reshare-prefix-lafindry-judge-embedding-2 c = search needs
+
+-- src/main.rt:22:65
+slice-aggregate-lafindry-judge-embedding-2 : tie.Need-slice-aggregate-lafindry-judge-embedding-2
+slice-aggregate-lafindry-judge-embedding-2 c = sym (length-take-le _ _ (c .before .before .before .before .before .before .before .before .before .read2 .ensures))
+
+-- src/main.rt:22:75
+slice-reshare-prefix-lafindry-judge-embedding-3 :
+    tie.Need-slice-reshare-prefix-lafindry-judge-embedding-3
+slice-reshare-prefix-lafindry-judge-embedding-3 c = search needs
+
+-- src/main.rt:22:75
+slice-aggregate-lafindry-judge-embedding-3 : tie.Need-slice-aggregate-lafindry-judge-embedding-3
+slice-aggregate-lafindry-judge-embedding-3 c = sym (length-take-le _ _ (c .before .before .before .before .before .read3 .ensures))
+
+-- src/main.rt:22:11
+lafindry-judge-embedding-requires : tie.Need-lafindry-judge-embedding-requires
+lafindry-judge-embedding-requires c κs = search needs
+
+-- src/main.rt:22:5
+print-requires-3 : tie.Need-print-requires-3
+print-requires-3 c κs = search needs
+
 -- src/main.rt:10:1
 same-length-4 : tie.Need-same-length-4
 same-length-4 c = search needs
@@ -85,6 +125,10 @@ same-length-4 c = search needs
 -- src/main.rt:10:1
 same-length-5 : tie.Need-same-length-5
 same-length-5 c = search needs
+
+-- src/main.rt:10:1
+same-length-6 : tie.Need-same-length-6
+same-length-6 c = search needs
 
 -- src/main.rt:10:1
 returns-3 : tie.Need-returns-3
@@ -111,6 +155,16 @@ run-spec =
     same-length-2
     same-length-3
     returns-2
+    read-requires-3
+    slice-reshare-prefix-lafindry-judge-embedding
+    slice-aggregate-lafindry-judge-embedding
+    slice-reshare-prefix-lafindry-judge-embedding-2
+    slice-aggregate-lafindry-judge-embedding-2
+    slice-reshare-prefix-lafindry-judge-embedding-3
+    slice-aggregate-lafindry-judge-embedding-3
+    lafindry-judge-embedding-requires
+    print-requires-3
     same-length-4
     same-length-5
+    same-length-6
     returns-3)
