@@ -1,17 +1,25 @@
 # make test: everything that is tested, and last the prover's own gate, whose last line is 'N passed, 0 failed'.
 # make run: prove what there is and carry the example patch.
+# make staticlib: prove the entries and write target/staticlib/liblafindry.a for C; include/lafindry.h declares them.
+# make bench: time the entries beside the Rust reference, in one run.
 # make check-definitions: have the prover confirm cases on the definitions (by hand: minutes).
 
 CARGO = CARGO_TARGET_DIR=target/cargo cargo
 REFERENCE = --manifest-path tests/reference/Cargo.toml
 
-.PHONY: test run check-definitions reference
+.PHONY: test run staticlib bench check-definitions reference
 
 test:
 	@tools/test
 
 run:
 	@tools/run
+
+staticlib:
+	@rt staticlib lafindry
+
+bench: staticlib
+	@$(CARGO) run --quiet --release --offline --manifest-path bench/Cargo.toml
 
 reference:
 	@$(CARGO) build --quiet --release --offline $(REFERENCE)
