@@ -1,4 +1,3 @@
-pub mod CommandBytes
 pub mod Rooms
 pub mod Continuation
 pub mod Shapes

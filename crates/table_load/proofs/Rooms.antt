@@ -4,8 +4,9 @@ use Prim.Native.Nat.{ℕ, _+_, _-_, _*_}
 use native.Mathlib.Omega.{arith}
 use lib.ListN.{getD, set}
 use Rattle.table_load.specs.declared.Arrays.{Arrays}
-use Rattle.table_load.specs.declared.Command.{Command}
-use Rattle.table_load.specs.Loading.{command, begun, joined, puts, Begins, Joins, Room}
+use Rattle.table_checks.specs.declared.command.TableCommand.{TableCommand as Command}
+use Rattle.table_checks.specs.Read.{command}
+use Rattle.table_load.specs.Loading.{begun, joined, puts, Begins, Joins, Room}
 
 -- a type that was just begun has room for a member
 pub begun-joins : (a : Arrays) (kind : ℕ) → Begins a → Joins (begun a kind)

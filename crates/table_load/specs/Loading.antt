@@ -4,22 +4,9 @@ use mathlib.Core.List.{List}
 use Prim.Native.Nat.{ℕ, _+_, _-_, _*_, _≤_, _<_}
 use lib.ListN.{getD, set, replicate}
 use Rattle.table_load.specs.declared.Arrays.{Arrays}
-use Rattle.table_load.specs.declared.Command.{Command}
-use Rattle.table_load.specs.declared.Command.the-variants.{Text, Empty, Sequence, Choice, List as ListOf, Member, End, Alien}
 use Rattle.dtd.specs.Loaded.{tableIn, Bounded}
 use Rattle.model.specs.Definitions.Commands.{TableCommand, textType, emptyType, sequenceType, choiceType, listType, member, tableEnd, alien}
 use Rattle.model.specs.Definitions.Table.{tableOf}
-
--- the model's command
-abbrev pub command : Command → TableCommand
-command Text = textType
-command Empty = emptyType
-command Sequence = sequenceType
-command Choice = choiceType
-command (ListOf t) = listType t
-command (Member t) = member t
-command End = tableEnd
-command Alien = alien
 
 -- ---- what a command does
 

@@ -5,14 +5,14 @@ use dtd::EMPTY;
 use dtd::LIST;
 use dtd::SEQUENCE;
 use dtd::TEXT;
+use table_checks::command::TableCommand;
+use table_checks::command::command_at;
+use table_checks::command::width;
 ghost use mathlib.Core.Path.{_≡_};
-ghost use Prim.Native.Nat.{_<_};
-ghost use lib.ListN.{length};
 ghost use Rattle.model.specs.Definitions.Basics.{passes};
-ghost use Rattle.model.specs.Definitions.Commands.{tableCommand, tableWidth};
 ghost use Rattle.model.specs.Definitions.TableChecks.{tableForm, tableLimits};
-ghost use Rattle.model.specs.Theorems.Reading.{rawAt};
-ghost use Rattle.table_load.specs.Loading.{nothing, begun, joined, command, puts, Begins, Joins, Room, LoadedAs};
+ghost use Rattle.table_checks.specs.Read.{command};
+ghost use Rattle.table_load.specs.Loading.{nothing, begun, joined, puts, Begins, Joins, Room, LoadedAs};
 
 // The types loaded so far: type t has the kind kinds[t] and the counts[t] members members[t * 16 ..]; a list's one member
 // is its item type. Entries that no command wrote are 0.
@@ -21,18 +21,6 @@ pub struct Arrays {
     pub kinds: [u8; 64],
     pub counts: [u8; 64],
     pub members: [u8; 1024],
-}
-
-// A table's command.
-enum Command {
-    Text,
-    Empty,
-    Sequence,
-    Choice,
-    List(u8),
-    Member(u8),
-    End,
-    Alien,
 }
 
 // The arrays with no type.
@@ -84,60 +72,19 @@ fn join(a: Arrays, member: u8) -> Arrays
 }
 
 // The arrays with what one command says.
-fn put(a: Arrays, c: Command) -> Arrays
+fn put(a: Arrays, c: TableCommand) -> Arrays
     requires { ⌜ Room a (command c) ⌝ }
     ensures { λ r. ⌜ r ≡ puts a (command c) ⌝ }
 {
     match c {
-        Command::Text => begin(a, TEXT),
-        Command::Empty => begin(a, EMPTY),
-        Command::Sequence => begin(a, SEQUENCE),
-        Command::Choice => begin(a, CHOICE),
-        Command::List(t) => join(begin(a, LIST), t),
-        Command::Member(t) => join(a, t),
-        Command::End => a,
-        Command::Alien => a,
-    }
-}
-
-// The number of bytes of a command.
-fn width(c: Command) -> usize
-    ensures { λ r. ⌜ r ≡ tableWidth (command c) ⌝ }
-{
-    match c {
-        Command::Text => 1,
-        Command::Empty => 1,
-        Command::Sequence => 1,
-        Command::Choice => 1,
-        Command::List(_) => 2,
-        Command::Member(_) => 2,
-        Command::End => 1,
-        Command::Alien => 1,
-    }
-}
-
-// The command that stands at an offset.
-fn command_at(t: &[u8], at: usize) -> Command
-    requires { ⌜ at < length (now t) ⌝ }
-    ensures { λ r. ⌜ command r ≡ tableCommand (rawAt (now (t .entry)) at) ⌝ }
-{
-    match t[at] {
-        0x10 => Command::Text,
-        0x11 => Command::Empty,
-        0x12 => Command::Sequence,
-        0x13 => Command::Choice,
-        0x14 => if at + 1 < t.len() {
-            Command::List(t[at + 1])
-        } else {
-            Command::Alien
-        },
-        0x15 => if at + 1 < t.len() {
-            Command::Member(t[at + 1])
-        } else {
-            Command::Alien
-        },
-        0x1F => Command::End,
-        _ => Command::Alien,
+        TableCommand::Text => begin(a, TEXT),
+        TableCommand::Empty => begin(a, EMPTY),
+        TableCommand::Sequence => begin(a, SEQUENCE),
+        TableCommand::Choice => begin(a, CHOICE),
+        TableCommand::List(t) => join(begin(a, LIST), t),
+        TableCommand::Member(t) => join(a, t),
+        TableCommand::End => a,
+        TableCommand::Alien => a,
     }
 }
 

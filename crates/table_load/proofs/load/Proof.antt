@@ -3,7 +3,7 @@ use Prim.Native.Nat.{_+_, _-_}
 use native.Mathlib.Omega.{arith}
 use lib.ListN.{length}
 use denote.Ref.{now}
-use Rattle.table_load.specs.Loading.{command}
+use Rattle.table_checks.specs.Read.{command}
 use Rattle.table_load.proofs.Turns.{Loading, Turn, loading-starts, turn, turned, loading-ends}
 use Rattle.table_load.proofs.load.Statement.{statement}
 use Rattle.table_load.proofs.load.Tie as tie
