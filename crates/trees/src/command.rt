@@ -2,7 +2,7 @@
 ghost use mathlib.Core.Path.{_≡_};
 ghost use Prim.Native.Nat.{_<_};
 ghost use lib.ListN.{length};
-ghost use Rattle.model.specs.Definitions.Commands.{treeCommand, treeWidth};
+ghost use Rattle.model.specs.Definitions.Commands.{treeCommand};
 ghost use Rattle.model.specs.Definitions.Conformance as model;
 ghost use Rattle.model.specs.Theorems.Reading.{rawAt};
 ghost use Rattle.trees.specs.Commands as said;
@@ -40,19 +40,6 @@ pub fn command_at(t: &[u8], at: usize) -> TreeCommand
         0x32 => TreeCommand::Closes,
         0x3F => TreeCommand::End,
         _ => TreeCommand::Alien,
-    }
-}
-
-// The number of bytes of a command.
-pub fn width(c: TreeCommand) -> usize
-    ensures { λ r. ⌜ r ≡ treeWidth (said.command c) ⌝ }
-{
-    match c {
-        TreeCommand::Opens(_) => 2,
-        TreeCommand::Character(_) => 2,
-        TreeCommand::Closes => 1,
-        TreeCommand::End => 1,
-        TreeCommand::Alien => 1,
     }
 }
 
