@@ -1,0 +1,114 @@
+-- An element is read by its children, and a text by its characters.
+use mathlib.Core.Path.{_≡_, refl, sym, ap, _∙_}
+use mathlib.Core.List.{List, [], _∷_}
+use mathlib.Core.Option.{Option, none, some}
+use Prim.Native.Nat.{ℕ, zero, suc, _+_, _-_, _*_, _<_}
+use native.Mathlib.Omega.{arith}
+use lib.ListN.{drop, getD}
+use Rattle.model.specs.Definitions.Basics.{andThen}
+use Rattle.model.specs.Definitions.Table.{Kind, text, empty, sequence, choice, list, Table, kindOf, edgesOf}
+use Rattle.model.specs.Definitions.Content.{Content, end, char, elem}
+use Rattle.model.specs.Definitions.Embedding.{targetOf, pathsOf, Divided, divide}
+use Rattle.model.specs.Definitions.Image.{Setting, onlyPath}
+use Rattle.model.specs.Definitions.Inverse.{follow, readOne, readMembers, readIfThere, readChoice, readItems, readList, readKind, readTo}
+use Rattle.dtd.specs.Loaded.{kindFrom}
+use Rattle.setting.specs.Ready.{Arrays, Paths, settingIn}
+use Rattle.inverse.specs.Following.{Followable}
+use Rattle.inverse.specs.Parts.{Parts, readParts, partOf, ifThere, memberParts, choiceParts, itemParts, listParts, kindParts}
+use Rattle.inverse.specs.Reading.{Known, pathAt, pathsFrom}
+use Rattle.inverse.proofs.Edges.{target-is, paths-are, kind-is, edge-follows}
+
+module _ (read : ℕ → Content → Option Content) where
+  part-read : (m : ℕ) (found : Option Content) (rest : Parts) (later : Option Content) → later ≡ readParts read rest → readOne read m found later ≡ readParts read (partOf m found rest)
+  unfolding readParts partOf readOne andThen
+  part-read m none rest later e = refl
+  part-read m (some k) rest later e = rw e
+
+  there-read : (m : ℕ) (found : Option Content) (rest : Parts) (later : Option Content) → later ≡ readParts read rest → readIfThere read m found later ≡ readParts read (ifThere m found rest)
+  unfolding readParts ifThere readIfThere
+  there-read m none rest later e = e
+  there-read m (some k) rest later e = refl
+
+  members-read : (at : List ℕ → Option Content) (ms : List ℕ) (ps : List (List ℕ)) → readMembers read at ms ps ≡ readParts read (memberParts at ms ps)
+  unfolding readMembers memberParts readParts
+  members-read at [] ps = refl
+  members-read at (m ∷ ms) [] = refl
+  members-read at (m ∷ ms) (p ∷ ps) = part-read m (at p) (memberParts at ms ps) (readMembers read at ms ps) (members-read at ms ps)
+
+  choice-read : (at : List ℕ → Option Content) (ms : List ℕ) (ps : List (List ℕ)) → readChoice read at ms ps ≡ readParts read (choiceParts at ms ps)
+  unfolding readChoice choiceParts readParts
+  choice-read at [] ps = refl
+  choice-read at (m ∷ ms) [] = refl
+  choice-read at (m ∷ ms) (p ∷ ps) = there-read m (at p) (choiceParts at ms ps) (readChoice read at ms ps) (choice-read at ms ps)
+
+  items-read : (beyond : Content → Option Content) (m : ℕ) (k : Content) → readItems read beyond m k ≡ readParts read (itemParts beyond m k)
+  unfolding readItems itemParts readParts
+  items-read beyond m end = refl
+  items-read beyond m (char c r) = refl
+  items-read beyond m (elem t k r) = part-read m (beyond k) (itemParts beyond m r) (readItems read beyond m r) (items-read beyond m r)
+
+  list-read : (T : Table) (d : Divided) (m : ℕ) (found : Option Content) → andThen found (λ items. readItems read (follow T (d .item) (d .rest)) m items) ≡ readParts read (listParts T d m found)
+  unfolding listParts readParts andThen
+  list-read T d m none = refl
+  list-read T d m (some items) = items-read (follow T (d .item) (d .rest)) m items
+
+  kind-read : (T : Table) (κ : Kind) (τ : ℕ) (ps : List (List ℕ)) (k : Content) → (κ ≡ text → ⊥) → readKind read T κ τ ps k ≡ readParts read (kindParts T κ τ ps k)
+  unfolding readKind kindParts readParts readList
+  kind-read T text τ ps k other = absurd (other refl)
+  kind-read T empty τ ps k other = refl
+  kind-read T (sequence ms) τ ps k other = members-read (λ p. follow T τ p k) ms ps
+  kind-read T (choice ms) τ ps k other = choice-read (λ p. follow T τ p k) ms ps
+  kind-read T (list m) τ ps k other = list-read T (divide T τ (onlyPath ps)) m (follow T τ (divide T τ (onlyPath ps) .before) k)
+
+-- with no level left nothing is read
+pub read-zero : (X : Setting) (n σ : ℕ) (k : Content) → n ≡ 0 → readTo X n σ k ≡ none
+unfolding readTo
+read-zero X n σ k e = rw e
+
+-- else an element is read by its kind, its children with one level less
+read-level : (X : Setting) (n σ : ℕ) (k : Content) → (n ≡ 0 → ⊥)
+    → readTo X n σ k ≡ readKind (λ t inside. readTo X (n - 1) t inside) (X .target) (kindOf (X .source) σ) (targetOf (X .embedding) σ) (pathsOf (X .embedding) σ) k
+unfolding readTo
+read-level X zero σ k other = absurd (other refl)
+read-level X (suc n) σ k other = let less : suc n - 1 ≡ n = omega arith in rw less
+
+-- only code 0 is a text's
+text-code : (code count : ℕ) (row : List ℕ) → kindFrom code count row ≡ text → code ≡ 0
+text-code zero count row e = refl
+text-code (suc zero) count row e = cc
+text-code (suc (suc zero)) count row e = cc
+text-code (suc (suc (suc zero))) count row e = cc
+text-code (suc (suc (suc (suc code)))) count row e = cc
+
+module _ {s t : Arrays} {p : Paths} (known : Known s t p) {σ : ℕ} (exists : σ < s .types) (n : ℕ) (some-level : n ≡ 0 → ⊥) where
+  abbrev X : Setting
+  X = settingIn s t p
+
+  -- an element that is no text
+  pub read-children : (getD (s .kinds) σ 0 ≡ 0 → ⊥) → (k : Content)
+      → readTo X n σ k
+      ≡ readParts (λ m j. readTo X (n - 1) m j) (kindParts (X .target) (kindOf (X .source) σ) (targetOf (X .embedding) σ) (pathsOf (X .embedding) σ) k)
+  read-children other k =
+      read-level X n σ k some-level
+      ∙ kind-read (λ m j. readTo X (n - 1) m j) (X .target) (kindOf (X .source) σ) (targetOf (X .embedding) σ) (pathsOf (X .embedding) σ) k
+      (λ e. other (text-code (getD (s .kinds) σ 0) (getD (s .counts) σ 0) (drop (σ * 16) (s .members)) (sym (kind-is known exists) ∙ e)))
+
+  -- a text
+  module _ (code : getD (s .kinds) σ 0 ≡ 0) where
+    is-text : kindOf (X .source) σ ≡ text
+    is-text = kind-is known exists ∙ rw code
+
+    pub read-text : (k : Content) → readTo X n σ k ≡ follow (X .target) (getD (p .targets) σ 0) (pathAt (p .text) (p .starts) (p .lengths) (σ * 16)) k
+    unfolding readKind pathsFrom onlyPath edgesOf
+    read-text k =
+        read-level X n σ k some-level
+        ∙ ap (λ (κ : Kind). readKind (λ m j. readTo X (n - 1) m j) (X .target) κ (targetOf (X .embedding) σ) (pathsOf (X .embedding) σ) k) is-text
+        ∙ ap (λ (q : ℕ). follow (X .target) q (onlyPath (pathsOf (X .embedding) σ)) k) (target-is known exists)
+        ∙ ap (λ (l : List (List ℕ)). follow (X .target) (getD (p .targets) σ 0) (onlyPath l) k) (paths-are known exists ∙ ap (λ (κ : Kind). pathsFrom p (σ * 16) (edgesOf κ)) is-text)
+
+    pub text-follows : Followable (t .types) (t .kinds) (t .counts) (t .members) (p .text) (getD (p .starts) (σ * 16) 0) 0 (getD (p .lengths) (σ * 16) 0) (getD (p .targets) σ 0)
+    unfolding edgesOf
+    text-follows =
+        let place : σ * 16 + 0 ≡ σ * 16 = omega arith in
+        let one : edgesOf (kindOf (X .source) σ) ≡ 1 = ap edgesOf is-text in
+        rw place at (edge-follows known exists 0 (omega arith))

@@ -1,0 +1,3 @@
+pub mod Following
+pub mod Parts
+pub mod Reading
