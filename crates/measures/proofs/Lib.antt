@@ -1,0 +1,11 @@
+pub mod Types
+pub mod Matching
+pub mod GrowthCases
+pub mod Edges
+pub mod Dividing
+pub mod Starting
+pub mod Choosing
+pub mod ByKind
+pub mod Children
+pub mod ElementCases
+pub mod Whole
