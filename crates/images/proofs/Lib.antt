@@ -1,0 +1,13 @@
+pub mod Marking
+pub mod Filling
+pub mod Growing
+pub mod Cases
+pub mod Rows
+pub mod Turns
+pub mod Reaching
+pub mod Listing
+pub mod Whole
+pub mod Collecting
+pub mod Descending
+pub mod Preparing
+pub mod Choosing
