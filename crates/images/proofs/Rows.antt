@@ -89,7 +89,7 @@ module _ {w : World} (u : Usable w) where
   pub usable-ready : writing.Ready (w .target .types) (w .target .kinds) (w .target .counts) (w .target .members) (w .high)
   unfolding heightOf
   usable-ready =
-      record { places = u .target-places; bounded = u .ready .target-bounded; sound = u .ready .valid .target-sound; height-at = λ t h. u .ready .heights-held t }
+      record { places = u .target-places; bounded = u .ready .target-bounded; sound = u .ready .valid .target-sound; height-at = λ t h. u .ready .heights-held t h }
 
   -- a marked edge can be read
   active-reads : {e : Edges} {d i τ : ℕ} {a : Marked} → Active w e d i τ a → Reads (w .paths .text) (w .paths .starts) (e .first) (getD (e .stop) i 0) i

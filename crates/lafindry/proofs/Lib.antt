@@ -2,3 +2,5 @@ pub mod Numbering
 pub mod Tables
 pub mod Trees
 pub mod Embeddings
+pub mod Settings
+pub mod Carrying

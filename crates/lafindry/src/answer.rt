@@ -29,7 +29,7 @@ pub fn accepting(value: u64, filler: u64) -> Answer
 }
 
 // The answer of refusal by a number, a document and a mark.
-fn refusing(refusal: u64, document: u64, mark: u64) -> Answer
+pub fn refusing(refusal: u64, document: u64, mark: u64) -> Answer
     ensures { λ r. ⌜ numbers r ≡ record { refusal = refusal; document = document; mark = mark; value = 0; filler = 0 } ⌝ }
 {
     Answer {

@@ -54,7 +54,7 @@ module _ {s t : Arrays} {p : Paths} {high fill : List ℕ} (g : Good s t p high 
         places = g .target-places;
         bounded = g .ready .target-bounded;
         sound = g .ready .valid .target-sound;
-        height-at = λ τ exists. g .ready .heights-held τ;
+        height-at = λ τ exists. g .ready .heights-held τ exists;
         fill-at = g .fill-at;
       }
 

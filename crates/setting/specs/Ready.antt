@@ -42,4 +42,4 @@ pub record Ready (s t : Arrays) (p : Paths) (targetHeights : List ℕ) : Type 0 
   pub source-bounded : dtd.Bounded (s .types) (s .counts)
   pub target-bounded : dtd.Bounded (t .types) (t .counts)
   pub paths-bounded : maps.Bounded (p .text) (p .lengths) (p .starts)
-  pub heights-held : (τ : ℕ) → getD targetHeights τ 0 ≡ heightIn (heights (settingIn s t p .target)) τ
+  pub heights-held : (τ : ℕ) → τ < t .types → getD targetHeights τ 0 ≡ heightIn (heights (settingIn s t p .target)) τ

@@ -1,0 +1,84 @@
+-- Carrying: from a judged setting, a judged tree and the outcome of carrying to the entry's answer.
+use mathlib.Core.Path.{_≡_, refl, sym, ap, _∙_, subst}
+use mathlib.Core.List.{List}
+use Prim.Native.Nat.{ℕ}
+use Rattle.lafindry.specs.declared.answer.Answer.{Answer}
+use Rattle.lafindry.specs.Numbers.{numbers, ForFault}
+use Rattle.lafindry.specs.Writing.{Answers}
+use Rattle.lafindry.proofs.Numbering.{refusalNumbers}
+use Rattle.lafindry.proofs.Settings.{setting-refused, setting-accepted, tree-refused, tree-sound, worldOf}
+use Rattle.answers.specs.declared.Fault.{Fault}
+use Rattle.answers.specs.declared.Judged.{Judged}
+use Rattle.settings.specs.declared.Setting.{Setting}
+use Rattle.settings.specs.Judging.{Refusing, Standing}
+use Rattle.settings.specs.Laws.{loadedSetting, same-setting, standing-fill}
+use Rattle.trees.specs.declared.judge.JudgedTree.{JudgedTree}
+use Rattle.trees.specs.Judging.{TreeJudged}
+use Rattle.dtd.specs.Loaded.{tableIn}
+use Rattle.images.specs.Image.{Source}
+use Rattle.carrying.specs.declared.Carried.{Carried}
+use Rattle.carrying.specs.Carrying.{FillHeld, carriedResult, Carries}
+use Rattle.model.specs.Definitions.Table.{Table, tableOf}
+use Rattle.model.specs.Definitions.Content.{contentOf}
+use Rattle.model.specs.Definitions.Refusals.{tree, sound, numbersOf, documentNumber}
+use Rattle.model.specs.Definitions.Image as image
+use Rattle.model.specs.Definitions.Entries.{Outcome, accepted, answerOf, untouched, unlessFaulty, judgedTree, settingOf, carryContent, carry}
+
+-- one of the first three documents is refused
+pub carry-refused : (s t e tr out : List ℕ) (f : Fault) (n : ℕ) (a : Answer) → Refusing s t e f n → ForFault f n a → Answers (carry s t e tr out) out a
+unfolding carry
+carry-refused s t e tr out f n a h answer = setting-refused s t e out _ f n a h answer
+
+module _ (x : Setting) (e tr : List ℕ) where
+  -- the source table as loaded
+  abbrev S : Table
+  S = tableIn (x .source .types) (x .source .kinds) (x .source .counts) (x .source .members)
+
+  -- the entry, once the first three documents are accepted: stated of the loaded setting
+  after-setting : (s t out new : List ℕ) (a : Answer) → Standing s t e x
+      → Answers (unlessFaulty (untouched out) tree (judgedTree S tr) λ u. carryContent out (loadedSetting x e) (contentOf tr)) new a → Answers (carry s t e tr out) new a
+  unfolding carry
+  after-setting s t out new a h answers =
+      subst (λ (o : Outcome). Answers o new a) (sym (setting-accepted s t e out _ (h .judges)))
+      (subst (λ (T : Table). Answers (unlessFaulty (untouched out) tree (judgedTree T tr) λ u. carryContent out (settingOf s t e) (contentOf tr)) new a) (h .source-stands .same-table)
+      (subst (λ (X : image.Setting). Answers (unlessFaulty (untouched out) tree (judgedTree S tr) λ u. carryContent out X (contentOf tr)) new a) (same-setting h) answers))
+
+  -- the tree is refused
+  pub carry-tree-refused : (out : List ℕ) (r : JudgedTree) (f : Fault) (a : Answer) → TreeJudged S tr r → r .judged ≡ Judged.Has f → ForFault f 4 a
+      → (s t : List ℕ) → Standing s t e x → Answers (carry s t e tr out) out a
+  carry-tree-refused out r f a j found answer s t h = after-setting s t out out a h (tree-refused S tr out _ r f a j found answer)
+
+  -- what carrying needs
+  pub carry-fill : {s t : List ℕ} → Standing s t e x → FillHeld (worldOf x e tr) (x .target .fill)
+  carry-fill h = record { fill-at = standing-fill h }
+
+  pub carry-source : (r : JudgedTree) → TreeJudged S tr r → r .judged ≡ Judged.Sound → {s t : List ℕ} → Standing s t e x → Source (worldOf x e tr)
+  carry-source r j found {s} h =
+      let accepted = tree-sound (x .source) s tr r (h .judges .source-sound) (h .source-stands) j found in
+      record { form = accepted .form; holds = accepted .holds }
+
+  -- what it gives is the entry's answer
+  pub carry-answers : (old new : List ℕ) (r : JudgedTree) (c : Carried) (a : Answer) → TreeJudged S tr r → r .judged ≡ Judged.Sound
+      → Carries (worldOf x e tr) old new c → numbers a ≡ answerOf (carriedResult c) → (s t : List ℕ) → Standing s t e x → Answers (carry s t e tr old) new a
+  unfolding unlessFaulty
+  carry-answers old new r c a j found done answer s t h =
+      let accepted = tree-sound (x .source) s tr r (h .judges .source-sound) (h .source-stands) j found in
+      after-setting s t old new a h
+      (rw (accepted .judgement) (record { same-answer = answer ∙ ap answerOf (done .same-answer); same-output = done .same-output }))
+
+-- ---- the answer for each outcome
+
+pub deep-answer : (c : Carried) (a : Answer) → c ≡ Carried.TooDeep → numbers a ≡ refusalNumbers 12 5 0 → numbers a ≡ answerOf (carriedResult c)
+unfolding answerOf numbersOf documentNumber
+deep-answer c a e answer = answer ∙ rw e refl
+
+pub long-answer : (c : Carried) (a : Answer) → c ≡ Carried.TooLong → numbers a ≡ refusalNumbers 13 5 0 → numbers a ≡ answerOf (carriedResult c)
+unfolding answerOf numbersOf documentNumber
+long-answer c a e answer = answer ∙ rw e refl
+
+pub room-answer : (c : Carried) (a : Answer) → c ≡ Carried.NoRoom → numbers a ≡ refusalNumbers 14 5 0 → numbers a ≡ answerOf (carriedResult c)
+unfolding answerOf numbersOf documentNumber
+room-answer c a e answer = answer ∙ rw e refl
+
+pub written-answer : (c : Carried) (n f : ℕ) (a : Answer) → c ≡ Carried.Written n f → numbers a ≡ answerOf (accepted n f) → numbers a ≡ answerOf (carriedResult c)
+written-answer c n f a e answer = answer ∙ rw e refl
