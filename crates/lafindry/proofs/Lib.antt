@@ -4,3 +4,4 @@ pub mod Trees
 pub mod Embeddings
 pub mod Settings
 pub mod Carrying
+pub mod Bringing

@@ -1,3 +1,4 @@
 pub mod Numbers
 pub mod Judging
 pub mod Writing
+pub mod Program

@@ -1,0 +1,142 @@
+-- From what was read back to the model's answer.
+use mathlib.Core.Path.{_≡_, refl, sym, ap, _∙_}
+use mathlib.Core.List.{List}
+use mathlib.Core.Option.{Option, none, some}
+use Prim.Native.Nat.{ℕ, _-_, _≤_, _<_}
+use native.Mathlib.Nat.{zero-add}
+use native.Mathlib.Omega.{arith}
+use lib.ListN.{length, take}
+use lib.Seq.{take-all}
+use borrow.Author.Tests.{le-leb, lt-leb}
+use Rattle.model.specs.Definitions.Content.{Content, contentOf, document}
+use Rattle.model.specs.Definitions.Image.{Setting, image}
+use Rattle.model.specs.Definitions.Inverse.{readBack, bringBackContent}
+use Rattle.model.specs.Definitions.Entries.{accepted, Outcome, untouched, written, bringWithin, bringContent}
+use Rattle.model.specs.Theorems.Facts.{Valid}
+use Rattle.model.specs.Theorems.Documents.{content-of-document, document-injective}
+use Rattle.model.specs.Theorems.NeverLonger.{document-never-longer}
+use Rattle.model.specs.Theorems.BringingBack as model
+use Rattle.model.specs.Theorems.BringingBack.{read-image, read-conforms, brought-exactly, nothing-exactly}
+use Rattle.writing.specs.Writing.{Writes}
+use Rattle.writing.specs.Laws.{writes-length}
+use Rattle.inverse.specs.Reading.{BringsTo}
+use Rattle.images.specs.Setting.{World, settingOf, Usable}
+use Rattle.images.specs.Image.{Source, imageDocument}
+use Rattle.bringing.specs.declared.Brought.{Brought}
+use Rattle.bringing.specs.Bringing.{FillHeld, Target, ReadFrom, Brings, broughtResult}
+use Rattle.bringing.proofs.Imaging.{front}
+
+-- the same arrays with another document
+abbrev pub withTree : World → List ℕ → World
+withTree w tree = record { source = w .source; target = w .target; paths = w .paths; high = w .high; tree = tree }
+
+-- are as usable, and hold the same filler lengths
+pub usable-with : {w : World} → Usable w → (tree : List ℕ) → Usable (withTree w tree)
+usable-with u tree = record { ready = u .ready; source-places = u .source-places; target-places = u .target-places }
+
+pub fill-with : {w : World} {fill : List ℕ} → FillHeld w fill → (tree : List ℕ) → FillHeld (withTree w tree) fill
+fill-with f tree = record { fill-at = f .fill-at }
+
+-- what was read lies within the buffer
+pub read-within : {old new : List ℕ} {n : ℕ} {sought : Option Content} → BringsTo old new n sought → n ≤ length new
+read-within b = omega (arith, b .fits, writes-length (b .written))
+
+-- and stands at its start
+pub read-front : {w : World} {old new : List ℕ} {n : ℕ} → BringsTo old new n (readBack (settingOf w) (contentOf (w .tree))) → ReadFrom w (take n new)
+read-front {w} {old} {new} {n} b =
+    let long : n ≡ length (document 0 (b .content)) = omega (arith, b .written .after) in
+    record { content = b .content; is = b .is; bytes-are = rw (b .written .written, long) (front old (document 0 (b .content)) (omega (arith, b .fits))) }
+
+-- ---- the model's answer for what bringing back finds
+
+module _ (w : World) (old : List ℕ) where
+  -- an outcome that is the model's gives answer and output
+  outcome : (new : List ℕ) (b : Brought) {o : Outcome} → bringContent old (bringBackContent (settingOf w) (contentOf (w .tree))) ≡ o → broughtResult b ≡ o .result → new ≡ o .output → Brings w old new b
+  outcome new b is answer output =
+      record { same-answer = answer ∙ sym (ap (λ (o : Outcome). o .result) is); same-output = output ∙ sym (ap (λ (o : Outcome). o .output) is) }
+
+  -- there is no source
+  no-image : bringBackContent (settingOf w) (contentOf (w .tree)) ≡ none → Brings w old old Brought.NoImage
+  unfolding bringContent untouched
+  no-image e = outcome old Brought.NoImage (ap (bringContent old) e) refl refl
+
+  module _ (k : Content) (found : bringBackContent (settingOf w) (contentOf (w .tree)) ≡ some k) where
+    -- there is no room for it
+    no-room : length old < length (document 0 k) → Brings w old old Brought.NoRoom
+    unfolding bringContent bringWithin untouched
+    no-room less = outcome old Brought.NoRoom (rw (found, lt-leb _ _ less) refl) refl refl
+
+    -- it is written
+    brings : (new : List ℕ) (n : ℕ) → length (document 0 k) ≤ length old → Writes old new 0 (document 0 k) n → Brings w old new (Brought.Written n)
+    unfolding bringContent bringWithin written
+    brings new n room done = outcome new (Brought.Written n) {o = written old (document 0 k) 0} (rw (found, le-leb _ _ room) refl) (ap (λ (m : ℕ). accepted m 0) (done .after ∙ zero-add _)) (done .written)
+
+-- ---- from what was read
+
+module _ {w : World} (u : Usable w) (t : Target w) where
+  abbrev X : Setting
+  X = settingOf w
+
+  abbrev given : Content
+  given = contentOf (w .tree)
+
+  valid : Valid X
+  valid = u .ready .valid
+
+  -- a document with this image is found by reading
+  read-it : (k : Content) → model.Source X valid k → image X k ≡ given → readBack X given ≡ some k
+  read-it k h e = rw (← e) (read-image X valid k h)
+
+  -- Where nothing is read, or nothing that fits 60,000 bytes, there is no source: it would be read, and would not be longer than
+  -- the given document.
+  pub nothing-read : (old : List ℕ) → ((k : Content) → readBack X given ≡ some k → 60000 < length (document 0 k)) → Brings w old old Brought.NoImage
+  nothing-read old far =
+      no-image w old
+      (nothing-exactly X valid given .1
+      λ k h e. omega (arith, far k (read-it k h e), document-never-longer X valid k h, ap (λ (l : Content). length (document 0 l)) e, ap length (t .form), t .short))
+
+  -- the source document that was read
+  module _ {source : List ℕ} (r : ReadFrom w source) where
+    -- it holds what the source's root may hold, since the given document conforms to the target table
+    conforms : model.Source X valid (r .content)
+    conforms = read-conforms X valid given (r .content) (t .holds) (r .is)
+
+    -- what it holds is what was read
+    content-is : contentOf source ≡ r .content
+    content-is = ap contentOf (r .bytes-are) ∙ content-of-document 0 (r .content)
+
+    -- it is a conforming source document
+    pub source-read : Source (withTree w source)
+    source-read = record { form = rw content-is (r .bytes-are); holds = rw content-is conforms }
+
+    -- so its image is the image of what was read
+    image-is : imageDocument (withTree w source) ≡ document 0 (image X (r .content))
+    unfolding imageDocument
+    image-is = rw content-is refl
+
+    -- the given document is not its image: a source would have been read, so there is none
+    pub other-image : (old : List ℕ) → (imageDocument (withTree w source) ≡ w .tree → ⊥) → Brings w old old Brought.NoImage
+    other-image old apart =
+        no-image w old
+        (nothing-exactly X valid given .1
+        λ k h e. apart (image-is ∙ ap (document 0) (ap (image X) (same (r .is) (read-it k h e)) ∙ e) ∙ sym (t .form)))
+      where
+        same : {o : Option Content} {j k : Content} → o ≡ some j → o ≡ some k → j ≡ k
+        same p q = cc
+
+    module _ (old : List ℕ) (is-image : imageDocument (withTree w source) ≡ w .tree) where
+      -- the given document is its image: bringing back finds it
+      found : bringBackContent X given ≡ some (r .content)
+      found =
+          brought-exactly X valid given (r .content) .1
+          (conforms, document-injective 0 0 (image X (r .content)) given (sym image-is ∙ is-image ∙ t .form) .1)
+
+      -- it doesn't fit
+      pub source-no-room : length old < length source → Brings w old old Brought.NoRoom
+      source-no-room less = no-room w old (r .content) found (rw (← r .bytes-are) less)
+
+      -- it is copied
+      pub source-copied : {new : List ℕ} {n : ℕ} → length source ≤ length old → Writes old new 0 (take (length source - 0) source) n → Brings w old new (Brought.Written n)
+      source-copied {new} {n} room done =
+          let whole : take (length source - 0) source ≡ document 0 (r .content) = take-all (length source - 0) source (omega arith) ∙ r .bytes-are in
+          brings w old (r .content) found new n (rw (← r .bytes-are) room) (rw whole at done)

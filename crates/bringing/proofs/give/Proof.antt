@@ -1,0 +1,55 @@
+-- `give` meets its contract: the document that was read is the source exactly where the given document is its image.
+use Rattle.bringing.proofs.Comparing.{denied, confirmed}
+use Rattle.bringing.proofs.Answering.{usable-with, fill-with, source-read, other-image, source-no-room, source-copied}
+use borrow.Author.Needs.{needs}
+use Rattle.bringing.proofs.give.Statement.{statement}
+use Rattle.bringing.proofs.give.Tie as tie
+
+is-image-requires : tie.Need-is-image-requires
+is-image-requires c κs =
+    let given = c .before .before .before .before .before .before .pre in
+    (usable-with (given .0) _, (fill-with (given .1 .0) _, (source-read (given .0) (given .1 .1 .0) (given .1 .1 .1 .0), (given .1 .1 .0 .short, given .1 .1 .1 .1))))
+
+same-length : tie.Need-same-length
+same-length c = search needs
+
+returns : tie.Need-returns
+returns c =
+    let given = c .before .before .before .before .before .before .before .before .before .before .pre in
+    other-image (given .0) (given .1 .1 .0) (given .1 .1 .1 .0) _ (denied _ (c .before .before .before .is-image .ensures) (c .if1 .taken))
+
+same-length-2 : tie.Need-same-length-2
+same-length-2 c = search needs
+
+returns-2 : tie.Need-returns-2
+returns-2 c =
+    let given = c .before .before .before .before .before .before .before .before .before .before .before .pre in
+    source-no-room (given .0) (given .1 .1 .0) (given .1 .1 .1 .0) _ (confirmed _ (c .before .before .before .before .is-image .ensures) (c .before .if1 .left)) (c .if2 .taken)
+
+copy-requires : tie.Need-copy-requires
+copy-requires c κs = search needs
+
+same-length-3 : tie.Need-same-length-3
+same-length-3 c = search needs
+
+same-length-4 : tie.Need-same-length-4
+same-length-4 c = search needs
+
+returns-3 : tie.Need-returns-3
+returns-3 c =
+    let given = c .before .before .before .before .before .before .before .before .before .before .before .before .before .before .before .pre in
+    source-copied (given .0) (given .1 .1 .0) (given .1 .1 .1 .0) _ (confirmed _ (c .before .before .before .before .before .before .before .before .is-image .ensures) (c .before .before .before .before .before .if1 .left)) (c .before .before .before .before .if2 .left) (c .before .before .copy .ensures)
+
+pub give-spec : {M : Type 1} → statement M
+give-spec =
+    tie.close
+    (tie.spec
+    is-image-requires
+    same-length
+    returns
+    same-length-2
+    returns-2
+    copy-requires
+    same-length-3
+    same-length-4
+    returns-3)
