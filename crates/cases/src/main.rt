@@ -1,13 +1,27 @@
 // Runs worked cases through the entries: reads them from standard input, as tools/make-cases writes them, and prints a
-// line for each: `ok`, value and filler elements, or `refused`, number, document and mark.
+// line for each: `ok`, value, filler elements and, where the entry writes, the bytes written in hexadecimal; or `refused`,
+// number, document and mark.
 use answers_of::print;
+use answers_of::print_written;
 use documents::read;
+use documents::room;
 
 mod answers_of;
 mod documents;
 
+// A case of carry, entry 4, or of bring back.
+fn write<'a>(entry: u8, a: &[u8], b: &[u8], c: &'a [u8], d: &'a [u8], out: &mut [u8]) {
+    if entry == 4 {
+        let answer = lafindry::carry::lafindry_carry(a, b, c, d, out);
+        print_written(answer, out);
+    } else {
+        let answer = lafindry::bring_back::lafindry_bring_back(a, b, c, d, out);
+        print_written(answer, out);
+    }
+}
+
 // One case: the documents that its entry takes are read, the entry is called, its answer printed.
-fn run(entry: u8, a: &mut [u8], b: &mut [u8], c: &mut [u8]) {
+fn run(entry: u8, a: &mut [u8], b: &mut [u8], c: &mut [u8], d: &mut [u8], out: &mut [u8]) {
     let la = read(a);
     if entry == 1 {
         print(lafindry::judging::lafindry_judge_table(&a[..la]));
@@ -19,7 +33,20 @@ fn run(entry: u8, a: &mut [u8], b: &mut [u8], c: &mut [u8]) {
         return;
     }
     let lc = read(c);
-    print(lafindry::judging::lafindry_judge_embedding(&a[..la], &b[..lb], &c[..lc]));
+    if entry == 2 {
+        print(lafindry::judging::lafindry_judge_embedding(&a[..la], &b[..lb], &c[..lc]));
+        return;
+    }
+    let ld = read(d);
+    let lent = room(out);
+    write(
+        entry,
+        &a[..la],
+        &b[..lb],
+        &c[..lc],
+        &d[..ld],
+        &mut out[..lent],
+    );
 }
 
 // One case, with buffers of its own.
@@ -27,7 +54,9 @@ fn one(entry: u8) {
     let mut a = io::large_buffer();
     let mut b = io::large_buffer();
     let mut c = io::large_buffer();
-    run(entry, &mut a, &mut b, &mut c);
+    let mut d = io::large_buffer();
+    let mut out = io::large_buffer();
+    run(entry, &mut a, &mut b, &mut c, &mut d, &mut out);
 }
 
 // The next case's entry, or 0 where there is none.
