@@ -1,28 +1,27 @@
 -- Carrying: from a judged setting, a judged tree and the outcome of carrying to the entry's answer.
-use mathlib.Core.Path.{_≡_, refl, sym, ap, _∙_, subst}
+use mathlib.Core.Path.{_≡_, refl, ap, _∙_}
 use mathlib.Core.List.{List}
 use Prim.Native.Nat.{ℕ}
 use Rattle.lafindry.specs.declared.answer.Answer.{Answer}
 use Rattle.lafindry.specs.Numbers.{numbers, ForFault}
 use Rattle.lafindry.specs.Writing.{Answers}
 use Rattle.lafindry.proofs.Numbering.{refusalNumbers}
-use Rattle.lafindry.proofs.Settings.{setting-refused, setting-accepted, tree-refused, tree-sound, worldOf}
+use Rattle.lafindry.proofs.Settings.{setting-refused, afterTree, after-setting, tree-refused, tree-accepted, tree-sound, worldOf}
 use Rattle.answers.specs.declared.Fault.{Fault}
 use Rattle.answers.specs.declared.Judged.{Judged}
 use Rattle.settings.specs.declared.Setting.{Setting}
 use Rattle.settings.specs.Judging.{Refusing, Standing}
-use Rattle.settings.specs.Laws.{loadedSetting, same-setting, standing-fill}
+use Rattle.settings.specs.Laws.{loadedSetting, standing-fill}
 use Rattle.trees.specs.declared.judge.JudgedTree.{JudgedTree}
 use Rattle.trees.specs.Judging.{TreeJudged}
 use Rattle.dtd.specs.Loaded.{tableIn}
 use Rattle.images.specs.Image.{Source}
 use Rattle.carrying.specs.declared.Carried.{Carried}
 use Rattle.carrying.specs.Carrying.{FillHeld, carriedResult, Carries}
-use Rattle.model.specs.Definitions.Table.{Table, tableOf}
+use Rattle.model.specs.Definitions.Table.{Table}
 use Rattle.model.specs.Definitions.Content.{contentOf}
-use Rattle.model.specs.Definitions.Refusals.{tree, sound, numbersOf, documentNumber}
-use Rattle.model.specs.Definitions.Image as image
-use Rattle.model.specs.Definitions.Entries.{Outcome, accepted, answerOf, untouched, unlessFaulty, judgedTree, settingOf, carryContent, carry}
+use Rattle.model.specs.Definitions.Refusals.{numbersOf, documentNumber}
+use Rattle.model.specs.Definitions.Entries.{accepted, answerOf, carryContent, carry}
 
 -- one of the first three documents is refused
 pub carry-refused : (s t e tr out : List ℕ) (f : Fault) (n : ℕ) (a : Answer) → Refusing s t e f n → ForFault f n a → Answers (carry s t e tr out) out a
@@ -35,18 +34,15 @@ module _ (x : Setting) (e tr : List ℕ) where
   S = tableIn (x .source .types) (x .source .kinds) (x .source .counts) (x .source .members)
 
   -- the entry, once the first three documents are accepted: stated of the loaded setting
-  after-setting : (s t out new : List ℕ) (a : Answer) → Standing s t e x
-      → Answers (unlessFaulty (untouched out) tree (judgedTree S tr) λ u. carryContent out (loadedSetting x e) (contentOf tr)) new a → Answers (carry s t e tr out) new a
+  entry : (s t out new : List ℕ) (a : Answer) → Standing s t e x
+      → Answers (afterTree S tr out (carryContent out (loadedSetting x e) (contentOf tr))) new a → Answers (carry s t e tr out) new a
   unfolding carry
-  after-setting s t out new a h answers =
-      subst (λ (o : Outcome). Answers o new a) (sym (setting-accepted s t e out _ (h .judges)))
-      (subst (λ (T : Table). Answers (unlessFaulty (untouched out) tree (judgedTree T tr) λ u. carryContent out (settingOf s t e) (contentOf tr)) new a) (h .source-stands .same-table)
-      (subst (λ (X : image.Setting). Answers (unlessFaulty (untouched out) tree (judgedTree S tr) λ u. carryContent out X (contentOf tr)) new a) (same-setting h) answers))
+  entry s t out new a h answers = after-setting s t e tr out new a x (λ X. carryContent out X (contentOf tr)) h (h .source-stands .same-table) answers
 
   -- the tree is refused
   pub carry-tree-refused : (out : List ℕ) (r : JudgedTree) (f : Fault) (a : Answer) → TreeJudged S tr r → r .judged ≡ Judged.Has f → ForFault f 4 a
       → (s t : List ℕ) → Standing s t e x → Answers (carry s t e tr out) out a
-  carry-tree-refused out r f a j found answer s t h = after-setting s t out out a h (tree-refused S tr out _ r f a j found answer)
+  carry-tree-refused out r f a j found answer s t h = entry s t out out a h (tree-refused S tr out _ r f a j found answer)
 
   -- what carrying needs
   pub carry-fill : {s t : List ℕ} → Standing s t e x → FillHeld (worldOf x e tr) (x .target .fill)
@@ -60,11 +56,10 @@ module _ (x : Setting) (e tr : List ℕ) where
   -- what it gives is the entry's answer
   pub carry-answers : (old new : List ℕ) (r : JudgedTree) (c : Carried) (a : Answer) → TreeJudged S tr r → r .judged ≡ Judged.Sound
       → Carries (worldOf x e tr) old new c → numbers a ≡ answerOf (carriedResult c) → (s t : List ℕ) → Standing s t e x → Answers (carry s t e tr old) new a
-  unfolding unlessFaulty
   carry-answers old new r c a j found done answer s t h =
       let accepted = tree-sound (x .source) s tr r (h .judges .source-sound) (h .source-stands) j found in
-      after-setting s t old new a h
-      (rw (accepted .judgement) (record { same-answer = answer ∙ ap answerOf (done .same-answer); same-output = done .same-output }))
+      entry s t old new a h
+      (tree-accepted S tr old new _ a (accepted .judgement) (record { same-answer = answer ∙ ap answerOf (done .same-answer); same-output = done .same-output }))
 
 -- ---- the answer for each outcome
 

@@ -16,7 +16,7 @@ use Rattle.settings.specs.declared.Verdict.{Verdict}
 use Rattle.settings.specs.declared.Setting.{Setting}
 use Rattle.settings.specs.declared.JudgedSetting.{JudgedSetting}
 use Rattle.settings.specs.Judging.{Refusing, by-source, by-target, by-embedding, Standing, ByVerdict, SettingJudged}
-use Rattle.settings.specs.Laws.{same-setting, standing-ready, standing-fill}
+use Rattle.settings.specs.Laws.{loadedSetting, same-setting, standing-ready}
 use Rattle.trees.specs.declared.judge.JudgedTree.{JudgedTree}
 use Rattle.trees.specs.Judging.{TreeJudged}
 use Rattle.dtd.specs.declared.Table as dtd
@@ -26,7 +26,8 @@ use Rattle.model.specs.Definitions.Table.{Table, tableOf, kindOf}
 use Rattle.model.specs.Definitions.Content.{contentOf, document}
 use Rattle.model.specs.Definitions.Conformance.{Holds}
 use Rattle.model.specs.Definitions.Refusals.{Document, source-table, target-table, embedding, tree, documentNumber, faulty, sound, has, fits, maxLength}
-use Rattle.model.specs.Definitions.Entries.{Outcome, refused, answerOf, untouched, unlessFaulty, judgedTable, judgedEmbedding, judgedTree}
+use Rattle.model.specs.Definitions.Image as image
+use Rattle.model.specs.Definitions.Entries.{Outcome, settingOf, answerOf, untouched, unlessFaulty, judgedTable, judgedEmbedding, judgedTree}
 use Rattle.model.specs.Theorems.Facts.{SoundTable}
 use Rattle.model.specs.Theorems.JudgedTables.{table-sound, tree-checks}
 use Rattle.model.specs.Theorems.Documents.{accepted-content}
@@ -53,13 +54,26 @@ setting-refused s t e out later f n a (by-target g h) answer = rw (g, h) (fault-
 setting-refused s t e out later f n a (by-embedding g h i) answer = rw (g, h, i) (fault-answers out embedding f a refl answer)
 
 -- none is
-pub setting-accepted : (s t e out : List ℕ) (later : Outcome) → Judges s t e → afterSetting s t e out later ≡ later
+setting-accepted : (s t e out : List ℕ) (later : Outcome) → Judges s t e → afterSetting s t e out later ≡ later
 unfolding unlessFaulty
 setting-accepted s t e out later j = rw (j .source-sound, j .target-sound, j .embedding-sound) refl
 
+-- what an entry that writes answers once the setting is accepted: the tree's fault, or what is done with it
+abbrev pub afterTree : Table → List ℕ → List ℕ → Outcome → Outcome
+afterTree T tr out done = unlessFaulty (untouched out) tree (judgedTree T tr) λ u. done
+
+-- An entry's answer for the documents' tables is its answer for the loaded ones: `T` is the table that judges the tree, as the
+-- document writes it and as loaded, and `done` what is done with an accepted tree.
+pub after-setting : (s t e tr out new : List ℕ) (a : Answer) (x : Setting) (done : image.Setting → Outcome) {T loaded : Table} → Standing s t e x → loaded ≡ T
+    → Answers (afterTree loaded tr out (done (loadedSetting x e))) new a → Answers (afterSetting s t e out (afterTree T tr out (done (settingOf s t e)))) new a
+after-setting s t e tr out new a x done {T} {loaded} h same answers =
+    subst (λ (o : Outcome). Answers o new a) (sym (setting-accepted s t e out _ (h .judges)))
+    (subst (λ (U : Table). Answers (afterTree U tr out (done (settingOf s t e))) new a) same
+    (subst (λ (X : image.Setting). Answers (afterTree loaded tr out (done X)) new a) (same-setting h) answers))
+
 -- the tree is refused
 pub tree-refused : (S : Table) (tr out : List ℕ) (later : Outcome) (r : JudgedTree) (f : Fault) (a : Answer) → TreeJudged S tr r → r .judged ≡ Judged.Has f → ForFault f 4 a
-    → Answers (unlessFaulty (untouched out) tree (judgedTree S tr) λ u. later) out a
+    → Answers (afterTree S tr out later) out a
 unfolding unlessFaulty documentNumber
 tree-refused S tr out later r f a h e answer =
     let found : judgedTree S tr ≡ has (fault f) = sym (h .same-judgement) ∙ ap judged e in
@@ -71,6 +85,11 @@ pub record Accepted (S : Table) (tr : List ℕ) : Type 0 where
   pub form : tr ≡ document 0 (contentOf tr)
   pub holds : Holds S (kindOf S 0) (contentOf tr)
   pub short : length tr ≤ 60000
+
+-- an accepted tree: what is done with it is the answer
+pub tree-accepted : (S : Table) (tr out new : List ℕ) (done : Outcome) (a : Answer) → judgedTree S tr ≡ sound → Answers done new a → Answers (afterTree S tr out done) new a
+unfolding unlessFaulty
+tree-accepted S tr out new done a found answers = rw found answers
 
 pub tree-sound : (b : dtd.Table) (bs tr : List ℕ) (r : JudgedTree) → judgedTable bs ≡ sound → Stands b (tableOf bs)
     → TreeJudged (tableIn (b .types) (b .kinds) (b .counts) (b .members)) tr r → r .judged ≡ Judged.Sound → Accepted (tableIn (b .types) (b .kinds) (b .counts) (b .members)) tr
