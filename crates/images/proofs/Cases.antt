@@ -1,25 +1,21 @@
 -- The cases of `grow`: nothing is placed; something is placed right here; something is placed further below.
 use mathlib.Core.Path.{_≡_, refl, sym, ap, _∙_, subst}
-use mathlib.Core.Bool.{Bool, true, false}
-use mathlib.Core.List.{List, [], _∷_, _++_, List·Memᴰ, List·Memᴰ·head}
-use mathlib.Core.Option.{Option, none, some}
-use Prim.Native.Nat.{ℕ, zero, suc, _+_, _-_, _*_, _≤_, _<_}
+use mathlib.Core.Bool.{Bool, true}
+use mathlib.Core.List.{List, [], _∷_, List·Memᴰ·head}
+use mathlib.Core.Option.{some}
+use Prim.Native.Nat.{ℕ, suc, _+_, _<_}
 use native.Mathlib.Nat.{add-zero, add-suc, suc-add}
 use native.Mathlib.Omega.{arith}
-use lib.ListN.{length, getD, take, drop}
-use lib.Seq.{drop-cons, getD-drop, getD-take, drop-drop}
-use lib.Dec.{eqb}
-use borrow.Author.Tests.{eqb-true, eqb-false, eq-eqb}
+use lib.ListN.{length}
 use Rattle.model.specs.Definitions.Basics.{entry}
-use Rattle.model.specs.Definitions.Table.{Kind, text, empty, sequence, choice, list, Table, kindOf, membersOf, stepFrom}
-use Rattle.model.specs.Definitions.Embedding.{next, endOf}
+use Rattle.model.specs.Definitions.Table.{sequence, Table, kindOf, membersOf, stepFrom}
+use Rattle.model.specs.Definitions.Embedding.{next}
 use Rattle.model.specs.Definitions.Filler.{known}
 use Rattle.model.specs.Definitions.Image.{Placement, placed, under, isPlaced, growMembers, growKind, grow}
 use Rattle.model.specs.Theorems.Facts.{WellFormed, Fits, nothing-placed, right-here, below-sequence, below-choice, below-list}
-use Rattle.model.specs.Theorems.Tools.{some-none, entry-member}
+use Rattle.model.specs.Theorems.Tools.{entry-member}
 use Rattle.model.specs.Theorems.Placing.{entry-next, item-next, under-same}
 use Rattle.model.specs.Theorems.Measures.{Marked, marked, marked-end, marked-elem}
-use Rattle.dtd.specs.Loaded.{kindFrom}
 use Rattle.images.specs.Growing.{RowFits, row-none, row-more}
 
 one-plus : (j : ℕ) → 1 + j ≡ suc j

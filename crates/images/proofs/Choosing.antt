@@ -10,22 +10,22 @@ use lib.ListN.{length, getD, take, drop, length-drop}
 use lib.Seq.{getD-drop, getD-take, length-take-le}
 use lib.Dec.{eqb}
 use borrow.Author.Tests.{eqb-true, eqb-false, eq-eqb, ne-eqb}
-use Rattle.model.specs.Definitions.Basics.{pick, some-of}
+use Rattle.model.specs.Definitions.Basics.{some-of}
 use Rattle.model.specs.Definitions.Table.{Kind, text, empty, sequence, choice, list, Table, kindOf, membersOf, edgesOf, isList}
-use Rattle.model.specs.Definitions.Content.{Content, end, char, elem, bytes}
-use Rattle.model.specs.Definitions.Conformance.{Holds, no-member, one-member, chosen, no-item, one-item}
+use Rattle.model.specs.Definitions.Content.{Content, end, elem, bytes}
+use Rattle.model.specs.Definitions.Conformance.{Holds, no-member, one-member, chosen}
 use Rattle.model.specs.Definitions.Embedding.{targetOf, next, endOf, leaves, Divided, divide, divideAt}
 use Rattle.model.specs.Definitions.EmbeddingChecks.{maxSteps}
-use Rattle.model.specs.Definitions.Image.{Placement, placed, placements, Child, letter, element, children, alongPaths, alongChoice, pathOfMember, onlyPath, alongList, itemsOf, place}
-use Rattle.model.specs.Theorems.Facts.{Walks, MemberPath, GoodPath, ValidEdges, text-edge, no-edge, sequence-edges, choice-edges, list-edge}
+use Rattle.model.specs.Definitions.Image.{placed, placements, children, alongPaths, alongChoice, pathOfMember, onlyPath, alongList, itemsOf, place}
+use Rattle.model.specs.Theorems.Facts.{Walks, MemberPath, ValidEdges, list-edge}
 use Rattle.model.specs.Theorems.Tools.{pick-true, pick-false, true-false}
-use Rattle.model.specs.Theorems.Placing.{GoodParts, divide-good, AtList, divide-at-list}
+use Rattle.model.specs.Theorems.Placing.{divide-good, divide-at-list}
 use Rattle.model.specs.Theorems.ImageConforms.{list-left}
 use Rattle.model.specs.Theorems.Measures.{Marked, marked}
 use Rattle.dtd.specs.Loaded.{length-in, kindFrom}
 use Rattle.maps.specs.Loaded.{stepsFrom}
 use Rattle.scanning.specs.Scanning.{At}
-use Rattle.scanning.specs.Laws.{content-within, element-first, Opens, opens, opens-next}
+use Rattle.scanning.specs.Laws.{content-within, element-first, opens, opens-next}
 use Rattle.images.specs.declared.Edges.{Edges}
 use Rattle.images.specs.Setting.{World, settingOf, sourceOf, targetTable, fillersIn, imageIn, Usable}
 use Rattle.images.specs.Selecting.{OneEdge, IsElement, IsList, Carried, inner, listed, Active, Selected, edge-on, restOf}

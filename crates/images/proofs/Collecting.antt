@@ -1,16 +1,14 @@
 -- The loop of `member_edges`: the members before index i are done, and the rest begins at offset o.
-use mathlib.Core.Path.{_≡_, refl, sym, ap, _∙_, subst}
+use mathlib.Core.Path.{_≡_, refl, sym, ap, _∙_}
 use mathlib.Core.List.{List}
-use Prim.Native.Nat.{ℕ, zero, suc, _+_, _-_, _≤_, _<_}
-use native.Mathlib.Nat.{add-zero, add-suc, suc-add}
-use native.Mathlib.Numerals.{add-one}
+use Prim.Native.Nat.{ℕ, suc, _+_, _≤_, _<_}
+use native.Mathlib.Nat.{add-zero}
 use native.Mathlib.Omega.{arith}
 use lib.ListN.{length, getD, set, length-set}
 use lib.Seq.{getD-set-other}
 use Rattle.model.specs.Definitions.Content.{Content, end, char, elem, bytes}
 use Rattle.scanning.specs.Scanning.{At}
 use Rattle.scanning.specs.Laws.{content-within, element-first, Opens, opens, opens-next}
-use Rattle.images.specs.declared.Edges.{Edges}
 use Rattle.images.specs.Preparing.{children, childOffset, MemberEdges}
 use Rattle.images.proofs.Marking.{below-set}
 

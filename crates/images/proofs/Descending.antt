@@ -1,18 +1,17 @@
 -- The loop of `list_depth`: no list was met before step d.
 use mathlib.Core.Path.{_≡_, refl, sym, ap, _∙_, subst}
-use mathlib.Core.Bool.{Bool, true, false}
+use mathlib.Core.Bool.{true, false}
 use mathlib.Core.List.{List, [], _∷_, List·Memᴰ}
 use mathlib.Core.Option.{some}
 use Prim.Native.Nat.{ℕ, zero, suc, _+_, _-_, _*_, _≤_, _<_}
 use native.Mathlib.Nat.{add-zero}
-use native.Mathlib.Numerals.{add-one}
 use native.Mathlib.Omega.{arith}
-use lib.ListN.{length, getD, take, drop}
+use lib.ListN.{length, getD, drop}
 use lib.Seq.{getD-drop}
 use Rattle.model.specs.Definitions.Basics.{some-of}
 use Rattle.model.specs.Definitions.Table.{Kind, text, empty, sequence, choice, list, Table, kindOf, membersOf, stepFrom, isList}
-use Rattle.model.specs.Definitions.Embedding.{next, leaves, Divided, divide, divideAt}
-use Rattle.model.specs.Theorems.Facts.{WellFormed, Walks, onward}
+use Rattle.model.specs.Definitions.Embedding.{next, leaves, divide, divideAt}
+use Rattle.model.specs.Theorems.Facts.{Walks, onward}
 use Rattle.model.specs.Theorems.Tools.{true-false, entry-member}
 use Rattle.dtd.specs.Loaded.{tableIn, kindFrom, kindIn, kind-in, length-in}
 use Rattle.maps.specs.Loaded.{stepsFrom}

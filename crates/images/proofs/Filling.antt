@@ -9,7 +9,7 @@ use Rattle.model.specs.Definitions.Basics.{pick}
 use Rattle.model.specs.Definitions.Table.{Kind, text, empty, sequence, choice, list, Table}
 use Rattle.model.specs.Definitions.Heights.{leastMember, heights}
 use Rattle.model.specs.Definitions.Filler.{Builder, content, fillersOf, known, fillMembers, fillKind, fillTo, fillers}
-use Rattle.model.specs.Theorems.Measures.{Hom, Marked, marked, marked-end, marked-char, marked-elem, unmarked, countFiller}
+use Rattle.model.specs.Theorems.Measures.{Hom, Marked, marked, marked-elem, unmarked, countFiller}
 
 module _ {A A′ : Type 0} (B : Builder A) (B′ : Builder A′) (h : A → A′) (H : Hom B B′ h) where
   known-same : (fs : List A) (t : ℕ) → h (known B fs t) ≡ known B′ (map h fs) t

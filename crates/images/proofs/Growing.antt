@@ -1,33 +1,21 @@
 -- What `grow`, `placed` and `element` hand on and give back.
 use mathlib.Core.Path.{_≡_, refl, sym, ap, _∙_, subst}
 use mathlib.Core.Bool.{Bool, true, false}
-use mathlib.Core.List.{List, [], _∷_, _++_, append-assoc, append-nil}
-use mathlib.Core.Option.{Option, none, some}
-use Prim.Native.Nat.{ℕ, zero, suc, _+_, _-_, _*_, _≤_, _<_}
+use mathlib.Core.List.{List, [], _∷_, _++_}
+use Prim.Native.Nat.{ℕ, _+_, _≤_, _<_}
 use native.Mathlib.Omega.{arith}
-use lib.ListN.{length, getD, take, drop, length-append}
-use lib.Seq.{sets, length-sets, drop-cons}
-use lib.Dec.{eqb}
-use borrow.Author.Tests.{eqb-true, eqb-false, eq-eqb, ne-eqb}
-use Rattle.model.specs.Definitions.Basics.{entry}
-use Rattle.model.specs.Definitions.Table.{Kind, text, empty, sequence, choice, list, Table, kindOf, membersOf, stepFrom}
-use Rattle.model.specs.Definitions.Content.{Content, bytes}
-use Rattle.model.specs.Definitions.Embedding.{next, endOf}
-use Rattle.model.specs.Definitions.Filler.{content, fillersOf, known, fillers}
-use Rattle.model.specs.Definitions.Image.{Placement, placed, under, isPlaced, growMembers, growKind, grow}
-use Rattle.model.specs.Theorems.Facts.{Fits, nothing-placed, right-here, below-sequence, below-choice, below-list}
-use Rattle.model.specs.Theorems.Measures.{Marked, marked, marked-end, marked-elem, unmarked, countFiller}
-use Rattle.dtd.specs.Loaded.{kind-in, length-in}
+use lib.ListN.{length, length-append}
+use Rattle.model.specs.Definitions.Content.{bytes}
+use Rattle.model.specs.Definitions.Image.{isPlaced}
+use Rattle.model.specs.Theorems.Measures.{Marked, marked-end, marked-elem, unmarked, countFiller}
 use Rattle.writing.specs.declared.Wrote.{Wrote}
-use Rattle.writing.specs.Writing as writing
-use Rattle.writing.specs.Writing.{Writes, Fills}
+use Rattle.writing.specs.Writing.{Writes}
 use Rattle.writing.specs.Laws.{writes-then, writes-length}
 use Rattle.images.specs.declared.Edges.{Edges}
-use Rattle.images.specs.Setting.{World, settingOf, sourceOf, targetTable, fillersIn, imageIn, Usable}
-use Rattle.images.specs.Selecting.{First, Carried, Active, Selected, restOf}
-use Rattle.images.specs.Growing.{bytesOf, Makes, Room, Below, grown, grownElement, Ends}
-use Rattle.images.specs.Laws.{selects-none, FirstPlaced, selects-first, rest-none, rest-more}
-use Rattle.images.proofs.Filling.{filler-content, filler-count}
+use Rattle.images.specs.Setting.{World}
+use Rattle.images.specs.Selecting.{First}
+use Rattle.images.specs.Growing.{bytesOf, Makes, Room, Below}
+use Rattle.images.specs.Laws.{selects-none, FirstPlaced, selects-first}
 
 -- ---- writing
 

@@ -1,35 +1,45 @@
 -- The loop of `items`: an item is written for each item of the source list.
 use mathlib.Core.Path.{_≡_, refl, sym, ap, _∙_, subst}
-use mathlib.Core.Bool.{Bool, true, false}
+use mathlib.Core.Bool.{true}
 use mathlib.Core.List.{List, [], _∷_, List·Memᴰ, List·Memᴰ·head}
 use Prim.Native.Nat.{ℕ, zero, suc, _+_, _-_, _*_, _≤_, _<_}
 use native.Mathlib.Nat.{add-zero}
 use native.Mathlib.Numerals.{add-one}
 use native.Mathlib.Omega.{arith}
-use lib.ListN.{length, getD, take, drop}
-use lib.Seq.{sets, getD-drop}
-use Rattle.model.specs.Definitions.Table.{Kind, text, empty, sequence, choice, list, Table, kindOf, membersOf}
-use Rattle.model.specs.Definitions.Content.{Content, end, char, elem, bytes}
+use lib.ListN.{length, getD, drop}
+use lib.Seq.{getD-drop, drop-drop}
+use Rattle.model.specs.Definitions.Table.{text, list, Table, kindOf, membersOf}
+use Rattle.model.specs.Definitions.Content.{Content, end, elem, bytes}
 use Rattle.model.specs.Definitions.Conformance.{Holds, no-item, one-item}
 use Rattle.model.specs.Definitions.Embedding.{endOf, Divided}
 use Rattle.model.specs.Definitions.EmbeddingChecks.{maxSteps}
-use Rattle.model.specs.Definitions.Image.{Placement, placed, Child, isPlaced, place, grow, children, itemsOf}
-use Rattle.model.specs.Theorems.Facts.{WellFormed, Walks}
+use Rattle.model.specs.Definitions.Image.{placed, isPlaced, place, children, itemsOf}
 use Rattle.model.specs.Theorems.Placing.{single-fits}
 use Rattle.model.specs.Theorems.Measures.{Marked, marked, marked-end, marked-elem}
-use Rattle.dtd.specs.Loaded.{kindFrom, kindIn}
+use Rattle.dtd.specs.Loaded.{kindFrom}
 use Rattle.maps.specs.Loaded.{stepsFrom}
 use Rattle.writing.specs.declared.Wrote.{Wrote}
 use Rattle.scanning.specs.Scanning.{At}
 use Rattle.scanning.specs.Laws.{content-within, element-first, Opens, opens, opens-next}
 use Rattle.images.specs.declared.Edges.{Edges}
 use Rattle.images.specs.Setting.{World, settingOf, sourceOf, targetTable, fillersIn, imageIn, Usable}
-use Rattle.images.specs.Selecting.{OneEdge, IsElement, IsList, Carried, inner, Active, Selected, restOf}
-use Rattle.images.specs.Growing.{bytesOf, Makes, Room, Below, grown, grownElement, Lists}
+use Rattle.images.specs.Selecting.{OneEdge, IsElement, IsList, inner, Active, Selected, restOf}
+use Rattle.images.specs.Growing.{Makes, Room, Below, grown, grownElement, Lists}
 use Rattle.images.specs.Laws.{selects-one}
 use Rattle.images.proofs.Growing.{makes-same, room-same}
-use Rattle.images.proofs.Rows.{kind-at, small}
+use Rattle.images.proofs.Rows.{kind-at}
 use Rattle.images.proofs.Turns.{Leaves, leaves-all, leaves-more, leaves-room, leaves-end}
+
+-- the same arrays, with another document
+abbrev pub withTree : World → List ℕ → World
+withTree w tree = record { source = w .source; target = w .target; paths = w .paths; high = w .high; tree = tree }
+
+pub usable-with : {w : World} → Usable w → (tree : List ℕ) → Usable (withTree w tree)
+usable-with u tree = record { ready = u .ready; source-places = u .source-places; target-places = u .target-places }
+
+image-with : (w : World) (tree : List ℕ) (t : ℕ) (k : Content) → imageIn w t k ≡ imageIn (withTree w tree) t k
+unfolding imageIn fillersIn
+image-with w tree t k = refl
 
 -- the items of a source list that holds k
 unfoldable pub itemsIn : World → Divided → Content → Marked
@@ -70,14 +80,14 @@ pub record ListLeft (w : World) (from kid d τ : ℕ) (first : ℕ) (a : Marked)
   pub holds : Holds (sourceOf w) (list (l .source-item)) rest
   pub leaves : Leaves a old at₀ count₀ (itemsIn w (l .divided) rest) out at count
 
-pub record ListGoes (w : World) (from first kid d τ : ℕ) (old : List ℕ) (at₀ count₀ : ℕ) (out : List ℕ) (o at count : ℕ) : Type 0 where
+pub record ListGoes (w : World) (first kid d τ : ℕ) (old : List ℕ) (at₀ count₀ : ℕ) (out : List ℕ) (o at count : ℕ) : Type 0 where
   pub low : kid ≤ o
   pub long : length out ≡ length old
   pub few : count ≤ at
-  pub left : (g : Lists w from first kid d τ) → ListLeft w from kid d τ first (g .content) (g .list) old at₀ count₀ out o at count
+  pub left : {from : ℕ} (g : Lists w from first kid d τ) → ListLeft w from kid d τ first (g .content) (g .list) old at₀ count₀ out o at count
 
 pub list-starts : {w : World} {from first kid d τ : ℕ} (g : Lists w from first kid d τ) {old : List ℕ} {at count : ℕ} → Room (g .content) old at count
-    → ListGoes w from first kid d τ old at count old kid at count
+    → ListGoes w first kid d τ old at count old kid at count
 unfolding itemsIn
 list-starts {w} g {old} {at} {count} room =
     record {
@@ -106,7 +116,7 @@ no-more no-item a other = refl
 no-more (one-item h later) a other = absurd (other (element-first a))
 
 module _ {w : World} (u : Usable w) {from first kid d τ : ℕ} (g : Lists w from first kid d τ)
-    {old : List ℕ} {at₀ count₀ : ℕ} {out : List ℕ} {o at count : ℕ} (goes : ListGoes w from first kid d τ old at₀ count₀ out o at count) where
+    {old : List ℕ} {at₀ count₀ : ℕ} {out : List ℕ} {o at count : ℕ} (goes : ListGoes w first kid d τ old at₀ count₀ out o at count) where
   abbrev left : ListLeft w from kid d τ first (g .content) (g .list) old at₀ count₀ out o at count
   left = goes .left g
 
@@ -128,30 +138,8 @@ module _ {w : World} (u : Usable w) {from first kid d τ : ℕ} (g : Lists w fro
     item : Item (sourceOf w) m (opened .type) (opened .inside) (opened .next)
     item = item-of (subst (Holds (sourceOf w) (list m)) (opened .is) (left .holds))
 
-    pub item-there : (k : Content) × At (w .tree) (o + 2) k
-    item-there = (opened .inside, opened .within)
-
-    pub item-within : o + 2 < length (w .tree)
-    item-within = omega (arith, content-within (opened .within))
-
-    type-is : getD (w .tree) (o + 2 - 1) 0 ≡ m
-    type-is =
-        let before : o + 2 - 1 ≡ o + 1 = omega arith in
-        rw before (opened .named ∙ item .same)
-
     abbrev a : Marked
     a = imageIn w m (opened .inside)
-
-    the-element : IsElement w from (o + 2) a
-    the-element =
-        record {
-          inside = opened .inside;
-          later = omega (arith, goes .low, g .list .later);
-          is-type = rw type-is (g .list .is-type);
-          there = opened .within;
-          holds = rw type-is (item .holds);
-          is = rw type-is refl;
-        }
 
     abbrev target : ℕ
     target = g .list .divided .item
@@ -169,65 +157,87 @@ module _ {w : World} (u : Usable w) {from first kid d τ : ℕ} (g : Lists w fro
         ∙ ap (λ (t : ℕ). marked-elem true target (place marked (targetTable w) (fillersIn w) target (placed (g .list .divided .rest) (imageIn w t (opened .inside)) ∷ [])) later) (item .same))
         (left .leaves)
 
-    module _ {r : Edges} (one : OneEdge 1 first from (getD (w .paths .lengths) first 0) (o + 2) r) where
-      short : length (g .list .divided .rest) ≤ maxSteps
-      unfolding maxSteps
-      short = omega (arith, ap length (g .list .rest-is), steps-length (w .paths .text) (getD (w .paths .starts) first 0 + 2 + 2 * suc d) (getD (w .paths .lengths) first 0 - suc d), u .ready .paths-bounded .short first)
+    -- the part of the document that starts at the item
+    module _ {part : List ℕ} (is-part : part ≡ drop o (w .tree)) where
+      part-at : At part 2 (opened .inside)
+      part-at = record { rest = opened .within .rest; stands = rw is-part (drop-drop 2 o (w .tree) ∙ opened .within .stands) }
 
-      path-is : restOf w r (d + 1) 0 ≡ g .list .divided .rest
-      path-is = rw (one .is-first, one .is-stop, add-zero first, add-one d) (sym (g .list .rest-is))
+      pub item-there : (k : Content) × At part 2 k
+      item-there = (opened .inside, part-at)
 
-      the-active : Active w r (d + 1) 0 (endOf (targetTable w) target (restOf w r (d + 1) 0)) a
-      the-active =
+      type-is : getD part 1 0 ≡ m
+      type-is = rw is-part (getD-drop o (w .tree) 1 0 ∙ opened .named ∙ item .same)
+
+      the-element : IsElement (withTree w part) 0 2 a
+      the-element =
           record {
-            near = omega (arith, one .is-first, g .list .near);
-            reach = omega (arith, one .is-stop, g .list .shorter);
-            long = rw (one .is-stop, one .is-first, add-zero first) (omega arith);
-            carried = inner (one .is-mode) (rw (one .is-kid, one .is-from) the-element);
+            inside = opened .inside;
+            later = omega arith;
+            is-type = rw type-is (g .list .is-type);
+            there = part-at;
+            holds = rw type-is (item .holds);
+            is = rw type-is (image-with w part m (opened .inside));
           }
 
-      item-below : Below w r (r .act) (d + 1) target
-      item-below =
-          record {
-            bound = suc maxSteps;
-            ps = placed (g .list .divided .rest) a ∷ [];
-            few-steps = omega (arith, g .few-steps);
-            is-type = u .ready .valid .target-sound .well-formed .members-exist τ target (rw (g .list .is-list) list-member);
-            fits = single-fits (targetTable w) maxSteps a (g .list .walks) short;
-            selected = subst (λ (path : List ℕ). Selected w r (r .act) (d + 1) target 16 0 (placed path a ∷ [])) path-is (selects-one one the-active);
-          }
-        where
-          list-member : List·Memᴰ target (membersOf (list target))
-          list-member = unfold membersOf in List·Memᴰ·head refl
+      -- the item's content ends within the document
+      pub list-further : {close : ℕ} → ((k : Content) → At part 2 k → close ≡ 2 + length (bytes k)) → (2 ≤ close) × (o + close < length (w .tree))
+      list-further skipped =
+          let far = skipped (opened .inside) part-at in
+          (omega arith, omega (arith, content-within (opened .within)))
 
-      same-element : grownElement item-below ≡ marked-elem true target held marked-end
-      unfolding grown isPlaced place item-below
-      same-element = refl
+      module _ {r : Edges} (one : OneEdge 1 first 0 (getD (w .paths .lengths) first 0) 2 r) where
+        short : length (g .list .divided .rest) ≤ maxSteps
+        unfolding maxSteps
+        short = omega (arith, ap length (g .list .rest-is), steps-length (w .paths .text) (getD (w .paths .starts) first 0 + 2 + 2 * suc d) (getD (w .paths .lengths) first 0 - suc d), u .ready .paths-bounded .short first)
 
-      -- what is below the item, at the type that the arrays give
-      pub item-task : (b : Below w r (r .act) (d + 1) (getD (w .target .members) (τ * 16) 0)) × (grownElement b ≡ marked-elem true target held marked-end)
-      item-task =
-          subst (λ (t : ℕ). (b : Below w r (r .act) (d + 1) t) × (grownElement b ≡ marked-elem true target held marked-end)) (sym (item-at u τ (g .is-type) (g .list .is-list)))
-          (item-below, same-element)
+        path-is : restOf w r (d + 1) 0 ≡ g .list .divided .rest
+        path-is = rw (one .is-first, one .is-stop, add-zero first, add-one d) (sym (g .list .rest-is))
 
-      pub item-room : Room (g .content) old at₀ count₀ → Room (grownElement (item-task .0)) out at count
-      item-room room = room-same (sym (item-task .1)) (leaves-room true target held later item-leaves room (goes .long) (goes .few))
+        the-active : Active (withTree w part) r (d + 1) 0 (endOf (targetTable w) target (restOf w r (d + 1) 0)) a
+        the-active =
+            record {
+              near = omega (arith, one .is-first, g .list .near);
+              reach = omega (arith, one .is-stop, g .list .shorter);
+              long = rw (one .is-stop, one .is-first, add-zero first) (omega arith);
+              carried = inner (one .is-mode) (rw (one .is-kid, one .is-from) the-element);
+            }
 
-      -- the item is written, and the loop goes on behind it
-      pub item-left : {new : List ℕ} {wrote : Wrote} {close : ℕ} → Makes (grownElement (item-task .0)) out new at count wrote
-          → ((k : Content) → At (w .tree) (o + 2) k → close ≡ o + 2 + length (bytes k))
-          → ListLeft w from kid d τ first (g .content) (g .list) old at₀ count₀ new (close + 1) (wrote .at) (wrote .filler)
-      item-left made skipped =
-          record {
-            rest = opened .next;
-            there = rw (skipped (opened .inside) (opened .within)) (opens-next opened);
-            holds = item .later;
-            leaves = leaves-more true target held later item-leaves (makes-same (item-task .1) made);
-          }
+        item-below : Below (withTree w part) r (r .act) (d + 1) target
+        item-below =
+            record {
+              bound = suc maxSteps;
+              ps = placed (g .list .divided .rest) a ∷ [];
+              few-steps = omega (arith, g .few-steps);
+              is-type = u .ready .valid .target-sound .well-formed .members-exist τ target (rw (g .list .is-list) list-member);
+              fits = single-fits (targetTable w) maxSteps a (g .list .walks) short;
+              selected = subst (λ (path : List ℕ). Selected (withTree w part) r (r .act) (d + 1) target 16 0 (placed path a ∷ [])) path-is (selects-one one the-active);
+            }
+          where
+            list-member : List·Memᴰ target (membersOf (list target))
+            list-member = unfold membersOf in List·Memᴰ·head refl
 
-  -- the next offset is behind this one, and within the document
-  pub list-further : getD (w .tree) o 0 ≡ 0x30 → {close : ℕ} → ((k : Content) → At (w .tree) (o + 2) k → close ≡ o + 2 + length (bytes k)) → (o + 2 ≤ close) × (close < length (w .tree))
-  list-further is-item skipped =
-      let there = item-there is-item in
-      let far = skipped (there .0) (there .1) in
-      (omega arith, omega (arith, content-within (there .1)))
+        same-element : grownElement item-below ≡ marked-elem true target held marked-end
+        unfolding grown isPlaced place item-below fillersIn
+        same-element = refl
+
+        -- what is below the item, at the type that the arrays give
+        pub item-task : (b : Below (withTree w part) r (r .act) (d + 1) (getD (w .target .members) (τ * 16) 0)) × (grownElement b ≡ marked-elem true target held marked-end)
+        item-task =
+            subst (λ (t : ℕ). (b : Below (withTree w part) r (r .act) (d + 1) t) × (grownElement b ≡ marked-elem true target held marked-end)) (sym (item-at u τ (g .is-type) (g .list .is-list)))
+            (item-below, same-element)
+
+        pub item-room : Room (g .content) old at₀ count₀ → Room (grownElement (item-task .0)) out at count
+        item-room room = room-same (sym (item-task .1)) (leaves-room true target held later item-leaves room (goes .long) (goes .few))
+
+        -- the item is written, and the loop goes on behind it
+        pub item-left : {new : List ℕ} {wrote : Wrote} {close : ℕ} → Makes (grownElement (item-task .0)) out new at count wrote
+            → ((k : Content) → At part 2 k → close ≡ 2 + length (bytes k))
+            → ListLeft w from kid d τ first (g .content) (g .list) old at₀ count₀ new (o + (close + 1)) (wrote .at) (wrote .filler)
+        item-left {close = close} made skipped =
+            let behind : o + (close + 1) ≡ o + 2 + length (bytes (opened .inside)) + 1 = omega (arith, skipped (opened .inside) part-at) in
+            record {
+              rest = opened .next;
+              there = rw behind (opens-next opened);
+              holds = item .later;
+              leaves = leaves-more true target held later item-leaves (makes-same (item-task .1) made);
+            }

@@ -1,38 +1,26 @@
 -- The edges of a source element stand for what is placed below its image, by the kind of its type.
 use mathlib.Core.Path.{_≡_, refl, sym, ap, _∙_, subst}
-use mathlib.Core.Bool.{Bool, true, false}
-use mathlib.Core.List.{List, [], _∷_, map, List·Memᴰ, List·Memᴰ·head, List·Memᴰ·tail, List·Memᴰ·not-nil, List·Memᴰ·cases-cons}
-use mathlib.Core.Logic.{_⊎_, inl, inr}
+use mathlib.Core.List.{List, [], _∷_, map}
 use Prim.Native.Nat.{ℕ, zero, suc, _+_, _-_, _*_, _≤_, _<_}
 use native.Mathlib.Nat.{add-zero, add-suc, suc-add}
 use native.Mathlib.Omega.{arith}
-use lib.ListN.{length, getD, take, drop, length-drop}
-use lib.Seq.{getD-drop, getD-take, length-take-le}
-use lib.Dec.{eqb}
-use borrow.Author.Tests.{eqb-true, eqb-false, eq-eqb, ne-eqb}
-use Rattle.model.specs.Definitions.Basics.{pick, some-of}
-use Rattle.model.specs.Definitions.Table.{Kind, text, empty, sequence, choice, list, Table, kindOf, membersOf, edgesOf, isList}
-use Rattle.model.specs.Definitions.Content.{Content, end, char, elem, bytes}
-use Rattle.model.specs.Definitions.Conformance.{Holds, no-character, one-character, nothing, no-member, one-member, chosen, no-item, one-item}
-use Rattle.model.specs.Definitions.Embedding.{Edge, targetOf, pathsOf, noMap, next, endOf, leaves, Divided, divide, divideAt}
-use Rattle.model.specs.Definitions.EmbeddingChecks.{maxSteps}
-use Rattle.model.specs.Definitions.Image.{Placement, placed, placements, Child, letter, element, children, lettersOf, alongPaths, alongChoice, pathOfMember, onlyPath, alongList, itemsOf, place}
-use Rattle.model.specs.Theorems.Facts.{Walks, MemberPath, GoodPath, ValidEdges, text-edge, no-edge, sequence-edges, choice-edges, list-edge}
-use Rattle.model.specs.Theorems.Tools.{pick-true, pick-false, true-false}
-use Rattle.model.specs.Theorems.Placing.{GoodParts, divide-good, AtList, divide-at-list}
-use Rattle.model.specs.Theorems.ImageConforms.{list-left}
+use lib.ListN.{length, getD, drop}
+use Rattle.model.specs.Definitions.Table.{Kind, text, empty, Table, kindOf, edgesOf}
+use Rattle.model.specs.Definitions.Content.{Content, char}
+use Rattle.model.specs.Definitions.Conformance.{Holds, no-character, one-character}
+use Rattle.model.specs.Definitions.Embedding.{Edge, targetOf, pathsOf, noMap, endOf}
+use Rattle.model.specs.Definitions.Image.{Placement, placed, placements, Child, children, lettersOf, onlyPath, place}
+use Rattle.model.specs.Theorems.Facts.{ValidEdges}
 use Rattle.model.specs.Theorems.Measures.{Marked, marked, unmarked, countFiller}
-use Rattle.dtd.specs.Loaded.{kindFrom, kindIn, kind-in, length-in}
+use Rattle.dtd.specs.Loaded.{kindFrom, kind-in, length-in}
 use Rattle.maps.specs.Loaded.{stepsFrom, edgeIn, edgesFrom, mapsFrom, embeddingIn}
 use Rattle.scanning.specs.Scanning.{At}
-use Rattle.scanning.specs.Laws.{content-within, element-first, Opens, opens, opens-next}
 use Rattle.images.specs.declared.Edges.{Edges}
-use Rattle.images.specs.Setting.{World, settingOf, sourceOf, targetTable, fillersIn, imageIn, Usable}
-use Rattle.images.specs.Selecting.{OneEdge, IsElement, IsList, Carried, letters, inner, listed, Active, Selected, edge-on, restOf}
+use Rattle.images.specs.Setting.{World, settingOf, sourceOf, targetTable, fillersIn, Usable}
+use Rattle.images.specs.Selecting.{OneEdge, Carried, letters, Active, Selected, restOf}
 use Rattle.images.specs.Growing.{Element, Prepared}
-use Rattle.images.specs.Preparing as preparing
-use Rattle.images.specs.Preparing.{NoEdges, IndexOf, childOffset, MemberEdges, Leads}
-use Rattle.images.specs.Laws.{all-off, selects-nothing, selects-one}
+use Rattle.images.specs.Preparing.{NoEdges}
+use Rattle.images.specs.Laws.{selects-nothing, selects-one}
 use Rattle.images.proofs.Reaching.{source-small}
 
 -- ---- the paths of a source type, in the arrays

@@ -1,28 +1,26 @@
 -- What `placed` hands on and gives back, by what stands at the end of a path.
 use mathlib.Core.Path.{_≡_, refl, sym, ap, _∙_, subst}
 use mathlib.Core.List.{List, [], _∷_}
-use Prim.Native.Nat.{ℕ, zero, suc, _+_, _-_, _*_, _≤_, _<_}
+use Prim.Native.Nat.{ℕ, zero, suc, _+_, _-_, _≤_, _<_}
 use native.Mathlib.Nat.{add-zero, add-suc, suc-add}
 use native.Mathlib.Omega.{arith}
 use lib.ListN.{length, getD, take, drop}
 use lib.Seq.{sets}
-use Rattle.model.specs.Definitions.Table.{Kind, Table, kindOf, edgesOf}
+use Rattle.model.specs.Definitions.Table.{Table, kindOf}
 use Rattle.model.specs.Definitions.Content.{Content, bytes}
 use Rattle.model.specs.Definitions.Embedding.{targetOf, pathsOf, noMap}
 use Rattle.model.specs.Definitions.EmbeddingChecks.{maxSteps}
-use Rattle.model.specs.Definitions.Image.{Child, placements, children, imageOfElement, place, grow}
-use Rattle.model.specs.Theorems.Facts.{Fits}
+use Rattle.model.specs.Definitions.Image.{Child, placements, children, imageOfElement, place}
 use Rattle.model.specs.Theorems.Placing.{placements-fit}
 use Rattle.model.specs.Theorems.Measures.{Marked, marked, unmarked, countFiller}
 use Rattle.dtd.specs.Loaded.{length-in}
 use Rattle.maps.specs.Loaded.{mapsFrom, embeddingIn}
-use Rattle.writing.specs.declared.Wrote.{Wrote}
 use Rattle.writing.specs.Writing.{Writes}
 use Rattle.scanning.specs.Scanning.{At}
 use Rattle.scanning.specs.Laws.{content-within, content-part}
 use Rattle.images.specs.declared.Edges.{Edges}
 use Rattle.images.specs.Setting.{World, settingOf, sourceOf, targetTable, fillersIn, imageIn, Usable}
-use Rattle.images.specs.Selecting.{IsElement, IsList, Carried, letters, inner, listed, Active, Selected}
+use Rattle.images.specs.Selecting.{IsElement, IsList, Carried, letters, inner, listed}
 use Rattle.images.specs.Growing.{bytesOf, Makes, Room, Below, grown, Ends, Lists, Element, Prepared}
 
 -- ---- by mode

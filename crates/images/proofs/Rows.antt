@@ -1,8 +1,8 @@
 -- The members that `grow` hands to `row`, as the arrays give them.
 use mathlib.Core.Path.{_≡_, refl, sym, ap, _∙_, subst}
 use mathlib.Core.Bool.{Bool, true, false}
-use mathlib.Core.List.{List, [], _∷_, _++_}
-use mathlib.Core.Option.{Option, some}
+use mathlib.Core.List.{List, [], _∷_}
+use mathlib.Core.Option.{some}
 use Prim.Native.Nat.{ℕ, zero, suc, _+_, _-_, _*_, _≤_, _<_}
 use native.Mathlib.Omega.{arith}
 use lib.ListN.{length, getD, take, drop}
@@ -11,24 +11,24 @@ use lib.Dec.{eqb}
 use borrow.Author.Tests.{eqb-true, eqb-false}
 use native.Mathlib.Nat.{add-zero}
 use Rattle.model.specs.Definitions.Basics.{entry}
-use Rattle.model.specs.Definitions.Table.{Kind, text, empty, sequence, choice, list, Table, kindOf, membersOf, stepFrom}
+use Rattle.model.specs.Definitions.Table.{text, sequence, Table, kindOf, membersOf, stepFrom}
 use Rattle.model.specs.Definitions.Embedding.{next, endOf}
-use Rattle.model.specs.Definitions.Filler.{known, fillers, content, fillersOf}
+use Rattle.model.specs.Definitions.Filler.{known, content}
 use Rattle.model.specs.Definitions.Heights.{heightOf}
 use Rattle.model.specs.Definitions.Content.{bytes}
-use Rattle.model.specs.Definitions.Image.{Placement, placed, under, grow}
-use Rattle.model.specs.Theorems.Facts.{WellFormed, Fits}
+use Rattle.model.specs.Definitions.Image.{Placement, placed}
+use Rattle.model.specs.Theorems.Facts.{WellFormed}
 use Rattle.model.specs.Theorems.Tools.{some-none}
 use Rattle.model.specs.Theorems.Placing.{no-text-step, no-empty-step, list-step}
-use Rattle.model.specs.Theorems.Measures.{Marked, marked, unmarked, countFiller}
+use Rattle.model.specs.Theorems.Measures.{Marked, marked, countFiller}
 use Rattle.dtd.specs.Loaded.{kindFrom, kindIn, kind-in, length-in}
 use Rattle.writing.specs.declared.Wrote.{Wrote}
 use Rattle.writing.specs.Writing as writing
 use Rattle.writing.specs.Writing.{Fills, fillerBytes, fillerCount}
 use Rattle.images.specs.declared.Edges.{Edges}
-use Rattle.images.specs.Setting.{World, settingOf, targetTable, fillersIn, Usable}
+use Rattle.images.specs.Setting.{World, targetTable, fillersIn, Usable}
 use Rattle.images.specs.Selecting.{First, Reads, Readable, Active, Selected, no-edge, edge-off, edge-on, restOf, stepAt}
-use Rattle.images.specs.Growing.{bytesOf, Makes, Room, Below, grown, RowFits, rowIn, RowBelow, membersFrom, grownRow, Ends}
+use Rattle.images.specs.Growing.{bytesOf, Makes, Room, Below, grown, rowIn, RowBelow, membersFrom, grownRow, Ends}
 use Rattle.images.specs.Laws.{FirstPlaced, rest-none, rest-more}
 use Rattle.images.proofs.Filling.{filler-content, filler-count}
 use Rattle.images.proofs.Growing.{nothing-below, first-below}

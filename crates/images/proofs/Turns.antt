@@ -2,25 +2,24 @@
 use mathlib.Core.Path.{_≡_, refl, sym, ap, _∙_, subst}
 use mathlib.Core.Bool.{Bool, true, false}
 use mathlib.Core.List.{List, [], _∷_, _++_, append-assoc}
-use Prim.Native.Nat.{ℕ, zero, suc, _+_, _-_, _*_, _≤_, _<_}
-use native.Mathlib.Nat.{add-zero}
+use Prim.Native.Nat.{ℕ, suc, _+_, _-_, _*_, _≤_, _<_}
 use native.Mathlib.Numerals.{add-one}
 use native.Mathlib.Omega.{arith}
-use lib.ListN.{length, getD, take, drop, length-append}
+use lib.ListN.{length, getD, length-append}
 use lib.Seq.{sets, drop-cons}
 use Rattle.model.specs.Definitions.Table.{Table}
 use Rattle.model.specs.Definitions.Embedding.{next}
 use Rattle.model.specs.Definitions.Image.{Placement, under, isPlaced, growMembers, grow}
 use Rattle.model.specs.Theorems.Facts.{Fits}
-use Rattle.model.specs.Theorems.Measures.{Marked, marked, marked-end, marked-elem, unmarked, countFiller}
+use Rattle.model.specs.Theorems.Measures.{Marked, marked, marked-end, marked-elem, countFiller}
 use Rattle.writing.specs.declared.Wrote.{Wrote}
 use Rattle.writing.specs.Laws.{writes-left}
 use Rattle.images.specs.declared.Edges.{Edges}
 use Rattle.images.specs.Setting.{World, targetTable, fillersIn, Usable}
 use Rattle.images.specs.Selecting.{Narrows, Selected}
-use Rattle.images.specs.Growing.{bytesOf, Makes, Room, Below, grown, grownElement, RowFits, row-none, row-more, rowIn, RowBelow, membersFrom, grownRow}
+use Rattle.images.specs.Growing.{bytesOf, Makes, Room, Below, grown, grownElement, RowFits, row-more, rowIn, RowBelow, membersFrom, grownRow}
 use Rattle.images.specs.Laws.{selects-under}
-use Rattle.images.proofs.Growing.{makes-writes, makes-length, element-bytes, end-bytes, element-length}
+use Rattle.images.proofs.Growing.{makes-writes, element-bytes, end-bytes}
 use Rattle.images.proofs.Rows.{small}
 
 -- ---- what is left

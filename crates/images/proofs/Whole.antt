@@ -1,15 +1,12 @@
 -- What `write_image` hands on and gives back.
 use mathlib.Core.Path.{_≡_, refl, sym, ap, _∙_, subst}
-use mathlib.Core.List.{List, [], _∷_, _++_, append-assoc}
+use mathlib.Core.List.{List, [], _∷_, _++_}
 use Prim.Native.Nat.{ℕ, _+_, _≤_, _<_}
 use native.Mathlib.Omega.{arith}
 use lib.ListN.{length, getD, length-append}
-use lib.Seq.{sets}
-use Rattle.model.specs.Definitions.Table.{kindOf}
-use Rattle.model.specs.Definitions.Content.{Content, elem, end, bytes, document, contentOf}
-use Rattle.model.specs.Definitions.Embedding.{targetOf}
+use Rattle.model.specs.Definitions.Content.{Content, bytes, document, contentOf}
 use Rattle.model.specs.Definitions.Image.{image, imageBy, imageFiller}
-use Rattle.model.specs.Theorems.Measures.{Marked, marked, unmarked, countFiller, marked-is-image, marked-filler}
+use Rattle.model.specs.Theorems.Measures.{Marked, unmarked, countFiller, marked-is-image, marked-filler}
 use Rattle.writing.specs.declared.Wrote.{Wrote}
 use Rattle.writing.specs.Writing.{Writes}
 use Rattle.writing.specs.Laws.{writes-then, writes-length}

@@ -651,7 +651,8 @@ fn row<'a>(
     }
 }
 
-// Writes an item of the target list of type t for each item of the source list whose content begins at `kid`.
+// Writes an item of the target list of type t for each item of the source list whose content begins at `kid`. An item is handed on
+// as the part of the document that starts at it, in which its content begins at 2.
 fn items<'a>(
     types1: usize,
     k1: &'a [u8; 64],
@@ -683,14 +684,13 @@ fn items<'a>(
     let m = m2[base];
     let deeper = d + 1;
     let first = e.first;
-    let from = e.from;
     let all = ln[first];
     let mut o = kid;
     let mut next = at;
     let mut number = count;
     while tr[o] == 0x30 {
-        let inside = o + 2;
-        let one = one_edge(1, first, from, all, inside);
+        let item = &tr[o..];
+        let one = one_edge(1, first, 0, all, 2);
         let act = one.act;
         let wrote = element(
             types1,
@@ -706,7 +706,7 @@ fn items<'a>(
             st,
             ln,
             em,
-            tr,
+            item,
             one,
             act,
             deeper,
@@ -717,8 +717,8 @@ fn items<'a>(
         );
         next = wrote.at;
         number = wrote.filler;
-        let close = scanning::skip(tr, inside);
-        o = close + 1;
+        let close = scanning::skip(item, 2);
+        o += close + 1;
     }
     Wrote {
         at: next,

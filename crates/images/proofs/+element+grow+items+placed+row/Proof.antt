@@ -3,14 +3,13 @@
 use Rattle.scanning.specs.Laws.{content-within}
 use Rattle.model.specs.Theorems.Measures.{unmarked}
 use Rattle.images.proofs.Reaching.{letters-of, inner-of, copy-room, letters-made, element-of, source-small, prepared-below, lists-of}
-use Rattle.images.proofs.Listing.{ListGoes, list-starts, list-within, list-done, item-there, item-within, item-task, item-room, item-left, list-further}
+use Rattle.images.proofs.Listing.{ListGoes, list-starts, list-within, list-done, item-there, item-task, item-room, item-left, list-further, usable-with}
+use borrow.Rule.Slice.PartAt.{part-to-end}
 use Rattle.images.proofs.Turns.{RowGoes, row-starts, row-done, member-place, member-below, member-room, member-left}
 use Rattle.images.specs.Setting.{world}
-use Rattle.images.proofs.Rows.{selected-readable}
 use mathlib.Core.Path.{sym, _∙_}
-use Rattle.images.proofs.Rows.{small, usable-ready, filler-room, filler-made, first-reads, ends-below, goes-on, rows-sequence, rows-step}
-use Rattle.images.proofs.Growing.{makes-same, room-same}
-use Rattle.images.proofs.Growing.{makes-length, open-room, inside-room, close-room, element-made, numbered-none, numbered-some}
+use Rattle.images.proofs.Rows.{small, selected-readable, usable-ready, filler-room, filler-made, first-reads, ends-below, goes-on, rows-sequence, rows-step}
+use Rattle.images.proofs.Growing.{makes-same, room-same, makes-length, open-room, inside-room, close-room, element-made, numbered-none, numbered-some}
 use Rattle.images.specs.Growing.{grown}
 use Rattle.model.specs.Definitions.Image.{isPlaced}
 use mathlib.Core.Logic.{⊎-elim}
@@ -572,11 +571,11 @@ grow-returns-4 t c =
     λ g. let h = rows-step u g f (c .before .before .before .before .before .before .before .before .before .if1 .left) (c .before .before .before .before .before .before .before .if2 .left) (c .before .before .before .before .before .if3 .left) (c .before .before .before .before .step .result) (c .before .before .before .before .step .ensures .0) in makes-same (h .1) (c .before .before .row2 .ensures (h .0))
 
 abbrev items-Inv-loop : items-lts.InvT-loop
-items-Inv-loop types1 k1 c1 m1 types2 k2 c2 m2 h2 tg st ln em tr kid d t out₀ at count base m deeper first from all o₀ next₀ number₀ out o next number =
-    ListGoes (world types1 k1 c1 m1 types2 k2 c2 m2 h2 tg st ln em tr) from first kid d t out₀ at count out o next number
+items-Inv-loop types1 k1 c1 m1 types2 k2 c2 m2 h2 tg st ln em tr kid d t out₀ at count base m deeper first all o₀ next₀ number₀ out o next number =
+    ListGoes (world types1 k1 c1 m1 types2 k2 c2 m2 h2 tg st ln em tr) first kid d t out₀ at count out o next number
 
 abbrev items-μ-loop : items-lts.MeasureT-loop
-items-μ-loop types1 k1 c1 m1 types2 k2 c2 m2 h2 tg st ln em tr kid d t out₀ at count base m deeper first from all o₀ next₀ number₀ out o next number =
+items-μ-loop types1 k1 c1 m1 types2 k2 c2 m2 h2 tg st ln em tr kid d t out₀ at count base m deeper first all o₀ next₀ number₀ out o next number =
     length tr - o
 
 items-mul-base : (t : ℕ) → items-lts.Need-mul-base (
@@ -663,7 +662,7 @@ items-shared-slice-read-if1 t c =
     let g = start .pre .1 .1 .0 in
     list-within u g (c .before .loop .inv)
 
-items-add-inside : (t : ℕ) → items-lts.Need-add-inside (
+items-sub-item : (t : ℕ) → items-lts.Need-sub-item (
   one-edge-reads.Asked,
   one-edge-reads.Learnt,
   element-below t,
@@ -671,12 +670,38 @@ items-add-inside : (t : ℕ) → items-lts.Need-add-inside (
   skip-reads.Asked,
   skip-reads.Learnt,
 ) (items-at t) items.Post items-Inv-loop items-μ-loop
-items-add-inside t c =
+items-sub-item t c =
     let start = c .before .before .before .before .before .before .before .before in
     let u = start .pre .1 .0 in
     let g = start .pre .1 .1 .0 in
-    let within : c .before .before .loop .o + 2 < length (start .args .tr .now) = item-within u g (c .before .before .loop .inv) (c .if1 .taken) in
-    omega (arith, within, start .good .1 .1 .1 .1 .1 .1 .1 .1 .1 .1 .1 .1 .1 .0 .0)
+    let within : c .before .before .loop .o < length (start .args .tr .now) = list-within u g (c .before .before .loop .inv) in
+    omega (arith, within)
+
+items-part-item-start : (t : ℕ) → items-lts.Need-part-item-start (
+  one-edge-reads.Asked,
+  one-edge-reads.Learnt,
+  element-below t,
+  element.Post,
+  skip-reads.Asked,
+  skip-reads.Learnt,
+) (items-at t) items.Post items-Inv-loop items-μ-loop
+items-part-item-start t c =
+    let start = c .before .before .before .before .before .before .before .before in
+    let u = start .pre .1 .0 in
+    let g = start .pre .1 .1 .0 in
+    let within : c .before .before .loop .o < length (start .args .tr .now) = list-within u g (c .before .before .loop .inv) in
+    omega (arith, within)
+
+items-part-item-end : (t : ℕ) → items-lts.Need-part-item-end (
+  one-edge-reads.Asked,
+  one-edge-reads.Learnt,
+  element-below t,
+  element.Post,
+  skip-reads.Asked,
+  skip-reads.Learnt,
+) (items-at t) items.Post items-Inv-loop items-μ-loop
+items-part-item-end t c =
+    omega arith
 
 items-one-edge-requires : (t : ℕ) → items-lts.Need-one-edge-requires (
   one-edge-reads.Asked,
@@ -698,13 +723,14 @@ items-element-requires : (t : ℕ) → items-lts.Need-element-requires (
   skip-reads.Learnt,
 ) (items-at t) items.Post items-Inv-loop items-μ-loop
 items-element-requires t c κs =
-    let start = c .before .before .before .before .before .before .before .before .before .before .before in
+    let start = c .before .before .before .before .before .before .before .before .before .before .before .before in
     let u = start .pre .1 .0 in
     let g = start .pre .1 .1 .0 in
-    let inv = c .before .before .before .before .before .loop .inv in
-    let is-item = c .before .before .before .if1 .taken in
+    let inv = c .before .before .before .before .before .before .loop .inv in
+    let is-item = c .before .before .before .before .if1 .taken in
+    let is-part = part-to-end (start .args .tr .now) (c .before .before .before .before .before .before .loop .o) in
     let one = c .before .before .one-edge .ensures in
-    (omega (arith, start .pre .0, g .few-steps, one .is-from), (u, (item-task u g inv is-item one .0, item-room u g inv is-item one (start .pre .1 .1 .1))))
+    (omega (arith, start .pre .0, g .few-steps, g .list .later, inv .low, one .is-from, c .before .before .before .item .given .2), (usable-with u _, (item-task u g inv is-item is-part one .0, item-room u g inv is-item is-part one (start .pre .1 .1 .1))))
 
 items-skip-requires : (t : ℕ) → items-lts.Need-skip-requires (
   one-edge-reads.Asked,
@@ -715,10 +741,13 @@ items-skip-requires : (t : ℕ) → items-lts.Need-skip-requires (
   skip-reads.Learnt,
 ) (items-at t) items.Post items-Inv-loop items-μ-loop
 items-skip-requires t c κs =
-    let start = c .before .before .before .before .before .before .before .before .before .before .before .before .before .before in
+    let start = c .before .before .before .before .before .before .before .before .before .before .before .before .before .before .before in
     let u = start .pre .1 .0 in
     let g = start .pre .1 .1 .0 in
-    item-there u g (c .before .before .before .before .before .before .before .before .loop .inv) (c .before .before .before .before .before .before .if1 .taken)
+    let inv = c .before .before .before .before .before .before .before .before .before .loop .inv in
+    let is-item = c .before .before .before .before .before .before .before .if1 .taken in
+    let is-part = part-to-end (start .args .tr .now) (c .before .before .before .before .before .before .before .before .before .loop .o) in
+    item-there u g inv is-item is-part
 
 items-add-o : (t : ℕ) → items-lts.Need-add-o (
   one-edge-reads.Asked,
@@ -729,11 +758,33 @@ items-add-o : (t : ℕ) → items-lts.Need-add-o (
   skip-reads.Learnt,
 ) (items-at t) items.Post items-Inv-loop items-μ-loop
 items-add-o t c =
-    let start = c .before .before .before .before .before .before .before .before .before .before .before .before .before .before .before in
+    let start = c .before .before .before .before .before .before .before .before .before .before .before .before .before .before .before .before in
     let u = start .pre .1 .0 in
     let g = start .pre .1 .1 .0 in
-    let far = list-further u g (c .before .before .before .before .before .before .before .before .before .loop .inv) (c .before .before .before .before .before .before .before .if1 .taken) (c .skip .ensures) in
-    let within : c .skip .result < length (start .args .tr .now) = far .1 in
+    let inv = c .before .before .before .before .before .before .before .before .before .before .loop .inv in
+    let is-item = c .before .before .before .before .before .before .before .before .if1 .taken in
+    let is-part = part-to-end (start .args .tr .now) (c .before .before .before .before .before .before .before .before .before .before .loop .o) in
+    let far = list-further u g inv is-item is-part (c .skip .ensures) in
+    let within : c .before .before .before .before .before .before .before .before .before .before .loop .o + c .skip .result < length (start .args .tr .now) = far .1 in
+    omega (arith, within, start .good .1 .1 .1 .1 .1 .1 .1 .1 .1 .1 .1 .1 .1 .0 .0)
+
+items-add-o-2 : (t : ℕ) → items-lts.Need-add-o-2 (
+  one-edge-reads.Asked,
+  one-edge-reads.Learnt,
+  element-below t,
+  element.Post,
+  skip-reads.Asked,
+  skip-reads.Learnt,
+) (items-at t) items.Post items-Inv-loop items-μ-loop
+items-add-o-2 t c =
+    let start = c .before .before .before .before .before .before .before .before .before .before .before .before .before .before .before .before in
+    let u = start .pre .1 .0 in
+    let g = start .pre .1 .1 .0 in
+    let inv = c .before .before .before .before .before .before .before .before .before .before .loop .inv in
+    let is-item = c .before .before .before .before .before .before .before .before .if1 .taken in
+    let is-part = part-to-end (start .args .tr .now) (c .before .before .before .before .before .before .before .before .before .before .loop .o) in
+    let far = list-further u g inv is-item is-part (c .skip .ensures) in
+    let within : c .before .before .before .before .before .before .before .before .before .before .loop .o + c .skip .result < length (start .args .tr .now) = far .1 in
     omega (arith, within, start .good .1 .1 .1 .1 .1 .1 .1 .1 .1 .1 .1 .1 .1 .0 .0)
 
 items-loop-less : (t : ℕ) → items-lts.Need-loop-less (
@@ -745,10 +796,13 @@ items-loop-less : (t : ℕ) → items-lts.Need-loop-less (
   skip-reads.Learnt,
 ) (items-at t) items.Post items-Inv-loop items-μ-loop
 items-loop-less t c =
-    let start = c .before .before .before .before .before .before .before .before .before .before .before .before .before .before .before in
+    let start = c .before .before .before .before .before .before .before .before .before .before .before .before .before .before .before .before in
     let u = start .pre .1 .0 in
     let g = start .pre .1 .1 .0 in
-    let far = list-further u g (c .before .before .before .before .before .before .before .before .before .loop .inv) (c .before .before .before .before .before .before .before .if1 .taken) (c .skip .ensures) in
+    let inv = c .before .before .before .before .before .before .before .before .before .before .loop .inv in
+    let is-item = c .before .before .before .before .before .before .before .before .if1 .taken in
+    let is-part = part-to-end (start .args .tr .now) (c .before .before .before .before .before .before .before .before .before .before .loop .o) in
+    let far = list-further u g inv is-item is-part (c .skip .ensures) in
     omega (arith, far .0, far .1)
 
 items-loop-again : (t : ℕ) → items-lts.Need-loop-again (
@@ -760,16 +814,17 @@ items-loop-again : (t : ℕ) → items-lts.Need-loop-again (
   skip-reads.Learnt,
 ) (items-at t) items.Post items-Inv-loop items-μ-loop
 items-loop-again t c =
-    let start = c .before .before .before .before .before .before .before .before .before .before .before .before .before .before .before in
+    let start = c .before .before .before .before .before .before .before .before .before .before .before .before .before .before .before .before in
     let u = start .pre .1 .0 in
     let g = start .pre .1 .1 .0 in
-    let inv = c .before .before .before .before .before .before .before .before .before .loop .inv in
-    let is-item = c .before .before .before .before .before .before .before .if1 .taken in
+    let inv = c .before .before .before .before .before .before .before .before .before .before .loop .inv in
+    let is-item = c .before .before .before .before .before .before .before .before .if1 .taken in
+    let is-part = part-to-end (start .args .tr .now) (c .before .before .before .before .before .before .before .before .before .before .loop .o) in
     let one = c .before .before .before .before .before .before .one-edge .ensures in
     let made = c .before .before .before .element .ensures in
     let skipped = c .skip .ensures in
-    let far = list-further u g inv is-item skipped in
-    record { low = omega (arith, inv .low, far .0); long = makes-length (made (item-task u g inv is-item one .0)) ∙ inv .long; few = made (item-task u g inv is-item one .0) .few; left = λ h. item-left u h inv is-item one (made (item-task u h inv is-item one .0)) skipped }
+    let b = item-task u g inv is-item is-part one .0 in
+    record { low = omega (arith, inv .low); long = makes-length (made b) ∙ inv .long; few = made b .few; left = λ h. item-left u h inv is-item is-part one (made (item-task u h inv is-item is-part one .0)) skipped }
 
 items-same-length : (t : ℕ) → items-lts.Need-same-length (
   one-edge-reads.Asked,
@@ -1338,11 +1393,14 @@ pub +element+grow+items+placed+row-spec : {M : Type 1} → statement M
     (items-element-copy-out-all t)
     (items-loop-holds t)
     (items-shared-slice-read-if1 t)
-    (items-add-inside t)
+    (items-sub-item t)
+    (items-part-item-start t)
+    (items-part-item-end t)
     (items-one-edge-requires t)
     (items-element-requires t)
     (items-skip-requires t)
     (items-add-o t)
+    (items-add-o-2 t)
     (items-loop-less t)
     (items-loop-again t)
     (items-same-length t)

@@ -1,23 +1,12 @@
 -- `edges_of` meets its contract, by the kind of the source type.
-use mathlib.Core.Path.{_≡_, refl, _∙_}
-use Prim.Native.Nat.{ℕ, suc, _+_, _*_, _<_, _≤_}
+use Prim.Native.Nat.{_+_, _<_}
 use native.Mathlib.Omega.{arith}
-use lib.ListN.{length, getD, drop}
-use Rattle.model.specs.Definitions.Table.{list, kindOf}
-use Rattle.images.specs.Setting.{sourceOf, world}
-use Rattle.images.specs.Growing.{Element}
+use lib.ListN.{length}
 use Rattle.images.proofs.Preparing.{type-small, kind-code, prepare-empty, prepare-text}
 use Rattle.images.proofs.Choosing.{few-members, row-within, choice-within, choice-index, prepare-choice, leads-at, prepare-list-at, sequence-children, prepare-sequence, kind-list}
 use borrow.Author.Needs.{needs}
 use Rattle.images.proofs.edges_of.Statement.{statement}
 use Rattle.images.proofs.edges_of.Tie as tie
-use Rattle.images.proofs.edges_of.Reads as reads
-use Rattle.images.proofs.edges_of.Lts as lts
-use Rattle.images.proofs.list_depth.Reads as list-depth-reads
-use Rattle.images.proofs.member_edges.Reads as member-edges-reads
-use Rattle.images.proofs.member_index.Reads as member-index-reads
-use Rattle.images.proofs.no_edges.Reads as no-edges-reads
-use Rattle.images.proofs.one_edge.Reads as one-edge-reads
 
 -- src/lib.rt:231:16
 mul-base : tie.Need-mul-base

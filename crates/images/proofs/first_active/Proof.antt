@@ -7,8 +7,6 @@ use borrow.Author.Needs.{needs}
 use lib.ListN.{getD}
 use Rattle.images.proofs.first_active.Statement.{statement}
 use Rattle.images.proofs.first_active.Tie as tie
-use Rattle.images.proofs.first_active.Reads as reads
-use Rattle.images.proofs.first_active.Lts as lts
 
 abbrev Inv-loop : tie.InvT-loop
 Inv-loop act i₀ i = (i ≤ 16) × ((j : ℕ) → j < i → getD act j 0 ≡ 1 → ⊥)

@@ -5,8 +5,6 @@ use Rattle.images.proofs.Descending.{Descends, descends-none, descends-
 use Rattle.images.proofs.list_depth.Statement.{statement}
 use Rattle.images.proofs.list_depth.Tie as tie
 use Rattle.images.proofs.list_depth.Reads as reads
-use Rattle.images.proofs.list_depth.Lts as lts
-use Rattle.images.proofs.step.Reads as step-reads
 
 abbrev Inv-loop : tie.InvT-loop
 Inv-loop types2 k2 c2 m2 st em edge all t steps here₀ d₀ here d = Descends types2 k2 c2 m2 st em edge all t here d

@@ -1,16 +1,12 @@
 -- `member_edges` meets its contract: the members before index i are done.
 use mathlib.Core.Path.{refl}
-use Prim.Native.Nat.{ℕ, _+_, _<_, _-_}
+use Prim.Native.Nat.{_+_, _<_, _-_}
 use native.Mathlib.Omega.{arith}
-use borrow.Author.Needs.{needs}
 use lib.ListN.{length}
 use Rattle.images.proofs.Marking.{none-marked}
 use Rattle.images.proofs.Collecting.{Collects, left-starts, left-inside, left-within, left-close, collects-more, collects-all}
 use Rattle.images.proofs.member_edges.Statement.{statement}
 use Rattle.images.proofs.member_edges.Tie as tie
-use Rattle.images.proofs.member_edges.Reads as reads
-use Rattle.images.proofs.member_edges.Lts as lts
-use Rattle.scanning.proofs.skip.Reads as skip-reads
 
 abbrev Inv-loop : tie.InvT-loop
 Inv-loop ln tr base count from act₀ stop₀ kids₀ o₀ i₀ act stop kids o i = Collects ln tr base count from act stop kids o i

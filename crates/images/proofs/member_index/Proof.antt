@@ -7,8 +7,6 @@ use borrow.Author.Needs.{needs}
 use lib.ListN.{getD}
 use Rattle.images.proofs.member_index.Statement.{statement}
 use Rattle.images.proofs.member_index.Tie as tie
-use Rattle.images.proofs.member_index.Reads as reads
-use Rattle.images.proofs.member_index.Lts as lts
 
 abbrev Inv-loop : tie.InvT-loop
 Inv-loop m1 base count t i₀ i = (i ≤ count) × ((j : ℕ) → j < i → getD m1 (base + j) 0 ≡ t → ⊥)

@@ -7,8 +7,6 @@ use Rattle.images.proofs.Marking.{Marks, marks-more}
 use Rattle.images.proofs.narrowed.Statement.{statement}
 use Rattle.images.proofs.narrowed.Tie as tie
 use Rattle.images.proofs.narrowed.Reads as reads
-use Rattle.images.proofs.narrowed.Lts as lts
-use Rattle.images.proofs.takes.Reads as takes-reads
 
 abbrev Inv-loop : tie.InvT-loop
 Inv-loop st em d q act first stop sub₀ i₀ sub i = Marks em st first act stop d q sub i

@@ -1,12 +1,9 @@
 -- `one_edge` meets its contract.
-use mathlib.Core.Path.{_≡_, refl}
-use native.Mathlib.Omega.{arith}
+use mathlib.Core.Path.{refl}
 use borrow.Author.Needs.{needs}
 use Rattle.images.proofs.Marking.{only-first}
 use Rattle.images.proofs.one_edge.Statement.{statement}
 use Rattle.images.proofs.one_edge.Tie as tie
-use Rattle.images.proofs.one_edge.Reads as reads
-use Rattle.images.proofs.one_edge.Lts as lts
 
 array-write-act : tie.Need-array-write-act
 array-write-act c = search needs

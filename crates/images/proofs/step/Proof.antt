@@ -5,8 +5,6 @@ use Rattle.images.specs.Selecting.{stepAt}
 use borrow.Author.Needs.{needs}
 use Rattle.images.proofs.step.Statement.{statement}
 use Rattle.images.proofs.step.Tie as tie
-use Rattle.images.proofs.step.Reads as reads
-use Rattle.images.proofs.step.Lts as lts
 
 -- src/lib.rt:49:17
 add-place : tie.Need-add-place

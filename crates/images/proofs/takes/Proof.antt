@@ -3,9 +3,6 @@ use native.Mathlib.Omega.{arith}
 use borrow.Author.Needs.{needs}
 use Rattle.images.proofs.takes.Statement.{statement}
 use Rattle.images.proofs.takes.Tie as tie
-use Rattle.images.proofs.takes.Reads as reads
-use Rattle.images.proofs.takes.Lts as lts
-use Rattle.images.proofs.step.Reads as step-reads
 
 -- src/lib.rt:70:9
 returns : tie.Need-returns

@@ -4,13 +4,6 @@ use Rattle.images.proofs.Whole.{has-root, root-element, opening, root-r
 use borrow.Author.Needs.{needs}
 use Rattle.images.proofs.write_image.Statement.{statement}
 use Rattle.images.proofs.write_image.Tie as tie
-use Rattle.images.proofs.write_image.Reads as reads
-use Rattle.images.proofs.write_image.Lts as lts
-use Rattle.images.proofs.edges_of.Reads as edges-of-reads
-use Rattle.images.proofs.grow.Reads as grow-reads
-use Rattle.writing.proofs.put_close.Reads as put-close-reads
-use Rattle.writing.proofs.put_end.Reads as put-end-reads
-use Rattle.writing.proofs.put_open.Reads as put-open-reads
 
 -- src/lib.rt:281:9
 edges-of-requires : tie.Need-edges-of-requires
