@@ -1,8 +1,13 @@
 /*
- * Lafindry: judging tables, embeddings and tree documents of paper 01.
+ * Lafindry: judging tables, embeddings and tree documents of paper 01, carrying a source document into its image, and
+ * bringing an image back.
  *
  * Every function takes any bytes and always answers. A document is lent as a pointer and a length; nothing is read
- * beyond it, nothing is kept, and nothing is allocated. A pointer may be anything where its length is 0.
+ * beyond it, nothing is kept, and nothing is allocated. A pointer may be anything where its length is 0. On documents
+ * of 128 levels, half a megabyte of stack was measured, so a thread that calls should have a megabyte.
+ *
+ * The caller's duty, which no function checks: each buffer has the length stated with it, and the output shares no byte
+ * with a document.
  */
 #ifndef LAFINDRY_H
 #define LAFINDRY_H
@@ -19,14 +24,15 @@ struct lafindry_answer {
     uint64_t refusal;  /* 0: accepted; else one of the refusals below */
     uint64_t document; /* the refused document, one of the documents below */
     uint64_t mark;     /* where: an offset in that document, or for LAFINDRY_NO_FINITE_INSTANCE a type's number */
-    uint64_t value;    /* accepted: the number of types, edges or elements */
-    uint64_t filler;   /* accepted: the number of filler elements of a carried image */
+    uint64_t value;    /* accepted: the number of types, edges or elements, or the number of bytes written */
+    uint64_t filler;   /* accepted by lafindry_carry: the number of the image's filler elements */
 };
 
-/* Refusals, by paper 01's numbers. */
+/* Refusals, by paper 01's numbers. For one document they are tried in this order; LAFINDRY_NO_IMAGE is tried before
+   the refusals of the output. */
 enum {
     LAFINDRY_ACCEPTED = 0,
-    LAFINDRY_TOO_LONG = 1,            /* a document is longer than 60,000 bytes */
+    LAFINDRY_TOO_LONG = 1,            /* a document is longer than LAFINDRY_MOST_BYTES */
     LAFINDRY_BAD_FORM = 2,            /* a command that can't stand there, or bytes run out */
     LAFINDRY_OVER_LIMIT = 3,          /* 65th type, 17th member, 13th step, 129th level */
     LAFINDRY_BAD_OPERAND = 4,         /* no such type, no such step, character not allowed */
@@ -36,7 +42,11 @@ enum {
     LAFINDRY_WRONG_END = 8,           /* a path ends at the wrong type */
     LAFINDRY_WRONG_STEPS = 9,         /* a path has the wrong kind of steps, or too few */
     LAFINDRY_PATH_CLASH = 10,         /* a path clashes with an earlier one of the same type */
-    LAFINDRY_UNEXPECTED = 11          /* no conforming document has this command after the same beginning */
+    LAFINDRY_UNEXPECTED = 11,         /* no conforming document has this command after the same beginning */
+    LAFINDRY_IMAGE_TOO_DEEP = 12,     /* the image to be written has a 129th level */
+    LAFINDRY_IMAGE_TOO_LONG = 13,     /* the image to be written is longer than LAFINDRY_MOST_BYTES */
+    LAFINDRY_OUTPUT_TOO_SHORT = 14,   /* the output is shorter than what would be written */
+    LAFINDRY_NO_IMAGE = 15            /* the tree to be brought back is the image of no conforming source document */
 };
 
 /* Documents. */
@@ -44,8 +54,12 @@ enum {
     LAFINDRY_SOURCE_TABLE = 1, /* the table, where there is one only */
     LAFINDRY_TARGET_TABLE = 2,
     LAFINDRY_EMBEDDING = 3,
-    LAFINDRY_TREE = 4
+    LAFINDRY_TREE = 4,
+    LAFINDRY_OUTPUT = 5
 };
+
+/* The greatest length of a document, so that an output of this length is never too short. */
+enum { LAFINDRY_MOST_BYTES = 60000 };
 
 /* Judges a table; `value` is its number of types. */
 struct lafindry_answer lafindry_judge_table(const uint8_t *table, size_t table_length);
@@ -58,6 +72,28 @@ struct lafindry_answer lafindry_judge_embedding(const uint8_t *source_table, siz
 /* Judges a tree document by a table, after the table; `value` is its number of elements. */
 struct lafindry_answer lafindry_judge_tree(const uint8_t *table, size_t table_length,
                                            const uint8_t *tree, size_t tree_length);
+
+/*
+ * Carries a source tree, after judging all documents: writes its image at the start of the output; `value` is the
+ * image's length and `filler` its number of filler elements. Every later byte of the output, and after a refusal every
+ * byte of it, is left as it was.
+ */
+struct lafindry_answer lafindry_carry(const uint8_t *source_table, size_t source_table_length,
+                                      const uint8_t *target_table, size_t target_table_length,
+                                      const uint8_t *embedding, size_t embedding_length,
+                                      const uint8_t *tree, size_t tree_length,
+                                      uint8_t *output, size_t output_length);
+
+/*
+ * Brings a target tree back, after judging all documents, the tree by the target table: writes the source document
+ * whose image it is at the start of the output; `value` is that document's length. Every later byte of the output, and
+ * after a refusal every byte of it, is left as it was.
+ */
+struct lafindry_answer lafindry_bring_back(const uint8_t *source_table, size_t source_table_length,
+                                           const uint8_t *target_table, size_t target_table_length,
+                                           const uint8_t *embedding, size_t embedding_length,
+                                           const uint8_t *tree, size_t tree_length,
+                                           uint8_t *output, size_t output_length);
 
 #ifdef __cplusplus
 }

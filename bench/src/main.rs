@@ -1,90 +1,176 @@
-//! Times the library and the reference on the same inputs, in one run. A line
-//! has the length of the entry's last document, both times of one call in
-//! microseconds, and the library's time divided by the reference's.
+//! Times the library and the reference on the same inputs, in one run. First
+//! each input's answer and output bytes are compared. A line has the length of
+//! the entry's last document and of what is written, both times of one call in
+//! microseconds, and the library's time divided by the reference's. Where an
+//! input has many cases, all these are means.
 
+mod documents;
+mod images;
 mod inputs;
 
 use inputs::Input;
-use lafindry_entries::{call, compare};
-use lafindry_reference::vectors::{Answer, Entry};
-use lafindry_reference::{bring_back, carry, judge_embedding, judge_table, judge_tree, Refusal};
+use lafindry_entries::{call, compare, ensure, Failure};
+use lafindry_reference::vectors::{Answer, Case, Entry};
+use lafindry_reference::{bring_back, carry, judge_embedding, judge_table, judge_tree, Refusal, MOST_BYTES};
 use std::hint::black_box;
 use std::process::ExitCode;
 use std::time::{Duration, Instant};
 
-/// How many times each side is timed. The best time counts, as the others are
-/// longer only by what else the machine does.
-const ROUNDS: usize = 500;
+/// How many times each side is timed at most, and for how long at most. The
+/// best time counts, as the others are longer only by what else the machine
+/// does.
+const ROUNDS: u32 = 500;
+const MOST: Duration = Duration::from_millis(800);
 /// The least duration of a timing, reached by repeating the call. It is short,
 /// so that some timings are not interrupted on a busy machine.
 const LEAST: Duration = Duration::from_micros(200);
 
 fn main() -> ExitCode {
-    print_row(["entry", "input", "bytes", "library", "reference", "ratio", "answer"]);
-    let mut highest: f64 = 0.0;
-    for Input { name, case } in inputs::all() {
-        let answer = match compare(&case) {
-            Ok(Answer::Ok { value, .. }) => format!("ok {value}"),
-            Ok(refused) => refused.to_string(),
+    print_row(["entry", "input", "bytes", "written", "library", "reference", "ratio", "answer"]);
+    let mut rows = Vec::new();
+    for input in inputs::all() {
+        match time_input(&input) {
+            Ok(row) => {
+                row.print();
+                rows.push(row);
+            }
             Err(failure) => {
-                println!("{name}: the answers differ\n{failure:?}");
+                println!("{}: the answers differ\n{failure:?}", input.name);
                 return ExitCode::from(1);
             }
-        };
-        let (mut output, mut other) = (vec![0; case.output_length], vec![0; case.output_length]);
-        let (library, reference) = best_times(
-            || call(case.entry, black_box(&case.documents), &mut output),
-            || call_reference(case.entry, black_box(&case.documents), &mut other),
-        );
-        let (bytes, ratio) = (case.documents[case.documents.len() - 1].len(), library / reference);
-        if case.entry == Entry::JudgeTree && bytes > 59_000 {
-            highest = highest.max(ratio);
         }
-        print_row([
-            case.entry.name(),
-            name,
-            &bytes.to_string(),
-            &format!("{library:.3}"),
-            &format!("{reference:.3}"),
-            &format!("{ratio:.2}"),
-            &answer,
-        ]);
     }
-    println!("highest ratio for trees of more than 59,000 bytes: {highest:.2}");
+    for entry in Entry::ALL {
+        print_highest(entry, &rows);
+    }
     ExitCode::SUCCESS
 }
 
-/// Prints a row in columns.
-fn print_row([entry, input, bytes, library, reference, ratio, answer]: [&str; 7]) {
-    println!("{entry:<15} {input:<34} {bytes:>6} {library:>10} {reference:>10} {ratio:>6}  {answer}");
+/// Prints the highest ratio of an entry, and that near the greatest length.
+fn print_highest(entry: Entry, rows: &[Row]) {
+    let of_entry = || rows.iter().filter(|row| row.entry == entry);
+    let long = of_entry().filter(|row| row.bytes.max(row.written) > 59_000);
+    print!("highest ratio of {}: {:.2}", entry.name(), of_entry().map(Row::ratio).fold(0.0, f64::max));
+    match long.map(Row::ratio).reduce(f64::max) {
+        Some(ratio) => println!(", above 59,000 bytes {ratio:.2}"),
+        None => println!(),
+    }
 }
 
-/// Calls the reference as the library is called. An answer is a value and a
-/// number of filler elements.
-fn call_reference(entry: Entry, d: &[Vec<u8>], output: &mut [u8]) -> Result<(u64, u64), Refusal> {
-    match entry {
+/// What is printed of an input.
+struct Row {
+    entry: Entry,
+    name: &'static str,
+    bytes: usize,
+    written: usize,
+    /// Microseconds of one call.
+    library: f64,
+    reference: f64,
+    answer: String,
+}
+
+impl Row {
+    fn ratio(&self) -> f64 {
+        self.library / self.reference
+    }
+
+    fn print(&self) {
+        print_row([
+            self.entry.name(),
+            self.name,
+            &self.bytes.to_string(),
+            &self.written.to_string(),
+            &format!("{:.3}", self.library),
+            &format!("{:.3}", self.reference),
+            &format!("{:.2}", self.ratio()),
+            &self.answer,
+        ]);
+    }
+}
+
+/// Prints a row in columns.
+fn print_row([entry, input, bytes, written, library, reference, ratio, answer]: [&str; 8]) {
+    println!(
+        "{entry:<15} {input:<30} {bytes:>6} {written:>7} {library:>10} {reference:>10} {ratio:>6}  {answer}"
+    );
+}
+
+/// Compares the answers to an input, then times both sides.
+fn time_input(Input { name, cases }: &Input) -> Result<Row, Failure> {
+    let answers = cases.iter().map(compare).collect::<Result<Vec<Answer>, Failure>>()?;
+    let (mut output, mut other) = (vec![0; MOST_BYTES], vec![0; MOST_BYTES]);
+    let (library, reference) = best_times(
+        || cases.iter().for_each(|case| library_call(black_box(case), &mut output)),
+        || cases.iter().for_each(|case| reference_call(black_box(case), &mut other)),
+    );
+    ensure(output == other, "after the timing the outputs differ")?;
+    let count = cases.len();
+    let bytes = cases.iter().map(|case| case.documents[case.documents.len() - 1].len()).sum::<usize>();
+    let written = answers.iter().map(written).sum::<usize>();
+    Ok(Row {
+        entry: cases[0].entry,
+        name,
+        bytes: bytes / count,
+        written: written / count,
+        library: library / count as f64,
+        reference: reference / count as f64,
+        answer: if count == 1 { summary(&answers[0]) } else { format!("{count} accepted") },
+    })
+}
+
+/// How many bytes an answer wrote.
+fn written(answer: &Answer) -> usize {
+    match answer {
+        Answer::Ok { output, .. } => output.len(),
+        Answer::Refused(_) => 0,
+    }
+}
+
+/// An answer without the bytes written.
+fn summary(answer: &Answer) -> String {
+    match answer {
+        Answer::Ok { value, filler: 0, .. } => format!("ok {value}"),
+        Answer::Ok { value, filler, .. } => format!("ok {value}, filler {filler}"),
+        refused => refused.to_string(),
+    }
+}
+
+/// Calls the library.
+fn library_call(case: &Case, output: &mut [u8]) {
+    black_box(call(case.entry, &case.documents, &mut output[..case.output_length]));
+}
+
+/// Calls the reference as the library is called.
+fn reference_call(case: &Case, output: &mut [u8]) {
+    let (d, output) = (&case.documents, &mut output[..case.output_length]);
+    let answer: Result<(u64, u64), Refusal> = match case.entry {
         Entry::JudgeTable => judge_table(&d[0]).map(|types| (types, 0)),
         Entry::JudgeEmbedding => judge_embedding(&d[0], &d[1], &d[2]).map(|edges| (edges, 0)),
         Entry::JudgeTree => judge_tree(&d[0], &d[1]).map(|elements| (elements, 0)),
         Entry::Carry => carry(&d[0], &d[1], &d[2], &d[3], output).map(|c| (c.length, c.filler)),
         Entry::BringBack => bring_back(&d[0], &d[1], &d[2], &d[3], output).map(|length| (length, 0)),
-    }
+    };
+    let _ = black_box(answer);
 }
 
 /// The best times of one call of two functions, in microseconds. They are
 /// timed in turn, so that a slow phase of the machine meets both.
-fn best_times<A, B>(mut first: impl FnMut() -> A, mut second: impl FnMut() -> B) -> (f64, f64) {
+fn best_times(mut first: impl FnMut(), mut second: impl FnMut()) -> (f64, f64) {
     let (calls_first, calls_second) = (enough_calls(&mut first), enough_calls(&mut second));
     let mut best = (f64::INFINITY, f64::INFINITY);
-    for _ in 0..ROUNDS {
+    let start = Instant::now();
+    for round in 0..ROUNDS {
         best.0 = best.0.min(time(&mut first, calls_first).as_secs_f64() * 1e6 / calls_first as f64);
         best.1 = best.1.min(time(&mut second, calls_second).as_secs_f64() * 1e6 / calls_second as f64);
+        if round >= 10 && start.elapsed() > 2 * MOST {
+            break;
+        }
     }
     best
 }
 
 /// How many calls last long enough to be timed.
-fn enough_calls<A>(function: &mut impl FnMut() -> A) -> u32 {
+fn enough_calls(function: &mut impl FnMut()) -> u32 {
     let mut calls = 1;
     while time(function, calls) < LEAST {
         calls *= 2;
@@ -93,10 +179,10 @@ fn enough_calls<A>(function: &mut impl FnMut() -> A) -> u32 {
 }
 
 /// How long some calls last.
-fn time<A>(function: &mut impl FnMut() -> A, calls: u32) -> Duration {
+fn time(function: &mut impl FnMut(), calls: u32) -> Duration {
     let start = Instant::now();
     for _ in 0..calls {
-        black_box(function());
+        function();
     }
     start.elapsed()
 }

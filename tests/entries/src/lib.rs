@@ -1,12 +1,20 @@
 //! The library's C entries, called as `include/lafindry.h` declares them, and
 //! compared with the cases and answers of the reference.
 //!
-//! The feature `writers` adds carry and bring back. [`ENTRIES`] lists the
-//! entries that can be called.
+//! [`compare`] runs one case through both; every test is built on it or on
+//! [`check`].
 
+mod histogram;
+mod setting;
+
+pub use histogram::Histogram;
+pub use setting::Setting;
+
+use lafindry_reference::generate::Rng;
 use lafindry_reference::vectors::{Answer, Case, Entry, JUNK};
 use lafindry_reference::Refusal;
 use std::fmt;
+use std::io::Write;
 
 /// `struct lafindry_answer`.
 #[repr(C)]
@@ -35,7 +43,6 @@ extern "C" {
         tree: *const u8,
         tree_length: usize,
     ) -> CAnswer;
-    #[cfg(feature = "writers")]
     fn lafindry_carry(
         source_table: *const u8,
         source_table_length: usize,
@@ -48,7 +55,6 @@ extern "C" {
         output: *mut u8,
         output_length: usize,
     ) -> CAnswer;
-    #[cfg(feature = "writers")]
     fn lafindry_bring_back(
         source_table: *const u8,
         source_table_length: usize,
@@ -63,22 +69,12 @@ extern "C" {
     ) -> CAnswer;
 }
 
-/// The entries that can be called, in the order of paper 01.
-pub const ENTRIES: &[Entry] = if cfg!(feature = "writers") {
-    &Entry::ALL
-} else {
-    &[Entry::JudgeTable, Entry::JudgeEmbedding, Entry::JudgeTree]
-};
-
-/// Calls an entry of [`ENTRIES`] on its documents, in the order of paper 01.
-/// Entries that don't write leave the output aside.
+/// Calls an entry on its documents, in the order of paper 01. Entries that
+/// don't write leave the output aside.
 pub fn call(entry: Entry, documents: &[Vec<u8>], output: &mut [u8]) -> CAnswer {
     assert_eq!(documents.len(), entry.documents());
     let (d, n) = (|at: usize| documents[at].as_ptr(), |at: usize| documents[at].len());
-    #[cfg(feature = "writers")]
     let (o, room) = (output.as_mut_ptr(), output.len());
-    #[cfg(not(feature = "writers"))]
-    let _ = output;
     // Each pointer comes with the length of the bytes it points to, and the
     // output, borrowed as mutable, shares no byte with the documents.
     unsafe {
@@ -86,31 +82,47 @@ pub fn call(entry: Entry, documents: &[Vec<u8>], output: &mut [u8]) -> CAnswer {
             Entry::JudgeTable => lafindry_judge_table(d(0), n(0)),
             Entry::JudgeEmbedding => lafindry_judge_embedding(d(0), n(0), d(1), n(1), d(2), n(2)),
             Entry::JudgeTree => lafindry_judge_tree(d(0), n(0), d(1), n(1)),
-            #[cfg(feature = "writers")]
             Entry::Carry => lafindry_carry(d(0), n(0), d(1), n(1), d(2), n(2), d(3), n(3), o, room),
-            #[cfg(feature = "writers")]
             Entry::BringBack => lafindry_bring_back(d(0), n(0), d(1), n(1), d(2), n(2), d(3), n(3), o, room),
-            #[cfg(not(feature = "writers"))]
-            Entry::Carry | Entry::BringBack => panic!("{}: the feature `writers` is off", entry.name()),
         }
     }
 }
 
-/// How many bytes after the lent output are watched.
+/// How many bytes on each side of the lent output are watched.
 const WATCHED: usize = 64;
 
-/// Runs a case through its C entry, on an output filled with [`JUNK`]. The
-/// error says that a field which doesn't apply isn't 0, or that a byte changed
-/// which should have been kept.
+/// Runs a case through its C entry, on an output that holds junk. The error
+/// says that a field which doesn't apply isn't 0, or that a byte changed which
+/// should have been kept: of the output, of those beside it, or of a document.
 pub fn run(case: &Case) -> Result<Answer, String> {
-    let before = vec![JUNK; case.output_length + WATCHED];
-    let mut after = before.clone();
-    let given = call(case.entry, &case.documents, &mut after[..case.output_length]);
-    let answer = read(case, given, &after)?;
-    if answer.final_output(&before) != after {
-        return Err(format!("{answer}, but other bytes changed too"));
+    let before = junk(case);
+    let (mut after, documents) = (before.clone(), case.documents.clone());
+    let lent = WATCHED..WATCHED + case.output_length;
+    let given = call(case.entry, &documents, &mut after[lent.clone()]);
+    let answer = read(case, given, &after[lent.clone()])?;
+    if documents != case.documents {
+        return Err(format!("{answer}, but a document changed"));
     }
-    Ok(answer)
+    let expected = [&before[..lent.start], &answer.final_output(&before[lent.clone()]), &before[lent.end..]];
+    match expected.concat() == after {
+        true => Ok(answer),
+        false => Err(format!("{answer}, but other bytes changed too")),
+    }
+}
+
+/// What the lent output and the bytes beside it hold before a call: a byte that
+/// is in no document, any bytes, or the last document again and again. A case
+/// always gets the same.
+fn junk(case: &Case) -> Vec<u8> {
+    let length = case.output_length + 2 * WATCHED;
+    let seed = case.documents.iter().map(Vec::len).sum::<usize>() + length;
+    let mut rng = Rng::new(seed as u64);
+    let last = case.documents.last().filter(|document| !document.is_empty());
+    match (rng.below(3), last) {
+        (0, _) => (0..length).map(|_| rng.byte()).collect(),
+        (1, Some(document)) => document.iter().copied().cycle().take(length).collect(),
+        _ => vec![JUNK; length],
+    }
 }
 
 /// The answer that a C answer stands for, with the bytes written.
@@ -171,4 +183,12 @@ pub fn ensure(condition: bool, message: impl Into<String>) -> Result<(), Failure
         true => Ok(()),
         false => Err(Failure(message.into())),
     }
+}
+
+/// Prints a line or more of what a test saw. `println!` would show it for
+/// failed tests only.
+pub fn report(text: &str) {
+    let mut out = std::io::stdout().lock();
+    // A closed standard output is no failure of the library.
+    let _ = writeln!(out, "{text}").and_then(|()| out.flush());
 }

@@ -1,7 +1,7 @@
 //! The C entries agree with the reference on the worked patch and on every
 //! document that differs from it in one place.
 
-use lafindry_entries::{compare, Failure, ENTRIES};
+use lafindry_entries::{compare, ensure, report, Failure, Histogram};
 use lafindry_reference::vectors::{Answer, Case, Entry};
 use lafindry_reference::MOST_BYTES;
 
@@ -48,18 +48,22 @@ fn changes(document: &[u8]) -> Vec<Vec<u8>> {
 
 #[test]
 fn changes_of_the_patch_agree() -> Result<(), Failure> {
-    let mut cases = 0;
-    for &entry in ENTRIES {
+    let mut histogram = Histogram::default();
+    for entry in Entry::ALL {
         let patch = patch_case(entry);
         for at in 0..patch.documents.len() {
             for changed in changes(&patch.documents[at]) {
                 let mut case = patch.clone();
                 case.documents[at] = changed;
-                compare(&case)?;
-                cases += 1;
+                let answer = compare(&case)?;
+                histogram.add(&case, &answer);
             }
         }
     }
-    println!("{cases} cases");
-    Ok(())
+    report(&format!("changes of the patch: {} cases agree\n{histogram}", histogram.total()));
+    // The refusals that a change in one place can bring about.
+    let count = |number| Entry::ALL.map(|entry| histogram.of(entry, number)).iter().sum::<usize>();
+    let rare = [2, 4, 5, 6, 8, 9, 11, 15].into_iter().find(|&number| count(number) == 0);
+    ensure(rare.is_none(), format!("refusal {rare:?} did not occur"))?;
+    ensure(histogram.total() > 135_000 && count(0) > 600, "too few cases")
 }

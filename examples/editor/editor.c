@@ -1,0 +1,175 @@
+/*
+ * A start for a desktop editor: loads a source table, a target table, an embedding and a tree, judges them, carries the
+ * tree, brings its image back and compares. Every refusal is printed in words.
+ *
+ *     editor [SOURCE-TABLE TARGET-TABLE EMBEDDING TREE]
+ *
+ * Without files it takes those of examples/patch. It ends with 0 where the tree came back, 1 after a refusal, and 2
+ * where it could not do its work.
+ */
+#include "lafindry.h"
+
+#include <inttypes.h>
+#include <stdio.h>
+#include <string.h>
+
+enum { DONE = 0, REFUSED = 1, FAILED = 2 };
+
+/* A loaded file. One byte more than a document may have is kept, so that the library can refuse what is too long. */
+struct document {
+    const char *file;
+    uint8_t bytes[LAFINDRY_MOST_BYTES + 1];
+    size_t length;
+};
+
+/* The documents by their numbers less 1, and the two outputs. They are large, so they don't stand on the stack. */
+static struct document documents[4] = {
+    {.file = "examples/patch/s1"},
+    {.file = "examples/patch/s2"},
+    {.file = "examples/patch/em"},
+    {.file = "examples/patch/tr"},
+};
+static uint8_t image[LAFINDRY_MOST_BYTES], source[LAFINDRY_MOST_BYTES];
+
+static const char *const names[] = {
+    [LAFINDRY_SOURCE_TABLE] = "source table", [LAFINDRY_TARGET_TABLE] = "target table",
+    [LAFINDRY_EMBEDDING] = "embedding",       [LAFINDRY_TREE] = "tree",
+    [LAFINDRY_OUTPUT] = "output",
+};
+
+/* What a refusal's mark counts. */
+enum mark { NOTHING, BYTES, TYPES };
+
+static const struct {
+    enum mark mark;
+    const char *words;
+} refusals[] = {
+    [LAFINDRY_TOO_LONG] = {NOTHING, "longer than 60,000 bytes"},
+    [LAFINDRY_BAD_FORM] = {BYTES, "no command that can stand there, or the bytes run out"},
+    [LAFINDRY_OVER_LIMIT] = {BYTES, "a type, member, step or level too many"},
+    [LAFINDRY_BAD_OPERAND] = {BYTES, "no such type, no such step, or a character that is not allowed"},
+    [LAFINDRY_REPEATED_MEMBER] = {BYTES, "a choice names a type twice"},
+    [LAFINDRY_NO_FINITE_INSTANCE] = {TYPES, "the type has no finite instance"},
+    [LAFINDRY_ROOT_MOVED] = {NOTHING, "the root is not mapped to the root"},
+    [LAFINDRY_WRONG_END] = {BYTES, "the path ends at the wrong type"},
+    [LAFINDRY_WRONG_STEPS] = {BYTES, "the path has the wrong kind of steps, or too few"},
+    [LAFINDRY_PATH_CLASH] = {BYTES, "the path clashes with an earlier one of the same type"},
+    [LAFINDRY_UNEXPECTED] = {BYTES, "no conforming tree goes on like this"},
+    [LAFINDRY_IMAGE_TOO_DEEP] = {NOTHING, "the image would have more than 128 levels"},
+    [LAFINDRY_IMAGE_TOO_LONG] = {NOTHING, "the image would be longer than 60,000 bytes"},
+    [LAFINDRY_OUTPUT_TOO_SHORT] = {NOTHING, "too short for what would be written"},
+    [LAFINDRY_NO_IMAGE] = {NOTHING, "not the image of any source tree"},
+};
+
+/* Prints a refusal: the document, the place in it if there is one, and the reason. */
+static void print_refusal(struct lafindry_answer answer)
+{
+    /* An answer out of range would mean that the header and the library are not of one version. */
+    if (answer.refusal >= sizeof refusals / sizeof refusals[0] || answer.document >= sizeof names / sizeof names[0]) {
+        printf("refused: an unknown answer\n");
+        return;
+    }
+    printf("refused: %s", names[answer.document]);
+    if (refusals[answer.refusal].mark == BYTES)
+        printf(", offset %" PRIu64, answer.mark);
+    if (refusals[answer.refusal].mark == TYPES)
+        printf(", type %" PRIu64, answer.mark);
+    printf(": %s (refusal %" PRIu64 ")\n", refusals[answer.refusal].words, answer.refusal);
+}
+
+/* Loads a file; whether that succeeded. */
+static int load(struct document *document)
+{
+    FILE *file = fopen(document->file, "rb");
+    if (file == NULL) {
+        perror(document->file);
+        return 0;
+    }
+    document->length = fread(document->bytes, 1, sizeof document->bytes, file);
+    int good = !ferror(file);
+    if (!good)
+        perror(document->file);
+    if (fclose(file) != 0) {
+        perror(document->file);
+        good = 0;
+    }
+    return good;
+}
+
+/* Prints what a judge answered about a document; whether it was accepted. */
+static int judged(struct lafindry_answer answer, uint64_t number, const char *counted)
+{
+    if (answer.refusal != LAFINDRY_ACCEPTED) {
+        print_refusal(answer);
+        return 0;
+    }
+    const struct document *document = &documents[number - 1];
+    printf("%s: %s, %zu bytes, %" PRIu64 " %s\n", names[number], document->file, document->length, answer.value,
+           counted);
+    return 1;
+}
+
+/* Judges the target table. A table that is judged alone is document 1 in a refusal; here it is document 2. */
+static struct lafindry_answer judge_target(const struct document *table)
+{
+    struct lafindry_answer answer = lafindry_judge_table(table->bytes, table->length);
+    if (answer.refusal != LAFINDRY_ACCEPTED)
+        answer.document = LAFINDRY_TARGET_TABLE;
+    return answer;
+}
+
+/* Judges the four documents in their order; whether all are accepted. An editor would do this when it opens a file;
+   carrying and bringing back judge them again. */
+static int judge_all(void)
+{
+    const struct document *s = &documents[0], *t = &documents[1], *e = &documents[2], *tree = &documents[3];
+    return judged(lafindry_judge_table(s->bytes, s->length), LAFINDRY_SOURCE_TABLE, "types") &&
+           judged(judge_target(t), LAFINDRY_TARGET_TABLE, "types") &&
+           judged(lafindry_judge_embedding(s->bytes, s->length, t->bytes, t->length, e->bytes, e->length),
+                  LAFINDRY_EMBEDDING, "edges") &&
+           judged(lafindry_judge_tree(s->bytes, s->length, tree->bytes, tree->length), LAFINDRY_TREE, "elements");
+}
+
+/* Carries the tree, brings its image back and compares; gives the status to end with. */
+static int go_there_and_back(void)
+{
+    const struct document *s = &documents[0], *t = &documents[1], *e = &documents[2], *tree = &documents[3];
+    struct lafindry_answer there = lafindry_carry(s->bytes, s->length, t->bytes, t->length, e->bytes, e->length,
+                                                  tree->bytes, tree->length, image, sizeof image);
+    if (there.refusal != LAFINDRY_ACCEPTED) {
+        print_refusal(there);
+        return REFUSED;
+    }
+    printf("image: %" PRIu64 " bytes, filler elements: %" PRIu64 "\n", there.value, there.filler);
+
+    struct lafindry_answer back =
+        lafindry_bring_back(s->bytes, s->length, t->bytes, t->length, e->bytes, e->length, image, (size_t)there.value,
+                            source, sizeof source);
+    if (back.refusal != LAFINDRY_ACCEPTED) {
+        print_refusal(back);
+        return REFUSED;
+    }
+    int same = back.value == tree->length && memcmp(source, tree->bytes, tree->length) == 0;
+    printf("brought back: %" PRIu64 " bytes, %s\n", back.value, same ? "the same as the tree" : "another tree");
+    return same ? DONE : FAILED;
+}
+
+int main(int count, char **arguments)
+{
+    if (count != 1 && count != 5) {
+        fprintf(stderr, "usage: editor [SOURCE-TABLE TARGET-TABLE EMBEDDING TREE]\n");
+        return FAILED;
+    }
+    for (int i = 0; i < 4; i++) {
+        if (count == 5)
+            documents[i].file = arguments[1 + i];
+        if (!load(&documents[i]))
+            return FAILED;
+    }
+    int status = judge_all() ? go_there_and_back() : REFUSED;
+    if (fflush(stdout) != 0 || ferror(stdout)) {
+        perror("standard output");
+        return FAILED;
+    }
+    return status;
+}

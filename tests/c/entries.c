@@ -1,0 +1,714 @@
+/*
+ * Calls the five entries through include/lafindry.h, with buffers lent as lend.h says. Prints one line for each group
+ * and last 'N passed, M failed'. With the argument 'tallies' it prints the tallies of all changes instead, as they
+ * stand in `places`.
+ */
+#include "lend.h"
+
+#include <stdio.h>
+#include <stdlib.h>
+#include <string.h>
+
+_Static_assert(sizeof(struct lafindry_answer) == 5 * sizeof(uint64_t), "an answer is five numbers");
+
+/* The patch of paper 01, and its image. */
+static const struct document SOURCE =
+    BYTES(0x12, 0x15, 0x01, 0x15, 0x02, 0x10, 0x13, 0x15, 0x03, 0x15, 0x04, 0x11, 0x11, 0x1F);
+static const struct document TARGET = BYTES(0x12, 0x15, 0x01, 0x15, 0x02, 0x12, 0x15, 0x03, 0x15, 0x03, 0x13, 0x15,
+                                            0x04, 0x15, 0x05, 0x10, 0x11, 0x11, 0x1F);
+static const struct document EMBEDDING =
+    BYTES(0x20, 0x00, 0x21, 0x22, 0x01, 0x22, 0x01, 0x21, 0x22, 0x02, 0x20, 0x03, 0x21, 0x20, 0x02, 0x21, 0x22, 0x02,
+          0x21, 0x22, 0x01, 0x20, 0x05, 0x20, 0x04, 0x2F);
+static const struct document TREE =
+    BYTES(0x30, 0x00, 0x30, 0x01, 0x31, 0x41, 0x32, 0x30, 0x02, 0x30, 0x03, 0x32, 0x32, 0x32, 0x3F);
+static const struct document IMAGE = BYTES(0x30, 0x00, 0x30, 0x01, 0x30, 0x03, 0x31, 0x41, 0x32, 0x30, 0x03, 0x32,
+                                           0x32, 0x30, 0x02, 0x30, 0x05, 0x32, 0x32, 0x32, 0x3F);
+
+/* Calls. */
+
+static struct call judge_table(struct document table)
+{
+    return (struct call){JUDGE_TABLE, {table}, 0};
+}
+
+static struct call judge_embedding(struct document source, struct document target, struct document embedding)
+{
+    return (struct call){JUDGE_EMBEDDING, {source, target, embedding}, 0};
+}
+
+static struct call judge_tree(struct document table, struct document tree)
+{
+    return (struct call){JUDGE_TREE, {table, tree}, 0};
+}
+
+static struct call carry(struct document source, struct document target, struct document embedding,
+                         struct document tree, size_t room)
+{
+    return (struct call){CARRY, {source, target, embedding, tree}, room};
+}
+
+static struct call bring_back(struct document source, struct document target, struct document embedding,
+                              struct document tree, size_t room)
+{
+    return (struct call){BRING_BACK, {source, target, embedding, tree}, room};
+}
+
+/* The patch carried, and a tree brought back by it. */
+static struct call carry_patch(size_t room) { return carry(SOURCE, TARGET, EMBEDDING, TREE, room); }
+static struct call bring_by_patch(struct document tree, size_t room)
+{
+    return bring_back(SOURCE, TARGET, EMBEDDING, tree, room);
+}
+
+/* Comparing and counting. */
+
+static unsigned long passed, failed, passed_before, failed_before;
+
+static void begin_group(const char *name)
+{
+    printf("%s: ", name);
+    fflush(stdout);
+    passed_before = passed;
+    failed_before = failed;
+}
+
+/* Counts a failure; whether it is one of the first of its group, which are printed. */
+static int fail(void)
+{
+    failed++;
+    return failed - failed_before <= 5;
+}
+
+static void end_group(void)
+{
+    if (all_junk())
+        passed++;
+    else if (fail())
+        printf("\n  bytes far from what was lent were changed");
+    printf("%s%lu passed, %lu failed\n", failed > failed_before ? "\n  " : "", passed - passed_before,
+           failed - failed_before);
+}
+
+static struct lafindry_answer accepted(uint64_t value)
+{
+    return (struct lafindry_answer){.refusal = LAFINDRY_ACCEPTED, .value = value};
+}
+
+static struct lafindry_answer refused(uint64_t refusal, uint64_t document, uint64_t mark)
+{
+    return (struct lafindry_answer){.refusal = refusal, .document = document, .mark = mark};
+}
+
+static void print_answer(const char *word, struct lafindry_answer answer)
+{
+    printf(" %s {%llu, %llu, %llu, %llu, %llu}", word, (unsigned long long)answer.refusal,
+           (unsigned long long)answer.document, (unsigned long long)answer.mark, (unsigned long long)answer.value,
+           (unsigned long long)answer.filler);
+}
+
+/* What a call has to give: an answer, and what is written where it writes. */
+struct expected {
+    struct lafindry_answer answer;
+    struct document written;
+};
+
+/* Makes a call and compares; the name and the number say which case it is. */
+static void expect_at(const char *name, size_t number, struct expected expected, struct call call)
+{
+    struct result got = make_call(&call);
+    if (got.wrong == NULL && same_answer(got.answer, expected.answer) && same_bytes(got.written, expected.written)) {
+        passed++;
+        return;
+    }
+    if (fail()) {
+        printf("\n  %s %zu:", name, number);
+        print_answer("expected", expected.answer);
+        print_answer("answered", got.answer);
+        if (!same_bytes(got.written, expected.written))
+            printf("; what was written is not what was expected");
+        if (got.wrong != NULL)
+            printf("; %s", got.wrong);
+    }
+}
+
+/* Nothing is written, by a judge or after a refusal. */
+#define EXPECT(answer, call) expect_at("entries.c line", __LINE__, (struct expected){(answer), NO_BYTES}, (call))
+
+/* A document is written, with so many filler elements. */
+#define EXPECT_WRITTEN(document, filler, call) \
+    expect_at("entries.c line", __LINE__, written_document((document), (filler)), (call))
+
+static struct expected written_document(struct document document, uint64_t filler)
+{
+    struct lafindry_answer answer = accepted(document.length);
+    answer.filler = filler;
+    return (struct expected){answer, document};
+}
+
+/* Paper 01's cases, and one of each other refusal. */
+
+static void worked_judging_cases(void)
+{
+    begin_group("worked cases of judging");
+    EXPECT(accepted(5), judge_table(SOURCE));
+    EXPECT(accepted(6), judge_table(TARGET));
+    EXPECT(accepted(5), judge_embedding(SOURCE, TARGET, EMBEDDING));
+    EXPECT(accepted(4), judge_tree(SOURCE, TREE));
+    EXPECT(accepted(6), judge_tree(TARGET, IMAGE));
+
+    EXPECT(refused(LAFINDRY_BAD_FORM, LAFINDRY_TREE, 0), judge_tree(SOURCE, DOCUMENT(0x30)));
+    EXPECT(refused(LAFINDRY_BAD_FORM, LAFINDRY_TREE, 2), judge_tree(SOURCE, DOCUMENT(0x30, 0x00, 0x3F)));
+    EXPECT(refused(LAFINDRY_BAD_FORM, LAFINDRY_TREE, 15),
+           judge_tree(SOURCE, DOCUMENT(0x30, 0x00, 0x30, 0x01, 0x31, 0x41, 0x32, 0x30, 0x02, 0x30, 0x03, 0x32, 0x32,
+                                       0x32, 0x3F, 0x3F)));
+    EXPECT(refused(LAFINDRY_UNEXPECTED, LAFINDRY_TREE, 2), judge_tree(SOURCE, DOCUMENT(0x30, 0x00, 0x32, 0x3F)));
+    EXPECT(refused(LAFINDRY_UNEXPECTED, LAFINDRY_TREE, 0), judge_tree(SOURCE, DOCUMENT(0x30, 0x01, 0x32, 0x3F)));
+    EXPECT(refused(LAFINDRY_BAD_OPERAND, LAFINDRY_TREE, 0), judge_tree(SOURCE, DOCUMENT(0x30, 0x05, 0x32, 0x3F)));
+    EXPECT(refused(LAFINDRY_BAD_OPERAND, LAFINDRY_TREE, 2),
+           judge_tree(SOURCE, DOCUMENT(0x30, 0x00, 0x31, 0x1F, 0x32, 0x3F)));
+
+    EXPECT(refused(LAFINDRY_NO_FINITE_INSTANCE, LAFINDRY_SOURCE_TABLE, 0),
+           judge_table(DOCUMENT(0x12, 0x15, 0x00, 0x1F)));
+    EXPECT(accepted(1), judge_table(DOCUMENT(0x14, 0x00, 0x1F)));
+    EXPECT(refused(LAFINDRY_REPEATED_MEMBER, LAFINDRY_SOURCE_TABLE, 3),
+           judge_table(DOCUMENT(0x13, 0x15, 0x01, 0x15, 0x01, 0x11, 0x1F)));
+    EXPECT(refused(LAFINDRY_BAD_OPERAND, LAFINDRY_SOURCE_TABLE, 0), judge_table(DOCUMENT(0x14, 0x01, 0x1F)));
+
+    /* The patch's embedding with both paths of source type 2 the same; then with its last two maps the same too. */
+    EXPECT(refused(LAFINDRY_WRONG_END, LAFINDRY_EMBEDDING, 18),
+           judge_embedding(SOURCE, TARGET,
+                           DOCUMENT(0x20, 0x00, 0x21, 0x22, 0x01, 0x22, 0x01, 0x21, 0x22, 0x02, 0x20, 0x03, 0x21, 0x20,
+                                    0x02, 0x21, 0x22, 0x02, 0x21, 0x22, 0x02, 0x20, 0x05, 0x20, 0x04, 0x2F)));
+    EXPECT(refused(LAFINDRY_PATH_CLASH, LAFINDRY_EMBEDDING, 18),
+           judge_embedding(SOURCE, TARGET,
+                           DOCUMENT(0x20, 0x00, 0x21, 0x22, 0x01, 0x22, 0x01, 0x21, 0x22, 0x02, 0x20, 0x03, 0x21, 0x20,
+                                    0x02, 0x21, 0x22, 0x02, 0x21, 0x22, 0x02, 0x20, 0x05, 0x20, 0x05, 0x2F)));
+    /* Two members of a choice whose paths differ first at a sequence. */
+    EXPECT(refused(LAFINDRY_PATH_CLASH, LAFINDRY_EMBEDDING, 7),
+           judge_embedding(DOCUMENT(0x13, 0x15, 0x01, 0x15, 0x02, 0x11, 0x11, 0x1F),
+                           DOCUMENT(0x12, 0x15, 0x01, 0x15, 0x01, 0x13, 0x15, 0x02, 0x15, 0x03, 0x11, 0x11, 0x1F),
+                           DOCUMENT(0x20, 0x00, 0x21, 0x22, 0x01, 0x22, 0x01, 0x21, 0x22, 0x02, 0x22, 0x01, 0x20, 0x02,
+                                    0x20, 0x02, 0x2F)));
+    EXPECT(refused(LAFINDRY_ROOT_MOVED, LAFINDRY_EMBEDDING, 0),
+           judge_embedding(DOCUMENT(0x10, 0x1F), DOCUMENT(0x12, 0x15, 0x01, 0x10, 0x1F),
+                           DOCUMENT(0x20, 0x01, 0x21, 0x2F)));
+    /* A member of a sequence whose path has no step. */
+    EXPECT(refused(LAFINDRY_WRONG_STEPS, LAFINDRY_EMBEDDING, 2),
+           judge_embedding(DOCUMENT(0x12, 0x15, 0x01, 0x10, 0x1F), DOCUMENT(0x12, 0x15, 0x01, 0x10, 0x1F),
+                           DOCUMENT(0x20, 0x00, 0x21, 0x20, 0x00, 0x21, 0x22, 0x01, 0x2F)));
+    end_group();
+}
+
+/* The empty root of a source mapped to a choice of itself and an empty type: filler must not take the first member. */
+static const struct document EMPTY_ROOT = BYTES(0x11, 0x1F);
+static const struct document CHOICE_OF_ITSELF = BYTES(0x13, 0x15, 0x00, 0x15, 0x01, 0x11, 0x1F);
+static const struct document MAPPED_ROOT = BYTES(0x20, 0x00, 0x2F);
+static const struct document EMPTY_TREE = BYTES(0x30, 0x00, 0x32, 0x3F);
+
+static void worked_writing_cases(void)
+{
+    begin_group("worked cases of carrying and bringing back");
+    EXPECT_WRITTEN(IMAGE, 1, carry_patch(LAFINDRY_MOST_BYTES));
+    EXPECT_WRITTEN(IMAGE, 1, carry_patch(21));
+    EXPECT(refused(LAFINDRY_OUTPUT_TOO_SHORT, LAFINDRY_OUTPUT, 0), carry_patch(20));
+    EXPECT_WRITTEN(TREE, 0, bring_by_patch(IMAGE, LAFINDRY_MOST_BYTES));
+    EXPECT_WRITTEN(TREE, 0, bring_by_patch(IMAGE, 15));
+    EXPECT(refused(LAFINDRY_OUTPUT_TOO_SHORT, LAFINDRY_OUTPUT, 0), bring_by_patch(IMAGE, 14));
+
+    /* The image with a character in its filler element; it is no image however short the output is. */
+    const struct document altered = DOCUMENT(0x30, 0x00, 0x30, 0x01, 0x30, 0x03, 0x31, 0x41, 0x32, 0x30, 0x03, 0x31,
+                                             0x42, 0x32, 0x32, 0x30, 0x02, 0x30, 0x05, 0x32, 0x32, 0x32, 0x3F);
+    EXPECT(refused(LAFINDRY_NO_IMAGE, LAFINDRY_TREE, 0), bring_by_patch(altered, LAFINDRY_MOST_BYTES));
+    EXPECT(refused(LAFINDRY_NO_IMAGE, LAFINDRY_TREE, 0), bring_by_patch(altered, 0));
+
+    /* The tree to be brought back is judged by the target table, the one to be carried by the source table, which has
+       no type 5. */
+    EXPECT(refused(LAFINDRY_UNEXPECTED, LAFINDRY_TREE, 4), bring_by_patch(TREE, LAFINDRY_MOST_BYTES));
+    EXPECT(refused(LAFINDRY_BAD_OPERAND, LAFINDRY_TREE, 15),
+           carry(SOURCE, TARGET, EMBEDDING, IMAGE, LAFINDRY_MOST_BYTES));
+
+    const struct document filled = DOCUMENT(0x30, 0x00, 0x30, 0x01, 0x32, 0x32, 0x3F);
+    const struct document filled_twice = DOCUMENT(0x30, 0x00, 0x30, 0x00, 0x30, 0x01, 0x32, 0x32, 0x32, 0x3F);
+    EXPECT_WRITTEN(filled, 1, carry(EMPTY_ROOT, CHOICE_OF_ITSELF, MAPPED_ROOT, EMPTY_TREE, 7));
+    EXPECT_WRITTEN(EMPTY_TREE, 0, bring_back(EMPTY_ROOT, CHOICE_OF_ITSELF, MAPPED_ROOT, filled, 4));
+    EXPECT(refused(LAFINDRY_NO_IMAGE, LAFINDRY_TREE, 0),
+           bring_back(EMPTY_ROOT, CHOICE_OF_ITSELF, MAPPED_ROOT, filled_twice, ROOM));
+    end_group();
+}
+
+/* All lengths of output around what is needed, and longer ones. */
+static void output_lengths(void)
+{
+    const struct expected too_short = {refused(LAFINDRY_OUTPUT_TOO_SHORT, LAFINDRY_OUTPUT, 0), NO_BYTES};
+    begin_group("lengths of output");
+    for (size_t room = 0; room <= ROOM; room += room < 40 ? 1 : 5005) {
+        expect_at("carried into", room, room < IMAGE.length ? too_short : written_document(IMAGE, 1),
+                  carry_patch(room));
+        expect_at("brought back into", room, room < TREE.length ? too_short : written_document(TREE, 0),
+                  bring_by_patch(IMAGE, room));
+    }
+    end_group();
+}
+
+/* The patch with one of its documents replaced. */
+
+/* Answers counted by refusal (0: accepted), the sums of their other fields, and of the bytes written, each byte
+   multiplied by its place from 1. */
+struct tally {
+    uint64_t count[LAFINDRY_NO_IMAGE + 1], documents, marks, values, fillers, bytes;
+};
+
+/* What each entry is given. */
+static const struct document *const SOURCE_ONLY[] = {&SOURCE};
+static const struct document *const TARGET_ONLY[] = {&TARGET};
+static const struct document *const SETTING[] = {&SOURCE, &TARGET, &EMBEDDING};
+static const struct document *const SOURCE_TREE[] = {&SOURCE, &TREE};
+static const struct document *const PATCH[] = {&SOURCE, &TARGET, &EMBEDDING, &TREE};
+static const struct document *const PATCH_IMAGE[] = {&SOURCE, &TARGET, &EMBEDDING, &IMAGE};
+
+/* A document of the patch, given to an entry in the place `at`, and what is expected: the number of the document, the
+   answer for the patch itself, and the tally of all changes of one byte, which is the reference's. */
+static const struct place {
+    const char *name;
+    enum entry entry;
+    const struct document *const *documents;
+    int at;
+    uint64_t number, value, filler;
+    const struct document *written;
+    struct tally changes;
+} places[] = {
+    {"table, source", JUDGE_TABLE, SOURCE_ONLY, 0, LAFINDRY_SOURCE_TABLE, 5, 0, NULL,
+     {{32, 0, 2541, 0, 1007, 2, 2, 0, 0, 0, 0, 0, 0, 0, 0, 0}, 3552, 22111, 161, 0, 0}},
+    {"table, target", JUDGE_TABLE, TARGET_ONLY, 0, LAFINDRY_SOURCE_TABLE, 6, 0, NULL,
+     {{48, 0, 3304, 0, 1503, 3, 6, 0, 0, 0, 0, 0, 0, 0, 0, 0}, 4816, 41859, 290, 0, 0}},
+    {"embedding, source table", JUDGE_EMBEDDING, SETTING, 0, LAFINDRY_SOURCE_TABLE, 5, 0, NULL,
+     {{14, 0, 2545, 0, 1007, 2, 2, 0, 12, 2, 0, 0, 0, 0, 0, 0}, 3606, 22321, 70, 0, 0}},
+    {"embedding, target table", JUDGE_EMBEDDING, SETTING, 1, LAFINDRY_TARGET_TABLE, 5, 0, NULL,
+     {{24, 0, 3304, 0, 1508, 3, 6, 0, 17, 2, 0, 0, 0, 0, 0, 0}, 9704, 42095, 120, 0, 0}},
+    {"embedding", JUDGE_EMBEDDING, SETTING, 2, LAFINDRY_EMBEDDING, 5, 0, NULL,
+     {{27, 0, 4080, 0, 2528, 0, 0, 0, 21, 0, 0, 0, 0, 0, 0, 0}, 19887, 80258, 135, 0, 0}},
+    {"tree, table", JUDGE_TREE, SOURCE_TREE, 0, LAFINDRY_SOURCE_TABLE, 4, 0, NULL,
+     {{19, 0, 2541, 0, 1007, 2, 2, 0, 0, 0, 0, 13, 0, 0, 0, 0}, 3604, 22192, 76, 0, 0}},
+    {"tree", JUDGE_TREE, SOURCE_TREE, 1, LAFINDRY_TREE, 4, 0, NULL,
+     {{112, 0, 2550, 0, 1163, 0, 0, 0, 0, 0, 0, 15, 0, 0, 0, 0}, 14912, 25154, 448, 0, 0}},
+    {"carry, source table", CARRY, PATCH, 0, LAFINDRY_SOURCE_TABLE, 21, 1, &IMAGE,
+     {{14, 0, 2545, 0, 1007, 2, 2, 0, 12, 2, 0, 0, 0, 0, 0, 0}, 3606, 22321, 294, 14, 129612}},
+    {"carry, target table", CARRY, PATCH, 1, LAFINDRY_TARGET_TABLE, 21, 1, &IMAGE,
+     {{23, 0, 3304, 0, 1508, 3, 6, 0, 17, 2, 0, 0, 0, 0, 1, 0}, 9709, 42095, 483, 23, 212967}},
+    {"carry, embedding", CARRY, PATCH, 2, LAFINDRY_EMBEDDING, 21, 1, &IMAGE,
+     {{27, 0, 4080, 0, 2528, 0, 0, 0, 21, 0, 0, 0, 0, 0, 0, 0}, 19887, 80258, 567, 27, 250106}},
+    {"carry, tree", CARRY, PATCH, 3, LAFINDRY_TREE, 21, 1, &IMAGE,
+     {{112, 0, 2550, 0, 1163, 0, 0, 0, 0, 0, 0, 15, 0, 0, 0, 0}, 14912, 25154, 2352, 112, 1046631}},
+    {"bring back, source table", BRING_BACK, PATCH_IMAGE, 0, LAFINDRY_SOURCE_TABLE, 15, 0, &TREE,
+     {{14, 0, 2545, 0, 1007, 2, 2, 0, 12, 2, 0, 0, 0, 0, 0, 0}, 3606, 22321, 210, 0, 69874}},
+    {"bring back, target table", BRING_BACK, PATCH_IMAGE, 1, LAFINDRY_TARGET_TABLE, 15, 0, &TREE,
+     {{21, 0, 3304, 0, 1508, 3, 6, 0, 17, 2, 0, 3, 0, 0, 0, 0}, 9716, 42122, 315, 0, 104811}},
+    {"bring back, embedding", BRING_BACK, PATCH_IMAGE, 2, LAFINDRY_EMBEDDING, 15, 0, &TREE,
+     {{26, 0, 4080, 0, 2528, 0, 0, 0, 21, 0, 0, 0, 0, 0, 0, 1}, 19891, 80258, 390, 0, 129766}},
+    {"bring back, tree", BRING_BACK, PATCH_IMAGE, 3, LAFINDRY_TREE, 15, 0, &TREE,
+     {{118, 0, 3570, 0, 1659, 0, 0, 0, 0, 0, 0, 29, 0, 0, 0, 0}, 21032, 51268, 1770, 0, 596263}},
+};
+
+enum { PLACES = sizeof places / sizeof places[0] };
+
+/* The length of output lent with changed documents; some of their images are longer. */
+enum { PLACE_ROOM = 22 };
+
+/* The call of a place with another document there. */
+static struct call call_with(const struct place *place, struct document document)
+{
+    struct call call = {.entry = place->entry, .room = writes(place->entry) ? PLACE_ROOM : 0};
+    for (int i = 0; i < documents_of(place->entry); i++)
+        call.documents[i] = *place->documents[i];
+    call.documents[place->at] = document;
+    return call;
+}
+
+static struct expected whole_patch(const struct place *place)
+{
+    struct lafindry_answer answer = accepted(place->value);
+    answer.filler = place->filler;
+    return (struct expected){answer, place->written == NULL ? NO_BYTES : *place->written};
+}
+
+/* The length of the whole commands that a document begins with. */
+static size_t whole_commands(struct document document)
+{
+    size_t end = 0;
+    while (end < document.length) {
+        uint8_t code = document.bytes[end];
+        int has_operand = code == 0x14 || code == 0x15 || code == 0x20 || code == 0x22 || code == 0x30 || code == 0x31;
+        size_t next = end + (has_operand ? 2 : 1);
+        if (next > document.length)
+            break;
+        end = next;
+    }
+    return end;
+}
+
+/* A beginning lacks the command that ends the document; it is refused where its bytes run out. The first one of each
+   document is empty, and lent as a pointer to an inaccessible page. */
+static void beginnings(void)
+{
+    begin_group("beginnings of the patch's documents");
+    for (int i = 0; i < PLACES; i++) {
+        const struct place *place = &places[i];
+        struct document beginning = *place->documents[place->at];
+        expect_at(place->name, beginning.length, whole_patch(place), call_with(place, beginning));
+        while (beginning.length > 0) {
+            beginning.length--;
+            struct lafindry_answer answer = refused(LAFINDRY_BAD_FORM, place->number, whole_commands(beginning));
+            expect_at(place->name, beginning.length, (struct expected){answer, NO_BYTES},
+                      call_with(place, beginning));
+        }
+    }
+    end_group();
+}
+
+/* Empty documents given as null pointers, and an output of no bytes. */
+static void null_pointers(void)
+{
+    const uint8_t *s = SOURCE.bytes, *t = TARGET.bytes, *e = EMBEDDING.bytes, *tree = TREE.bytes;
+    const size_t sn = SOURCE.length, tn = TARGET.length, en = EMBEDDING.length, treen = TREE.length;
+    const struct {
+        struct lafindry_answer expected, got;
+    } cases[] = {
+        {refused(LAFINDRY_BAD_FORM, LAFINDRY_SOURCE_TABLE, 0), lafindry_judge_table(NULL, 0)},
+        {refused(LAFINDRY_BAD_FORM, LAFINDRY_SOURCE_TABLE, 0), lafindry_judge_embedding(NULL, 0, NULL, 0, NULL, 0)},
+        {refused(LAFINDRY_BAD_FORM, LAFINDRY_TARGET_TABLE, 0), lafindry_judge_embedding(s, sn, NULL, 0, NULL, 0)},
+        {refused(LAFINDRY_BAD_FORM, LAFINDRY_EMBEDDING, 0), lafindry_judge_embedding(s, sn, t, tn, NULL, 0)},
+        {refused(LAFINDRY_BAD_FORM, LAFINDRY_SOURCE_TABLE, 0), lafindry_judge_tree(NULL, 0, NULL, 0)},
+        {refused(LAFINDRY_BAD_FORM, LAFINDRY_TREE, 0), lafindry_judge_tree(s, sn, NULL, 0)},
+        {refused(LAFINDRY_BAD_FORM, LAFINDRY_SOURCE_TABLE, 0),
+         lafindry_carry(NULL, 0, NULL, 0, NULL, 0, NULL, 0, NULL, 0)},
+        {refused(LAFINDRY_BAD_FORM, LAFINDRY_TREE, 0), lafindry_carry(s, sn, t, tn, e, en, NULL, 0, NULL, 0)},
+        {refused(LAFINDRY_OUTPUT_TOO_SHORT, LAFINDRY_OUTPUT, 0),
+         lafindry_carry(s, sn, t, tn, e, en, tree, treen, NULL, 0)},
+        {refused(LAFINDRY_BAD_FORM, LAFINDRY_SOURCE_TABLE, 0),
+         lafindry_bring_back(NULL, 0, NULL, 0, NULL, 0, NULL, 0, NULL, 0)},
+        {refused(LAFINDRY_OUTPUT_TOO_SHORT, LAFINDRY_OUTPUT, 0),
+         lafindry_bring_back(s, sn, t, tn, e, en, IMAGE.bytes, IMAGE.length, NULL, 0)},
+    };
+
+    begin_group("null pointers with length 0");
+    for (size_t i = 0; i < sizeof cases / sizeof cases[0]; i++) {
+        if (same_answer(cases[i].expected, cases[i].got)) {
+            passed++;
+        } else if (fail()) {
+            printf("\n  case %zu:", i);
+            print_answer("expected", cases[i].expected);
+            print_answer("answered", cases[i].got);
+        }
+    }
+    end_group();
+}
+
+/* Whether the fields that don't apply are 0, and the others in their ranges. */
+static int is_well_formed(enum entry entry, struct lafindry_answer answer)
+{
+    if (answer.refusal == LAFINDRY_ACCEPTED)
+        return answer.document == 0 && answer.mark == 0 && answer.value > 0 && (answer.filler == 0 || entry == CARRY);
+    return answer.refusal <= LAFINDRY_NO_IMAGE && answer.document >= LAFINDRY_SOURCE_TABLE &&
+           answer.document <= LAFINDRY_OUTPUT && answer.value == 0 && answer.filler == 0;
+}
+
+static void add_to_tally(struct tally *tally, const struct result *result)
+{
+    tally->count[result->answer.refusal]++;
+    tally->documents += result->answer.document;
+    tally->marks += result->answer.mark;
+    tally->values += result->answer.value;
+    tally->fillers += result->answer.filler;
+    for (size_t i = 0; i < result->written.length; i++)
+        tally->bytes += (i + 1) * result->written.bytes[i];
+}
+
+/* Each byte of the document of a place takes all values; each answer is looked at alone. */
+static struct tally tally_changes(const struct place *place)
+{
+    const struct document *document = place->documents[place->at];
+    uint8_t bytes[64];
+    struct tally tally = {0};
+    memcpy(bytes, document->bytes, document->length);
+    for (size_t at = 0; at < document->length; at++) {
+        for (int byte = 0; byte <= 0xFF; byte++) {
+            bytes[at] = (uint8_t)byte;
+            struct call call = call_with(place, (struct document){bytes, document->length});
+            struct result result = make_call(&call);
+            if (result.wrong == NULL && is_well_formed(place->entry, result.answer)) {
+                passed++;
+                add_to_tally(&tally, &result);
+            } else if (fail()) {
+                printf("\n  %s, byte %zu set to %02X:", place->name, at, (unsigned)byte);
+                print_answer("answered", result.answer);
+                printf("%s%s", result.wrong != NULL ? "; " : "", result.wrong != NULL ? result.wrong : "");
+            }
+        }
+        bytes[at] = document->bytes[at];
+    }
+    return tally;
+}
+
+static void changed_bytes(void)
+{
+    begin_group("changes of one byte");
+    for (int i = 0; i < PLACES; i++) {
+        struct tally tally = tally_changes(&places[i]);
+        if (memcmp(&tally, &places[i].changes, sizeof tally) == 0)
+            passed++;
+        else if (fail())
+            printf("\n  %s: the tally of all changes is another", places[i].name);
+    }
+    end_group();
+}
+
+static void print_tallies(void)
+{
+    for (int i = 0; i < PLACES; i++) {
+        struct tally tally = tally_changes(&places[i]);
+        printf("%s: {{", places[i].name);
+        for (int refusal = 0; refusal <= LAFINDRY_NO_IMAGE; refusal++)
+            printf("%s%llu", refusal > 0 ? ", " : "", (unsigned long long)tally.count[refusal]);
+        printf("}, %llu, %llu, %llu, %llu, %llu}\n", (unsigned long long)tally.documents,
+               (unsigned long long)tally.marks, (unsigned long long)tally.values, (unsigned long long)tally.fillers,
+               (unsigned long long)tally.bytes);
+    }
+}
+
+/* Documents at the limits and one beyond. */
+
+struct made {
+    uint8_t bytes[ROOM];
+    size_t length;
+};
+
+/* Adds bytes to a document, so many times. */
+static void add(struct made *made, size_t times, struct document part)
+{
+    for (; times > 0 && part.length > 0; times--) {
+        if (made->length + part.length > ROOM) {
+            fprintf(stderr, "a document is too long for its buffer\n");
+            exit(2);
+        }
+        memcpy(made->bytes + made->length, part.bytes, part.length);
+        made->length += part.length;
+    }
+}
+
+static struct document document_of(const struct made *made)
+{
+    return (struct document){made->bytes, made->length};
+}
+
+/* A table of so many empty types. */
+static struct document many_types(size_t types)
+{
+    static struct made made;
+    made.length = 0;
+    add(&made, types, DOCUMENT(0x11));
+    add(&made, 1, DOCUMENT(0x1F));
+    return document_of(&made);
+}
+
+/* A table with a sequence of so many members. */
+static struct document many_members(size_t members)
+{
+    static struct made made;
+    made.length = 0;
+    add(&made, 1, DOCUMENT(0x12));
+    add(&made, members, DOCUMENT(0x15, 0x01));
+    add(&made, 1, DOCUMENT(0x11, 0x1F));
+    return document_of(&made);
+}
+
+/* A target table with a text below so many sequences of one member. */
+static struct document nested_sequences(uint8_t sequences)
+{
+    static struct made made;
+    made.length = 0;
+    for (int next = 1; next <= sequences; next++)
+        add(&made, 1, DOCUMENT(0x12, 0x15, (uint8_t)next));
+    add(&made, 1, DOCUMENT(0x10, 0x1F));
+    return document_of(&made);
+}
+
+/* A table of 64 types whose filler has 16 to the power of 63 elements of the last type alone. */
+static struct document tower(void)
+{
+    static struct made made;
+    made.length = 0;
+    for (int next = 1; next < 64; next++) {
+        add(&made, 1, DOCUMENT(0x12));
+        add(&made, 16, DOCUMENT(0x15, (uint8_t)next));
+    }
+    add(&made, 1, DOCUMENT(0x11, 0x1F));
+    return document_of(&made);
+}
+
+/* An embedding of a text with a path of so many steps. */
+static struct document many_steps(size_t steps)
+{
+    static struct made made;
+    made.length = 0;
+    add(&made, 1, DOCUMENT(0x20, 0x00, 0x21));
+    add(&made, steps, DOCUMENT(0x22, 0x01));
+    add(&made, 1, DOCUMENT(0x2F));
+    return document_of(&made);
+}
+
+/* A tree of so many levels, each a list of itself. */
+static struct document many_levels(size_t levels)
+{
+    static struct made made;
+    made.length = 0;
+    add(&made, levels, DOCUMENT(0x30, 0x00));
+    add(&made, levels, DOCUMENT(0x32));
+    add(&made, 1, DOCUMENT(0x3F));
+    return document_of(&made);
+}
+
+/* Its image where each list is the member of a sequence, with what stands after each list and before the close of its
+   sequence. */
+static struct document many_lists(size_t lists, struct document after)
+{
+    static struct made made;
+    made.length = 0;
+    add(&made, lists, DOCUMENT(0x30, 0x00, 0x30, 0x01));
+    for (; lists > 0; lists--) {
+        add(&made, 1, DOCUMENT(0x32));
+        add(&made, 1, after);
+        add(&made, 1, DOCUMENT(0x32));
+    }
+    add(&made, 1, DOCUMENT(0x3F));
+    return document_of(&made);
+}
+
+/* A text of so many characters as the root. */
+static struct document text_root(size_t characters)
+{
+    static struct made made;
+    made.length = 0;
+    add(&made, 1, DOCUMENT(0x30, 0x00));
+    add(&made, characters, DOCUMENT(0x31, 0x41));
+    add(&made, 1, DOCUMENT(0x32, 0x3F));
+    return document_of(&made);
+}
+
+/* A text of so many characters as the first member of the root, with what stands after it. */
+static struct document text_member(size_t characters, struct document after)
+{
+    static struct made made;
+    made.length = 0;
+    add(&made, 1, DOCUMENT(0x30, 0x00, 0x30, 0x01));
+    add(&made, characters, DOCUMENT(0x31, 0x41));
+    add(&made, 1, DOCUMENT(0x32));
+    add(&made, 1, after);
+    add(&made, 1, DOCUMENT(0x32, 0x3F));
+    return document_of(&made);
+}
+
+static const struct document TEXT = BYTES(0x10, 0x1F);
+static const struct document TEXT_IN_SEQUENCE = BYTES(0x12, 0x15, 0x01, 0x10, 0x1F);
+static const struct document LIST_OF_ITSELF = BYTES(0x14, 0x00, 0x1F);
+
+static void limits_of_documents(void)
+{
+    begin_group("limits of documents");
+    EXPECT(accepted(64), judge_table(many_types(64)));
+    EXPECT(refused(LAFINDRY_OVER_LIMIT, LAFINDRY_SOURCE_TABLE, 64), judge_table(many_types(65)));
+    EXPECT(accepted(2), judge_table(many_members(16)));
+    EXPECT(refused(LAFINDRY_OVER_LIMIT, LAFINDRY_SOURCE_TABLE, 33), judge_table(many_members(17)));
+    EXPECT(accepted(1), judge_embedding(TEXT, nested_sequences(12), many_steps(12)));
+    EXPECT(refused(LAFINDRY_OVER_LIMIT, LAFINDRY_EMBEDDING, 27),
+           judge_embedding(TEXT, nested_sequences(13), many_steps(13)));
+    EXPECT(accepted(128), judge_tree(LIST_OF_ITSELF, many_levels(128)));
+    EXPECT(refused(LAFINDRY_OVER_LIMIT, LAFINDRY_TREE, 256), judge_tree(LIST_OF_ITSELF, many_levels(129)));
+
+    /* 60,000 bytes, and 60,001. */
+    EXPECT(accepted(1), judge_tree(TEXT, text_root(29998)));
+    EXPECT(refused(LAFINDRY_TOO_LONG, LAFINDRY_TREE, 0), judge_tree(TEXT_IN_SEQUENCE, text_member(29997, NO_BYTES)));
+    EXPECT(refused(LAFINDRY_OVER_LIMIT, LAFINDRY_SOURCE_TABLE, 64), judge_table(many_types(59999)));
+    EXPECT(refused(LAFINDRY_TOO_LONG, LAFINDRY_SOURCE_TABLE, 0), judge_table(many_types(60000)));
+    EXPECT(refused(LAFINDRY_TOO_LONG, LAFINDRY_TARGET_TABLE, 0),
+           judge_embedding(TEXT, many_types(60000), many_steps(0)));
+    EXPECT(refused(LAFINDRY_OVER_LIMIT, LAFINDRY_EMBEDDING, 27), judge_embedding(TEXT, TEXT, many_steps(29998)));
+    EXPECT(refused(LAFINDRY_TOO_LONG, LAFINDRY_EMBEDDING, 0), judge_embedding(TEXT, TEXT, many_steps(29999)));
+    end_group();
+}
+
+static void limits_of_levels(void)
+{
+    const struct document embedding = DOCUMENT(0x20, 0x00, 0x21, 0x22, 0x01, 0x22, 0x01, 0x2F);
+    const struct document sequences = DOCUMENT(0x12, 0x15, 0x01, 0x14, 0x00, 0x1F);
+    /* The same with filler of two levels beside each list. */
+    const struct document filled = DOCUMENT(0x12, 0x15, 0x01, 0x15, 0x02, 0x14, 0x00, 0x12, 0x15, 0x03, 0x11, 0x1F);
+    const struct document filler = DOCUMENT(0x30, 0x02, 0x30, 0x03, 0x32, 0x32);
+
+    begin_group("limits of an image's levels");
+    EXPECT_WRITTEN(many_lists(64, NO_BYTES), 0,
+                   carry(LIST_OF_ITSELF, sequences, embedding, many_levels(64), 385));
+    EXPECT_WRITTEN(many_levels(64), 0,
+                   bring_back(LIST_OF_ITSELF, sequences, embedding, many_lists(64, NO_BYTES), 193));
+    EXPECT_WRITTEN(many_lists(63, filler), 126, carry(LIST_OF_ITSELF, filled, embedding, many_levels(63), ROOM));
+    EXPECT_WRITTEN(many_levels(63), 0, bring_back(LIST_OF_ITSELF, filled, embedding, many_lists(63, filler), ROOM));
+    /* 129 levels. */
+    EXPECT(refused(LAFINDRY_IMAGE_TOO_DEEP, LAFINDRY_OUTPUT, 0),
+           carry(LIST_OF_ITSELF, filled, embedding, many_levels(64), ROOM));
+    EXPECT(refused(LAFINDRY_IMAGE_TOO_DEEP, LAFINDRY_OUTPUT, 0),
+           carry(LIST_OF_ITSELF, filled, embedding, many_levels(64), 0));
+    EXPECT(refused(LAFINDRY_OVER_LIMIT, LAFINDRY_TREE, 259),
+           bring_back(LIST_OF_ITSELF, filled, embedding, many_lists(64, filler), ROOM));
+    end_group();
+}
+
+static void limits_of_length(void)
+{
+    const struct document embedding = DOCUMENT(0x20, 0x00, 0x21, 0x22, 0x01, 0x2F);
+    const struct document beside_empty = DOCUMENT(0x12, 0x15, 0x01, 0x15, 0x02, 0x10, 0x11, 0x1F);
+    const struct document empty = DOCUMENT(0x30, 0x02, 0x32);
+
+    begin_group("limits of an image's length");
+    /* 60,000 bytes. */
+    EXPECT_WRITTEN(text_member(29995, empty), 1, carry(TEXT, beside_empty, embedding, text_root(29995), 60000));
+    EXPECT(refused(LAFINDRY_OUTPUT_TOO_SHORT, LAFINDRY_OUTPUT, 0),
+           carry(TEXT, beside_empty, embedding, text_root(29995), 59999));
+    EXPECT_WRITTEN(text_root(29995), 0,
+                   bring_back(TEXT, beside_empty, embedding, text_member(29995, empty), 59994));
+    EXPECT(refused(LAFINDRY_OUTPUT_TOO_SHORT, LAFINDRY_OUTPUT, 0),
+           bring_back(TEXT, beside_empty, embedding, text_member(29995, empty), 59993));
+    /* 60,002 bytes, then 59,999 and 60,001. */
+    EXPECT(refused(LAFINDRY_IMAGE_TOO_LONG, LAFINDRY_OUTPUT, 0),
+           carry(TEXT, beside_empty, embedding, text_root(29996), ROOM));
+    EXPECT_WRITTEN(text_member(29996, NO_BYTES), 0,
+                   carry(TEXT, TEXT_IN_SEQUENCE, embedding, text_root(29996), ROOM));
+    EXPECT(refused(LAFINDRY_IMAGE_TOO_LONG, LAFINDRY_OUTPUT, 0),
+           carry(TEXT, TEXT_IN_SEQUENCE, embedding, text_root(29997), ROOM));
+    EXPECT(refused(LAFINDRY_IMAGE_TOO_LONG, LAFINDRY_OUTPUT, 0),
+           carry(TEXT, TEXT_IN_SEQUENCE, embedding, text_root(29997), 0));
+    EXPECT(refused(LAFINDRY_TOO_LONG, LAFINDRY_TREE, 0),
+           bring_back(TEXT, TEXT_IN_SEQUENCE, embedding, text_member(29997, NO_BYTES), ROOM));
+    /* Far longer than could be written in any time. */
+    EXPECT(refused(LAFINDRY_IMAGE_TOO_LONG, LAFINDRY_OUTPUT, 0),
+           carry(EMPTY_ROOT, tower(), MAPPED_ROOT, EMPTY_TREE, ROOM));
+    end_group();
+}
+
+int main(int count, char **arguments)
+{
+    map_buffers();
+    if (count == 2 && strcmp(arguments[1], "tallies") == 0) {
+        print_tallies();
+        return 0;
+    }
+    worked_judging_cases();
+    worked_writing_cases();
+    output_lengths();
+    beginnings();
+    null_pointers();
+    changed_bytes();
+    limits_of_documents();
+    limits_of_levels();
+    limits_of_length();
+    printf("%lu passed, %lu failed\n", passed, failed);
+    return failed == 0 ? 0 : 1;
+}

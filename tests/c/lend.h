@@ -1,0 +1,58 @@
+/*
+ * Documents lent to the five entries so that every byte read or written outside them is noticed. A call is made twice:
+ * with each buffer ending where an inaccessible page begins, so that going beyond it faults, and with each starting
+ * where one ends. The other bytes of the buffers hold junk, which has to stay.
+ */
+#ifndef LEND_H
+#define LEND_H
+
+#include "lafindry.h"
+
+/* A byte that no document written by an entry has. */
+enum { JUNK = 0xA5 };
+
+/* The greatest length of a document or output that can be lent. */
+enum { ROOM = LAFINDRY_MOST_BYTES + 100 };
+
+struct document {
+    const uint8_t *bytes;
+    size_t length;
+};
+
+/* The document that consists of these bytes. */
+#define BYTES(...) {(const uint8_t[]){__VA_ARGS__}, sizeof((const uint8_t[]){__VA_ARGS__})}
+#define DOCUMENT(...) ((struct document)BYTES(__VA_ARGS__))
+
+static const struct document NO_BYTES = {NULL, 0};
+
+enum entry { JUDGE_TABLE, JUDGE_EMBEDDING, JUDGE_TREE, CARRY, BRING_BACK };
+
+/* An entry with its documents in paper 01's order, and the length of the output for those that write. */
+struct call {
+    enum entry entry;
+    struct document documents[4];
+    size_t room;
+};
+
+/* What a call gave: its answer, what it wrote, and what is wrong with the bytes of the buffers, or NULL. */
+struct result {
+    struct lafindry_answer answer;
+    struct document written;
+    const char *wrong;
+};
+
+int documents_of(enum entry entry);
+int writes(enum entry entry);
+int same_answer(struct lafindry_answer a, struct lafindry_answer b);
+int same_bytes(struct document a, struct document b);
+
+/* Maps the buffers; to be called once before all others. Ends the program where that is impossible. */
+void map_buffers(void);
+
+/* Makes a call. What was written stays readable until the next call. */
+struct result make_call(const struct call *call);
+
+/* Whether all bytes of all buffers hold junk, as they do before and after each call. */
+int all_junk(void);
+
+#endif

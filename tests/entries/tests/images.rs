@@ -1,0 +1,223 @@
+//! Images of random worlds: they come back byte for byte, need an output of
+//! just their length, and are refused just beyond the limits.
+
+mod counts;
+mod seed;
+mod traits;
+
+use counts::Counts;
+use lafindry_entries::{compare, ensure, Failure, Setting};
+use lafindry_reference::generate::trees::{pad, random_tree};
+use lafindry_reference::generate::{Rng, Shape, TableSize, World};
+use lafindry_reference::tree::{commands, Command};
+use lafindry_reference::vectors::{Answer, Entry};
+use lafindry_reference::{Refusal, MOST_BYTES, MOST_LEVELS, OUTPUT};
+use seed::seed;
+use std::time::{Duration, Instant};
+use traits::Traits;
+
+/// The refusal of an output, which has mark 0.
+fn refused_output(number: u64) -> Answer {
+    Answer::Refused(Refusal { number, document: OUTPUT, mark: 0 })
+}
+
+/// The number of levels of a tree document.
+fn levels(document: &[u8]) -> usize {
+    let (mut level, mut most) = (0, 0);
+    for (_, command) in commands(document) {
+        match command {
+            Command::Open(_) => level += 1,
+            Command::Close => level -= 1,
+            _ => {}
+        }
+        most = most.max(level);
+    }
+    most
+}
+
+/// Fails unless an entry writes a document into outputs that are long enough,
+/// and refuses those that are not.
+fn ensure_output_lengths(
+    rng: &mut Rng,
+    setting: &Setting,
+    entry: Entry,
+    tree: &[u8],
+    written: &[u8],
+) -> Result<(), Failure> {
+    let needed = written.len();
+    let longer = rng.below(2 * needed);
+    for length in [needed, needed + 1, needed + longer, needed - 1, rng.below(needed), 0] {
+        let case = setting.case(entry, tree, length);
+        let right = match compare(&case)? {
+            Answer::Ok { output, .. } => length >= needed && output == written,
+            refused => length < needed && refused == refused_output(14),
+        };
+        ensure(right, format!("{case}: wrong for this length of output"))?;
+    }
+    Ok(())
+}
+
+/// An image and its number of filler elements.
+struct Image {
+    bytes: Vec<u8>,
+    filler: u64,
+}
+
+/// Carries a tree. Fails unless its image, if it is not refused, comes back.
+fn round_trip(setting: &Setting, tree: &[u8]) -> Result<Result<Image, Refusal>, Failure> {
+    let (value, filler, bytes) = match compare(&setting.case(Entry::Carry, tree, MOST_BYTES))? {
+        Answer::Ok { value, filler, output } => (value, filler, output),
+        Answer::Refused(refusal) => return Ok(Err(refusal)),
+    };
+    let back = setting.written(Entry::BringBack, &bytes, MOST_BYTES)?;
+    let text = || format!("{}: it does not come back", setting.case(Entry::Carry, tree, MOST_BYTES));
+    ensure(value == bytes.len() as u64 && back.as_deref() == Ok(tree), text())?;
+    Ok(Ok(Image { bytes, filler }))
+}
+
+#[test]
+fn images_come_back() -> Result<(), Failure> {
+    let mut rng = Rng::new(seed().wrapping_add(100));
+    let mut counts = Counts::default();
+    for _ in 0..2500 {
+        let world = World::mixed(&mut rng);
+        let (setting, tree) = (Setting::of(&world), world.tree.to_bytes());
+        let Ok(image) = round_trip(&setting, &tree)? else {
+            continue;
+        };
+        ensure_output_lengths(&mut rng, &setting, Entry::Carry, &tree, &image.bytes)?;
+        ensure_output_lengths(&mut rng, &setting, Entry::BringBack, &image.bytes, &tree)?;
+        let traits = Traits::of(&world);
+        counts.add("images", true);
+        counts.add("with filler", image.filler > 0);
+        counts.add("through a shared list", traits.shared_list);
+        counts.add("with permuted members", traits.permuted_members);
+        counts.add("with a later list on a path", traits.later_list);
+        counts.add("with a list within a list", traits.list_in_list);
+        counts.add("with a long path of a choice", traits.long_choice);
+    }
+    counts.finish("round trips", 50)
+}
+
+/// Carries the tree of a world whose image is near a limit. Fails unless it
+/// comes back where its measures are within the limits, and is refused by the
+/// limit that it passes.
+fn carry_near_limit(world: &World, counts: &mut Counts) -> Result<(), Failure> {
+    let tree = world.tree.to_bytes();
+    if tree.len() > MOST_BYTES {
+        return Ok(());
+    }
+    let (image_levels, length) = world.measure();
+    let right = match round_trip(&Setting::of(world), &tree)? {
+        Ok(image) => (levels(&image.bytes) as u64, image.bytes.len() as u64) == (image_levels, length),
+        Err(Refusal { number: 12, document: OUTPUT, mark: 0 }) => image_levels > MOST_LEVELS as u64,
+        Err(Refusal { number: 13, document: OUTPUT, mark: 0 }) => length > MOST_BYTES as u64,
+        Err(_) => false,
+    };
+    ensure(right, format!("an image of {image_levels} levels and {length} bytes"))?;
+    let (most_levels, most_bytes) = (MOST_LEVELS as u64, MOST_BYTES as u64);
+    counts.add("images of 128 levels", image_levels == most_levels && length <= most_bytes);
+    counts.add("of 129 levels", image_levels == most_levels + 1);
+    counts.add("of 60,000 bytes", length == most_bytes && image_levels <= most_levels);
+    counts.add("of 60,001 bytes", length == most_bytes + 1 && image_levels <= most_levels);
+    Ok(())
+}
+
+/// Carries a tree whose image just fits, and the same with one character more.
+fn carry_long(rng: &mut Rng, counts: &mut Counts) -> Result<(), Failure> {
+    let (size, shape) = (TableSize::random(rng), Shape::small(rng));
+    let mut world = World::random(rng, size, shape);
+    let Some(left) = (MOST_BYTES as u64).checked_sub(world.measure().1) else {
+        return Ok(());
+    };
+    let source = world.embedded.source.clone();
+    if pad(rng, &source, &mut world.tree, left as usize / 2) {
+        carry_near_limit(&world, counts)?;
+        pad(rng, &source, &mut world.tree, 1);
+        carry_near_limit(&world, counts)?;
+    }
+    Ok(())
+}
+
+/// Carries a tree whose image has about 128 levels, and some deeper ones.
+fn carry_deep(rng: &mut Rng, counts: &mut Counts) -> Result<(), Failure> {
+    let size = TableSize::random(rng);
+    let mut world = World::at_most_levels(rng, size);
+    let most = levels(&world.tree.to_bytes());
+    for more in 0..4 {
+        carry_near_limit(&world, counts)?;
+        let levels = (most + more).min(MOST_LEVELS);
+        let shape = Shape { levels, bytes: 800, deep: true, wide: false };
+        if let Some(tree) = random_tree(rng, &world.embedded.source, shape) {
+            world.tree = tree;
+        }
+    }
+    Ok(())
+}
+
+#[test]
+fn images_near_the_limits() -> Result<(), Failure> {
+    let mut rng = Rng::new(seed().wrapping_add(200));
+    let mut counts = Counts::default();
+    for number in 0..800 {
+        carry_long(&mut rng, &mut counts)?;
+        if number % 4 == 0 {
+            carry_deep(&mut rng, &mut counts)?;
+        }
+    }
+    counts.finish("near the limits", 20)
+}
+
+/// A list of itself carried into a target with a tower of filler beside each
+/// list: each of `height` types is a sequence of `width` of the next one, so
+/// that a tower has up to 16 to the power of 61 elements.
+fn tower_setting(height: u8, width: usize) -> Setting {
+    let mut target = vec![0x12, 0x15, 1, 0x15, 2, 0x14, 0];
+    for next in 3..2 + height {
+        target.push(0x12);
+        target.extend([0x15, next].repeat(width));
+    }
+    target.extend([0x11, 0x1F]);
+    Setting::new(vec![0x14, 0, 0x1F], target, vec![0x20, 0, 0x21, 0x22, 1, 0x22, 1, 0x2F])
+}
+
+/// What carrying a list of so many levels into [`tower_setting`] must give,
+/// worked out by hand: each list is on two levels, the lowest tower stands
+/// below the sequence of the last list, and every list has a tower.
+fn tower_answer(lists: u64, height: u64, width: u64) -> (u64, u64, u64) {
+    let elements = (0..height as u32).map(|level| width.saturating_pow(level)).fold(0, u64::saturating_add);
+    let image_levels = (2 * lists).max(2 * lists - 1 + height);
+    let filler = elements.saturating_mul(lists);
+    (image_levels, filler.saturating_mul(3).saturating_add(6 * lists + 1), filler)
+}
+
+#[test]
+fn filler_too_large_to_build() -> Result<(), Failure> {
+    let mut counts = Counts::default();
+    let mut slowest = Duration::ZERO;
+    for (height, width) in (1..=62).flat_map(|height| [1, 2, 3, 8, 16].map(|width| (height, width))) {
+        let setting = tower_setting(height, width);
+        for lists in [1, 2, 33, 34, 64, 65] {
+            let tree = [[0x30, 0].repeat(lists), vec![0x32; lists], vec![0x3F]].concat();
+            let (levels, length, filler) = tower_answer(lists as u64, height as u64, width as u64);
+            let start = Instant::now();
+            let answer = compare(&setting.case(Entry::Carry, &tree, MOST_BYTES))?;
+            slowest = slowest.max(start.elapsed());
+            let right = match &answer {
+                Answer::Ok { value, filler: given, .. } => {
+                    levels <= MOST_LEVELS as u64 && (*value, *given) == (length, filler)
+                }
+                refused if levels > MOST_LEVELS as u64 => *refused == refused_output(12),
+                refused => length > MOST_BYTES as u64 && *refused == refused_output(13),
+            };
+            ensure(right, format!("{lists} lists, towers of {height} levels, {width} wide: {answer}"))?;
+            counts.add("carried", matches!(answer, Answer::Ok { .. }));
+            counts.add("too deep", answer == refused_output(12));
+            counts.add("too long", answer == refused_output(13));
+            counts.add("too many elements for a u64", filler == u64::MAX);
+        }
+    }
+    counts.finish("towers of filler", 100)?;
+    // An entry that builds the filler would not answer for ages.
+    ensure(slowest < Duration::from_secs(5), format!("an answer took {slowest:?}"))
+}
