@@ -87,13 +87,13 @@ module _ {w : World} (u : Usable w) (t : Target w) where
   read-it : (k : Content) → model.Source X valid k → image X k ≡ given → readBack X given ≡ some k
   read-it k h e = rw (← e) (read-image X valid k h)
 
-  -- Where nothing is read, or nothing that fits 60,000 bytes, there is no source: it would be read, and would not be longer than
-  -- the given document.
-  pub nothing-read : (old : List ℕ) → ((k : Content) → readBack X given ≡ some k → 60000 < length (document 0 k)) → Brings w old old Brought.NoImage
-  nothing-read old far =
+  -- Where nothing is read, or nothing that fits a buffer of the given document's length, there is no source: it would be read,
+  -- and would not be longer than the given document.
+  pub nothing-read : (old : List ℕ) {most : ℕ} → length (w .tree) ≤ most → ((k : Content) → readBack X given ≡ some k → most < length (document 0 k)) → Brings w old old Brought.NoImage
+  nothing-read old enough far =
       no-image w old
       (nothing-exactly X valid given .1
-      λ k h e. omega (arith, far k (read-it k h e), document-never-longer X valid k h, ap (λ (l : Content). length (document 0 l)) e, ap length (t .form), t .short))
+      λ k h e. omega (arith, far k (read-it k h e), document-never-longer X valid k h, ap (λ (l : Content). length (document 0 l)) e, ap length (t .form), enough))
 
   -- the source document that was read
   module _ {source : List ℕ} (r : ReadFrom w source) where

@@ -159,7 +159,77 @@ fn give<'a>(
     Brought::Written(written)
 }
 
-// Brings back the document `tr`, which conforms to the target table and has at most 60,000 bytes.
+// Brings back the document `tr` by way of two buffers that are at least as long: what is read goes to the first, its image to
+// the second.
+fn bring_through<'a>(
+    types1: usize,
+    k1: &'a [u8; 64],
+    c1: &'a [u8; 64],
+    m1: &'a [u8; 1024],
+    types2: usize,
+    k2: &'a [u8; 64],
+    c2: &'a [u8; 64],
+    m2: &'a [u8; 1024],
+    h2: &'a [u8; 64],
+    f2: &'a [u16; 64],
+    tg: &'a [u8; 64],
+    st: &'a [u16; 1024],
+    ln: &'a [u8; 1024],
+    em: &'a [u8],
+    tr: &'a [u8],
+    buffer: &mut [u8],
+    room: &mut [u8],
+    out: &mut [u8],
+) -> Brought
+    requires setting { ⌜ Usable (world types1 (now k1) (now c1) (now m1) types2 (now k2) (now c2) (now m2) (now h2) (now tg) (now st) (now ln) (now em) (now tr)) ⌝ }
+    requires fill { ⌜ FillHeld (world types1 (now k1) (now c1) (now m1) types2 (now k2) (now c2) (now m2) (now h2) (now tg) (now st) (now ln) (now em) (now tr)) (now f2) ⌝ }
+    requires target { ⌜ Target (world types1 (now k1) (now c1) (now m1) types2 (now k2) (now c2) (now m2) (now h2) (now tg) (now st) (now ln) (now em) (now tr)) ⌝ }
+    requires within { ⌜ (length (now tr) ≤ length (now buffer)) × (length (now tr) ≤ length (now room)) ⌝ }
+    ensures { λ r. ⌜ Brings (world types1 (now (k1 .entry)) (now (c1 .entry)) (now (m1 .entry)) types2 (now (k2 .entry)) (now (c2 .entry)) (now (m2 .entry)) (now (h2 .entry)) (now (tg .entry)) (now (st .entry)) (now (ln .entry)) (now (em .entry)) (now (tr .entry))) (now (out .entry)) (now (out .exit)) r ⌝ }
+{
+    let read = inverse::reading::read_back(
+        types1,
+        k1,
+        c1,
+        m1,
+        types2,
+        k2,
+        c2,
+        m2,
+        tg,
+        st,
+        ln,
+        em,
+        tr,
+        buffer,
+    );
+    match read {
+        Read::Nothing => Brought::NoImage,
+        Read::To(n) => give(
+            types1,
+            k1,
+            c1,
+            m1,
+            types2,
+            k2,
+            c2,
+            m2,
+            h2,
+            f2,
+            tg,
+            st,
+            ln,
+            em,
+            &buffer[..n],
+            tr,
+            room,
+            out,
+        ),
+    }
+}
+
+// Brings back the document `tr`, which conforms to the target table and has at most 60,000 bytes. For a short one short
+// buffers do, and need not be cleared at length.
 pub fn bring_back<'a>(
     types1: usize,
     k1: &'a [u8; 64],
@@ -183,8 +253,33 @@ pub fn bring_back<'a>(
     requires target { ⌜ Target (world types1 (now k1) (now c1) (now m1) types2 (now k2) (now c2) (now m2) (now h2) (now tg) (now st) (now ln) (now em) (now tr)) ⌝ }
     ensures { λ r. ⌜ Brings (world types1 (now (k1 .entry)) (now (c1 .entry)) (now (m1 .entry)) types2 (now (k2 .entry)) (now (c2 .entry)) (now (m2 .entry)) (now (h2 .entry)) (now (tg .entry)) (now (st .entry)) (now (ln .entry)) (now (em .entry)) (now (tr .entry))) (now (out .entry)) (now (out .exit)) r ⌝ }
 {
+    if tr.len() <= 2048 {
+        let mut buffer = [0u8; 2048];
+        let mut room = [0u8; 2048];
+        return bring_through(
+            types1,
+            k1,
+            c1,
+            m1,
+            types2,
+            k2,
+            c2,
+            m2,
+            h2,
+            f2,
+            tg,
+            st,
+            ln,
+            em,
+            tr,
+            &mut buffer,
+            &mut room,
+            out,
+        );
+    }
     let mut buffer = [0u8; 60000];
-    let read = inverse::reading::read_back(
+    let mut room = [0u8; 60000];
+    bring_through(
         types1,
         k1,
         c1,
@@ -193,37 +288,15 @@ pub fn bring_back<'a>(
         k2,
         c2,
         m2,
+        h2,
+        f2,
         tg,
         st,
         ln,
         em,
         tr,
         &mut buffer,
-    );
-    match read {
-        Read::Nothing => Brought::NoImage,
-        Read::To(n) => {
-            let mut room = [0u8; 60000];
-            give(
-                types1,
-                k1,
-                c1,
-                m1,
-                types2,
-                k2,
-                c2,
-                m2,
-                h2,
-                f2,
-                tg,
-                st,
-                ln,
-                em,
-                &buffer[..n],
-                tr,
-                &mut room,
-                out,
-            )
-        }
-    }
+        &mut room,
+        out,
+    )
 }

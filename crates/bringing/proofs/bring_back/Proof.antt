@@ -1,47 +1,48 @@
--- `bring_back` meets its contract: where reading finds nothing that fits the buffer there is no source, and what it finds goes to `give`.
-use mathlib.Core.Path.{sym}
-use lib.Seq.{length-take-le}
-use Rattle.bringing.proofs.Answering.{read-within, read-front, nothing-read}
+-- `bring_back` meets its contract: either pair of buffers is at least as long as the document.
 use borrow.Author.Needs.{needs}
 use Rattle.bringing.proofs.bring_back.Statement.{statement}
 use Rattle.bringing.proofs.bring_back.Tie as tie
+use Rattle.bringing.proofs.bring_back.Reads as reads
+use Rattle.bringing.proofs.bring_back.Lts as lts
+use Rattle.bringing.proofs.bring_through.Reads as bring-through-reads
 
-slice-aggregate-read-back : tie.Need-slice-aggregate-read-back
-slice-aggregate-read-back c = search needs
+-- src/lib.rt:275:13
+slice-aggregate-bring-through : tie.Need-slice-aggregate-bring-through
+slice-aggregate-bring-through c = search needs
 
-read-back-requires : tie.Need-read-back-requires
-read-back-requires c κs = search needs
+-- src/lib.rt:276:13
+slice-aggregate-bring-through-2 : tie.Need-slice-aggregate-bring-through-2
+slice-aggregate-bring-through-2 c = search needs
 
-enum-told : tie.Need-enum-told
-enum-told c = search needs
+-- src/lib.rt:259:9
+bring-through-requires : tie.Need-bring-through-requires
+bring-through-requires c κs = (c .before .before .before .before .before .before .before .pre .0, (c .before .before .before .before .before .before .before .pre .1 .0, (c .before .before .before .before .before .before .before .pre .1 .1, (c .before .before .before .if1 .taken, c .before .before .before .if1 .taken))))
 
-enum-known-read : tie.Need-enum-known-read
-enum-known-read c = search needs
-
-array-share-prefix-buffer : tie.Need-array-share-prefix-buffer
-array-share-prefix-buffer c =
-    let given = c .before .before .before .before .before .before .before .before .before .pre in
-    read-within (rw (c .before .read .given .1) at (c .before .before .before .before .read-back .ensures _ (given .1 .1 .form)))
-
-slice-aggregate-give : tie.Need-slice-aggregate-give
-slice-aggregate-give c = sym (length-take-le _ _ (array-share-prefix-buffer (c .before)))
-
-slice-aggregate-give-2 : tie.Need-slice-aggregate-give-2
-slice-aggregate-give-2 c = search needs
-
-give-requires : tie.Need-give-requires
-give-requires c κs =
-    let given = c .before .before .before .before .before .before .before .before .before .before .before .before .pre in
-    (given .0, (given .1 .0, (given .1 .1, (read-front (rw (c .before .before .before .before .read .given .1) at (c .before .before .before .before .before .before .before .read-back .ensures _ (given .1 .1 .form))), given .1 .1 .short))))
-
-returns : tie.Need-returns
-returns c =
-    let given = c .before .before .before .before .before .before .before .before .pre in
-    nothing-read (given .0) (given .1 .1) _ (rw (c .enum-told .given .1) at (c .before .before .before .read-back .ensures _ (given .1 .1 .form)))
-
+-- src/lib.rt:259:9
 same-length : tie.Need-same-length
 same-length c = search needs
 
+-- src/lib.rt:259:9
+returns : tie.Need-returns
+returns c = search needs
+
+-- src/lib.rt:298:9
+slice-aggregate-bring-through-3 : tie.Need-slice-aggregate-bring-through-3
+slice-aggregate-bring-through-3 c = search needs
+
+-- src/lib.rt:299:9
+slice-aggregate-bring-through-4 : tie.Need-slice-aggregate-bring-through-4
+slice-aggregate-bring-through-4 c = search needs
+
+-- src/lib.rt:282:5
+bring-through-requires-2 : tie.Need-bring-through-requires-2
+bring-through-requires-2 c κs = (c .before .before .before .before .before .before .before .pre .0, (c .before .before .before .before .before .before .before .pre .1 .0, (c .before .before .before .before .before .before .before .pre .1 .1, (c .before .before .before .before .before .before .before .pre .1 .1 .short, c .before .before .before .before .before .before .before .pre .1 .1 .short))))
+
+-- src/lib.rt:233:1
+same-length-2 : tie.Need-same-length-2
+same-length-2 c = search needs
+
+-- src/lib.rt:233:1
 returns-2 : tie.Need-returns-2
 returns-2 c = search needs
 
@@ -49,14 +50,13 @@ pub bring-back-spec : {M : Type 1} → statement M
 bring-back-spec =
     tie.close
     (tie.spec
-    slice-aggregate-read-back
-    read-back-requires
-    enum-told
-    enum-known-read
-    array-share-prefix-buffer
-    slice-aggregate-give
-    slice-aggregate-give-2
-    give-requires
-    returns
+    slice-aggregate-bring-through
+    slice-aggregate-bring-through-2
+    bring-through-requires
     same-length
+    returns
+    slice-aggregate-bring-through-3
+    slice-aggregate-bring-through-4
+    bring-through-requires-2
+    same-length-2
     returns-2)
