@@ -9,6 +9,7 @@ ghost use Rattle.images.specs.Setting.{world, Usable};
 ghost use Rattle.images.specs.Image.{Source, imageDocument};
 ghost use Rattle.bringing.specs.Bringing.{FillHeld, Target, ReadFrom, Brings};
 use inverse::reading::Read;
+use scanning::spans::fill_spans;
 
 // No conforming source document has this image; the source doesn't fit the output; or it is written, with this length.
 pub enum Brought {
@@ -159,8 +160,8 @@ fn give<'a>(
     Brought::Written(written)
 }
 
-// Brings back the document `tr` by way of two buffers that are at least as long: what is read goes to the first, its image to
-// the second.
+// Brings back the document `tr` by way of three buffers that are at least as long: the lengths of what its elements hold go to
+// the first, what is read to the second, its image to the third.
 fn bring_through<'a>(
     types1: usize,
     k1: &'a [u8; 64],
@@ -177,6 +178,7 @@ fn bring_through<'a>(
     ln: &'a [u8; 1024],
     em: &'a [u8],
     tr: &'a [u8],
+    spans: &mut [u16],
     buffer: &mut [u8],
     room: &mut [u8],
     out: &mut [u8],
@@ -184,9 +186,10 @@ fn bring_through<'a>(
     requires setting { ⌜ Usable (world types1 (now k1) (now c1) (now m1) types2 (now k2) (now c2) (now m2) (now h2) (now tg) (now st) (now ln) (now em) (now tr)) ⌝ }
     requires fill { ⌜ FillHeld (world types1 (now k1) (now c1) (now m1) types2 (now k2) (now c2) (now m2) (now h2) (now tg) (now st) (now ln) (now em) (now tr)) (now f2) ⌝ }
     requires target { ⌜ Target (world types1 (now k1) (now c1) (now m1) types2 (now k2) (now c2) (now m2) (now h2) (now tg) (now st) (now ln) (now em) (now tr)) ⌝ }
-    requires within { ⌜ (length (now tr) ≤ length (now buffer)) × (length (now tr) ≤ length (now room)) ⌝ }
+    requires within { ⌜ (length (now tr) ≤ length (now spans)) × (length (now tr) ≤ length (now buffer)) × (length (now tr) ≤ length (now room)) ⌝ }
     ensures { λ r. ⌜ Brings (world types1 (now (k1 .entry)) (now (c1 .entry)) (now (m1 .entry)) types2 (now (k2 .entry)) (now (c2 .entry)) (now (m2 .entry)) (now (h2 .entry)) (now (tg .entry)) (now (st .entry)) (now (ln .entry)) (now (em .entry)) (now (tr .entry))) (now (out .entry)) (now (out .exit)) r ⌝ }
 {
+    fill_spans(tr, spans);
     let read = inverse::reading::read_back(
         types1,
         k1,
@@ -201,6 +204,7 @@ fn bring_through<'a>(
         ln,
         em,
         tr,
+        &spans[..],
         buffer,
     );
     match read {
@@ -254,6 +258,7 @@ pub fn bring_back<'a>(
     ensures { λ r. ⌜ Brings (world types1 (now (k1 .entry)) (now (c1 .entry)) (now (m1 .entry)) types2 (now (k2 .entry)) (now (c2 .entry)) (now (m2 .entry)) (now (h2 .entry)) (now (tg .entry)) (now (st .entry)) (now (ln .entry)) (now (em .entry)) (now (tr .entry))) (now (out .entry)) (now (out .exit)) r ⌝ }
 {
     if tr.len() <= 2048 {
+        let mut spans = [0u16; 2048];
         let mut buffer = [0u8; 2048];
         let mut room = [0u8; 2048];
         return bring_through(
@@ -272,11 +277,13 @@ pub fn bring_back<'a>(
             ln,
             em,
             tr,
+            &mut spans,
             &mut buffer,
             &mut room,
             out,
         );
     }
+    let mut spans = [0u16; 60000];
     let mut buffer = [0u8; 60000];
     let mut room = [0u8; 60000];
     bring_through(
@@ -295,6 +302,7 @@ pub fn bring_back<'a>(
         ln,
         em,
         tr,
+        &mut spans,
         &mut buffer,
         &mut room,
         out,

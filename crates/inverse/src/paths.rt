@@ -12,6 +12,7 @@ ghost use Rattle.model.specs.Definitions.Embedding.{divide};
 ghost use Rattle.model.specs.Definitions.Inverse as model;
 ghost use Rattle.scanning.specs.Finding.{Finds};
 ghost use Rattle.scanning.specs.Scanning.{At};
+ghost use Rattle.scanning.specs.Spanning.{Spans};
 
 // The number of steps before the first step of a path that leaves a list, and the item type of that list.
 pub struct Split {
@@ -30,16 +31,17 @@ fn member_at(members: &[u8; 1024], t: u8, p: u8) -> u8
 
 // Where step p leads from the element whose content begins at `at`, by the code of its kind; `next` is the type that the
 // step goes to.
-fn enter(kind: u8, p: u8, next: u8, tr: &[u8], at: usize) -> Found
-    requires { ⌜ ((k : Content) × At (now tr) at k) ⌝ }
+fn enter<'a>(kind: u8, p: u8, next: u8, tr: &'a [u8], sp: &'a [u16], at: usize) -> Found
+    requires spans { ⌜ Spans (now tr) (now sp) ⌝ }
+    requires content { ⌜ ((k : Content) × At (now tr) at k) ⌝ }
     ensures { λ r. ⌜ ((k : Content) → At (now (tr .entry)) at k → (count : _) (row : _) → Finds (now (tr .entry)) r (model.enter (kindFrom kind count row) p next k)) ⌝ }
 {
     match kind {
         0 => Found::Missing,
         1 => Found::Missing,
-        2 => child(tr, at, p as usize),
+        2 => child(tr, sp, at, p as usize),
         3 => child_of_type(tr, at, next),
-        _ => child(tr, at, 1),
+        _ => child(tr, sp, at, 1),
     }
 }
 
@@ -56,8 +58,10 @@ pub fn follow<'a>(
     to: usize,
     tau: u8,
     tr: &'a [u8],
+    sp: &'a [u16],
     at: usize,
 ) -> Found
+    requires spans { ⌜ Spans (now tr) (now sp) ⌝ }
     requires path { ⌜ Followable types (now kinds) (now counts) (now members) (now em) start from to tau ⌝ }
     requires content { ⌜ ((k : Content) × At (now tr) at k) ⌝ }
     ensures { λ r. ⌜ ((k : Content) → At (now (tr .entry)) at k → Finds (now (tr .entry)) r (model.follow (tableIn types (now (kinds .entry)) (now (counts .entry)) (now (members .entry))) tau (stepsBetween (now (em .entry)) start from to) k)) ⌝ }
@@ -70,7 +74,7 @@ pub fn follow<'a>(
         let p = em[place];
         let next = member_at(members, type_here, p);
         let t = type_here as usize;
-        let found = enter(kinds[t], p, next, tr, here);
+        let found = enter(kinds[t], p, next, tr, sp, here);
         match found {
             Found::At(o) => {
                 here = o;

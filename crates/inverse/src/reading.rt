@@ -2,7 +2,7 @@
 use super::paths::first_list;
 use super::paths::follow;
 use scanning::Found;
-use scanning::skip;
+use scanning::spans::close_of;
 use writing::copy;
 use writing::put_close;
 use writing::put_end;
@@ -20,6 +20,7 @@ ghost use Rattle.model.specs.Definitions.Table.{kindOf};
 ghost use Rattle.model.specs.Definitions.Embedding.{targetOf, pathsOf};
 ghost use Rattle.scanning.specs.Finding.{Finds};
 ghost use Rattle.scanning.specs.Scanning.{At};
+ghost use Rattle.scanning.specs.Spanning.{Spans};
 ghost use Rattle.setting.specs.Ready.{settingIn};
 
 // The items of a target list that are left, from the offset `at` on; each is followed from its type `item` along the
@@ -65,8 +66,10 @@ fn along<'a>(
     i: usize,
     tau: u8,
     tr: &'a [u8],
+    sp: &'a [u16],
     from: usize,
 ) -> Found
+    requires spans { ⌜ Spans (now tr) (now sp) ⌝ }
     requires place { ⌜ i < 1024 ⌝ }
     requires path { ⌜ Followable types2 (now k2) (now c2) (now m2) (now em) (getD (now st) i 0) 0 (getD (now ln) i 0) tau ⌝ }
     requires content { ⌜ ((k : Content) × At (now tr) from k) ⌝ }
@@ -74,7 +77,7 @@ fn along<'a>(
 {
     let start = st[i] as usize;
     let count = ln[i] as usize;
-    follow(types2, k2, c2, m2, em, start, 0, count, tau, tr, from)
+    follow(types2, k2, c2, m2, em, start, 0, count, tau, tr, sp, from)
 }
 
 // The next child of a sequence, that of edge i.
@@ -93,9 +96,11 @@ fn next_member<'a>(
     em: &'a [u8],
     sigma: u8,
     tr: &'a [u8],
+    sp: &'a [u16],
     from: usize,
     i: usize,
 ) -> Part
+    requires spans { ⌜ Spans (now tr) (now sp) ⌝ }
     requires setting { ⌜ Known (arrays types1 (now k1) (now c1) (now m1)) (arrays types2 (now k2) (now c2) (now m2)) (paths (now tg) (now st) (now ln) (now em)) ⌝ }
     requires known_type { ⌜ sigma < types1 ⌝ }
     requires left { ⌜ ((k : Content) × (parts : Parts) × At (now tr) from k × LeftEdges (arrays types1 (now k1) (now c1) (now m1)) (arrays types2 (now k2) (now c2) (now m2)) (paths (now tg) (now st) (now ln) (now em)) sigma k i parts) ⌝ }
@@ -107,7 +112,7 @@ fn next_member<'a>(
         return Part::Done;
     }
     let place = s * 16 + i;
-    let found = along(types2, k2, c2, m2, st, ln, em, place, tg[s], tr, from);
+    let found = along(types2, k2, c2, m2, st, ln, em, place, tg[s], tr, sp, from);
     match found {
         Found::At(o) => {
             let m = m1[place];
@@ -134,8 +139,10 @@ fn next_choice<'a>(
     em: &'a [u8],
     sigma: u8,
     tr: &'a [u8],
+    sp: &'a [u16],
     from: usize,
 ) -> Part
+    requires spans { ⌜ Spans (now tr) (now sp) ⌝ }
     requires setting { ⌜ Known (arrays types1 (now k1) (now c1) (now m1)) (arrays types2 (now k2) (now c2) (now m2)) (paths (now tg) (now st) (now ln) (now em)) ⌝ }
     requires known_type { ⌜ sigma < types1 ⌝ }
     requires left { ⌜ ((k : Content) × (parts : Parts) × At (now tr) from k × LeftChoice (arrays types1 (now k1) (now c1) (now m1)) (arrays types2 (now k2) (now c2) (now m2)) (paths (now tg) (now st) (now ln) (now em)) sigma k parts) ⌝ }
@@ -146,7 +153,7 @@ fn next_choice<'a>(
     let mut i = 0;
     while i < count {
         let place = s * 16 + i;
-        let found = along(types2, k2, c2, m2, st, ln, em, place, tg[s], tr, from);
+        let found = along(types2, k2, c2, m2, st, ln, em, place, tg[s], tr, sp, from);
         if let Found::At(o) = found {
             let m = m1[place];
             return Part::One(m, o, Cursor::Last);
@@ -172,8 +179,10 @@ fn next_item<'a>(
     em: &'a [u8],
     sigma: u8,
     tr: &'a [u8],
+    sp: &'a [u16],
     rest: Rest,
 ) -> Part
+    requires spans { ⌜ Spans (now tr) (now sp) ⌝ }
     requires setting { ⌜ Known (arrays types1 (now k1) (now c1) (now m1)) (arrays types2 (now k2) (now c2) (now m2)) (paths (now tg) (now st) (now ln) (now em)) ⌝ }
     requires known_type { ⌜ sigma < types1 ⌝ }
     requires left { ⌜ ((parts : Parts) × LeftItems (arrays types1 (now k1) (now c1) (now m1)) (arrays types2 (now k2) (now c2) (now m2)) (paths (now tg) (now st) (now ln) (now em)) sigma (now tr) rest parts) ⌝ }
@@ -187,7 +196,7 @@ fn next_item<'a>(
             let start = st[place] as usize;
             let count = ln[place] as usize;
             let inside = at + 2;
-            let close = skip(tr, inside);
+            let close = close_of(tr, sp, inside);
             let first = rest.from;
             let item = rest.item;
             let found = follow(
@@ -201,6 +210,7 @@ fn next_item<'a>(
                 count,
                 item,
                 tr,
+                sp,
                 inside,
             );
             match found {
@@ -241,9 +251,11 @@ fn next<'a>(
     em: &'a [u8],
     sigma: u8,
     tr: &'a [u8],
+    sp: &'a [u16],
     from: usize,
     cursor: Cursor,
 ) -> Part
+    requires spans { ⌜ Spans (now tr) (now sp) ⌝ }
     requires setting { ⌜ Known (arrays types1 (now k1) (now c1) (now m1)) (arrays types2 (now k2) (now c2) (now m2)) (paths (now tg) (now st) (now ln) (now em)) ⌝ }
     requires known_type { ⌜ sigma < types1 ⌝ }
     requires left { ⌜ ((k : Content) × (parts : Parts) × At (now tr) from k × Shows (arrays types1 (now k1) (now c1) (now m1)) (arrays types2 (now k2) (now c2) (now m2)) (paths (now tg) (now st) (now ln) (now em)) sigma (now tr) k cursor parts) ⌝ }
@@ -265,6 +277,7 @@ fn next<'a>(
             em,
             sigma,
             tr,
+            sp,
             from,
             i,
         ),
@@ -283,6 +296,7 @@ fn next<'a>(
             em,
             sigma,
             tr,
+            sp,
             from,
         ),
         Cursor::Items(rest) => next_item(
@@ -300,6 +314,7 @@ fn next<'a>(
             em,
             sigma,
             tr,
+            sp,
             rest,
         ),
         Cursor::Last => Part::Done,
@@ -323,8 +338,10 @@ fn begin_list<'a>(
     em: &'a [u8],
     sigma: u8,
     tr: &'a [u8],
+    sp: &'a [u16],
     from: usize,
 ) -> Cursor
+    requires spans { ⌜ Spans (now tr) (now sp) ⌝ }
     requires setting { ⌜ Known (arrays types1 (now k1) (now c1) (now m1)) (arrays types2 (now k2) (now c2) (now m2)) (paths (now tg) (now st) (now ln) (now em)) ⌝ }
     requires known_type { ⌜ sigma < types1 ⌝ }
     requires list { ⌜ 4 ≤ getD (now k1) sigma 0 ⌝ }
@@ -339,7 +356,7 @@ fn begin_list<'a>(
     let split = first_list(types2, k2, c2, m2, em, start, count, tau);
     let before = split.before;
     let item = split.item;
-    let found = follow(types2, k2, c2, m2, em, start, 0, before, tau, tr, from);
+    let found = follow(types2, k2, c2, m2, em, start, 0, before, tau, tr, sp, from);
     match found {
         Found::At(o) => {
             let first = before + 1;
@@ -369,8 +386,10 @@ fn begin<'a>(
     em: &'a [u8],
     sigma: u8,
     tr: &'a [u8],
+    sp: &'a [u16],
     from: usize,
 ) -> Cursor
+    requires spans { ⌜ Spans (now tr) (now sp) ⌝ }
     requires setting { ⌜ Known (arrays types1 (now k1) (now c1) (now m1)) (arrays types2 (now k2) (now c2) (now m2)) (paths (now tg) (now st) (now ln) (now em)) ⌝ }
     requires known_type { ⌜ sigma < types1 ⌝ }
     requires content { ⌜ ((k : Content) × At (now tr) from k) ⌝ }
@@ -398,6 +417,7 @@ fn begin<'a>(
             em,
             sigma,
             tr,
+            sp,
             from,
         ),
     }
@@ -415,20 +435,22 @@ fn read_text<'a>(
     i: usize,
     tau: u8,
     tr: &'a [u8],
+    sp: &'a [u16],
     from: usize,
     out: &mut [u8],
     at: usize,
 ) -> Read
+    requires spans { ⌜ Spans (now tr) (now sp) ⌝ }
     requires place { ⌜ i < 1024 ⌝ }
     requires path { ⌜ Followable types2 (now k2) (now c2) (now m2) (now em) (getD (now st) i 0) 0 (getD (now ln) i 0) tau ⌝ }
     requires content { ⌜ ((k : Content) × At (now tr) from k) ⌝ }
     requires room { ⌜ at ≤ length (now out) ⌝ }
     ensures { λ r. ⌜ ((k : Content) → At (now (tr .entry)) from k → Reads (now (out .entry)) (now (out .exit)) at r (model.follow (tableIn types2 (now (k2 .entry)) (now (c2 .entry)) (now (m2 .entry))) tau (pathAt (now (em .entry)) (now (st .entry)) (now (ln .entry)) i) k)) ⌝ }
 {
-    let found = along(types2, k2, c2, m2, st, ln, em, i, tau, tr, from);
+    let found = along(types2, k2, c2, m2, st, ln, em, i, tau, tr, sp, from);
     match found {
         Found::At(o) => {
-            let close = skip(tr, o);
+            let close = close_of(tr, sp, o);
             if out.len() - at < close - o {
                 return Read::Nothing;
             }
@@ -456,11 +478,13 @@ pub fn read_to<'a>(
     em: &'a [u8],
     sigma: u8,
     tr: &'a [u8],
+    sp: &'a [u16],
     from: usize,
     depth: usize,
     out: &mut [u8],
     at: usize,
 ) -> Read
+    requires spans { ⌜ Spans (now tr) (now sp) ⌝ }
     requires setting { ⌜ Known (arrays types1 (now k1) (now c1) (now m1)) (arrays types2 (now k2) (now c2) (now m2)) (paths (now tg) (now st) (now ln) (now em)) ⌝ }
     requires known_type { ⌜ sigma < types1 ⌝ }
     requires content { ⌜ ((k : Content) × At (now tr) from k) ⌝ }
@@ -484,6 +508,7 @@ pub fn read_to<'a>(
             place,
             tg[s],
             tr,
+            sp,
             from,
             out,
             at,
@@ -504,6 +529,7 @@ pub fn read_to<'a>(
         em,
         sigma,
         tr,
+        sp,
         from,
     );
     let mut to = at;
@@ -523,6 +549,7 @@ pub fn read_to<'a>(
             em,
             sigma,
             tr,
+            sp,
             from,
             cursor,
         );
@@ -547,6 +574,7 @@ pub fn read_to<'a>(
                     em,
                     m,
                     tr,
+                    sp,
                     o,
                     depth - 1,
                     out,
@@ -585,8 +613,10 @@ pub fn read_back<'a>(
     ln: &'a [u8; 1024],
     em: &'a [u8],
     tr: &'a [u8],
+    sp: &'a [u16],
     out: &mut [u8],
 ) -> Read
+    requires spans { ⌜ Spans (now tr) (now sp) ⌝ }
     requires setting { ⌜ Known (arrays types1 (now k1) (now c1) (now m1)) (arrays types2 (now k2) (now c2) (now m2)) (paths (now tg) (now st) (now ln) (now em)) ⌝ }
     requires document { ⌜ ((k : Content) × (now tr ≡ document 0 k)) ⌝ }
     ensures { λ r. ⌜ ((k : Content) → now (tr .entry) ≡ document 0 k → Brings (now (out .entry)) (now (out .exit)) r (model.readBack (settingIn (arrays types1 (now (k1 .entry)) (now (c1 .entry)) (now (m1 .entry))) (arrays types2 (now (k2 .entry)) (now (c2 .entry)) (now (m2 .entry))) (paths (now (tg .entry)) (now (st .entry)) (now (ln .entry)) (now (em .entry)))) k)) ⌝ }
@@ -611,6 +641,7 @@ pub fn read_back<'a>(
         em,
         0,
         tr,
+        sp,
         2,
         depth,
         out,

@@ -1,2 +1,3 @@
 pub mod Skipping
+pub mod Spanning
 pub mod Searching

@@ -48,6 +48,15 @@ pub element-first : {tr : List ℕ} {at t : ℕ} {k r : Content} → At tr at (e
 unfolding bytes
 element-first {tr} {at} a = drop-first tr at 0x30 _ (a .stands) .1
 
+-- a character's is 31, and that of nothing is the 32 behind it
+pub character-first : {tr : List ℕ} {at c : ℕ} {r : Content} → At tr at (char c r) → getD tr at 0 ≡ 0x31
+unfolding bytes
+character-first {tr} {at} a = drop-first tr at 0x31 _ (a .stands) .1
+
+pub end-first : {tr : List ℕ} {at : ℕ} → At tr at end → getD tr at 0 ≡ 0x32
+unfolding bytes
+end-first {tr} {at} a = drop-first tr at 0x32 (a .rest) (a .stands) .1
+
 -- content whose first byte is 30 begins with an element, which holds `inside` and is followed by `next`
 pub record Opens (tr : List ℕ) (at : ℕ) (k : Content) (rest : List ℕ) : Type 0 where
   pub type : ℕ

@@ -1,3 +1,4 @@
 pub mod Scanning
 pub mod Finding
 pub mod Laws
+pub mod Spanning

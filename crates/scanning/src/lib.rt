@@ -6,6 +6,10 @@ ghost use Rattle.model.specs.Definitions.Content.{Content, bytes};
 ghost use Rattle.model.specs.Definitions.Inverse.{childAt, childOfType};
 ghost use Rattle.scanning.specs.Scanning.{At};
 ghost use Rattle.scanning.specs.Finding.{Finds};
+ghost use Rattle.scanning.specs.Spanning.{Spans};
+use spans::close_of;
+
+pub mod spans;
 
 // The offset at which what an element holds begins, or that there is no such element.
 pub enum Found {
@@ -45,8 +49,9 @@ pub fn skip(tr: &[u8], from: usize) -> usize
 
 // Where the p-th child element's content begins, counted from 1, among the siblings that begin at `from`. The loop
 // skips one element a turn.
-pub fn child(tr: &[u8], from: usize, p: usize) -> Found
-    requires { ⌜ ((k : Content) × At (now tr) from k) ⌝ }
+pub fn child<'a>(tr: &'a [u8], sp: &'a [u16], from: usize, p: usize) -> Found
+    requires spans { ⌜ Spans (now tr) (now sp) ⌝ }
+    requires content { ⌜ ((k : Content) × At (now tr) from k) ⌝ }
     ensures { λ r. ⌜ ((k : Content) → At (now (tr .entry)) from k → Finds (now (tr .entry)) r (childAt k p)) ⌝ }
 {
     if p == 0 {
@@ -59,7 +64,7 @@ pub fn child(tr: &[u8], from: usize, p: usize) -> Found
         if left == 1 {
             return Found::At(inside);
         }
-        let close = skip(tr, inside);
+        let close = close_of(tr, sp, inside);
         at = close + 1;
         left -= 1;
     }

@@ -8,10 +8,10 @@ use Rattle.scanning.proofs.child.Statement.{statement}
 use Rattle.scanning.proofs.child.Tie as tie
 
 abbrev Inv-loop : tie.InvT-loop
-Inv-loop tr from p at₀ left₀ at left = Seeks tr from p at left
+Inv-loop tr sp from p at₀ left₀ at left = Seeks tr from p at left
 
 abbrev μ-loop : tie.MeasureT-loop
-μ-loop tr from p at₀ left₀ at left = length tr - at
+μ-loop tr sp from p at₀ left₀ at left = length tr - at
 
 -- more than one child is still to be counted
 two-left : (left : ℕ) → 1 ≤ left → (left ≡ 1 → ⊥) → 2 ≤ left
@@ -24,28 +24,28 @@ loop-holds : tie.Need-loop-holds Inv-loop μ-loop
 loop-holds c = record { some-left = omega (arith, c .if1 .left); reached = λ k a. record { content = k; there = a; same = refl } }
 
 shared-slice-read-if2 : tie.Need-shared-slice-read-if2 Inv-loop μ-loop
-shared-slice-read-if2 c = reached-within (c .before .loop .inv .reached (c .before .before .before .before .pre .0) (c .before .before .before .before .pre .1))
+shared-slice-read-if2 c = reached-within (c .before .loop .inv .reached (c .before .before .before .before .before .pre .1 .0) (c .before .before .before .before .before .pre .1 .1))
 
 add-inside : tie.Need-add-inside Inv-loop μ-loop
-add-inside c = omega (arith, reached-inside (c .before .before .loop .inv .reached (c .before .before .before .before .before .pre .0) (c .before .before .before .before .before .pre .1)) (c .if2 .taken) .0)
+add-inside c = omega (arith, reached-inside (c .before .before .loop .inv .reached (c .before .before .before .before .before .before .pre .1 .0) (c .before .before .before .before .before .before .pre .1 .1)) (c .if2 .taken) .0)
 
 returns-2 : tie.Need-returns-2 Inv-loop μ-loop
 returns-2 c = λ k a. reached-found (c .before .before .before .loop .inv .reached k a) (c .before .if2 .taken) (c .if3 .taken)
 
-skip-requires : tie.Need-skip-requires Inv-loop μ-loop
-skip-requires c κs = reached-inside (c .before .before .before .loop .inv .reached (c .before .before .before .before .before .before .pre .0) (c .before .before .before .before .before .before .pre .1)) (c .before .if2 .taken) .1
+close-of-requires : tie.Need-close-of-requires Inv-loop μ-loop
+close-of-requires c κs = (c .before .before .before .before .before .before .before .pre .0, reached-inside (c .before .before .before .loop .inv .reached (c .before .before .before .before .before .before .before .pre .1 .0) (c .before .before .before .before .before .before .before .pre .1 .1)) (c .before .if2 .taken) .1)
 
 add-at : tie.Need-add-at Inv-loop μ-loop
-add-at c = omega (arith, reached-close (c .before .before .before .before .loop .inv .reached (c .before .before .before .before .before .before .before .pre .0) (c .before .before .before .before .before .before .before .pre .1)) (c .before .before .if2 .taken) (c .skip .result) (c .skip .ensures) .1)
+add-at c = omega (arith, reached-close (c .before .before .before .before .loop .inv .reached (c .before .before .before .before .before .before .before .before .pre .1 .0) (c .before .before .before .before .before .before .before .before .pre .1 .1)) (c .before .before .if2 .taken) (c .close-of .result) (c .close-of .ensures) .1)
 
 sub-left : tie.Need-sub-left Inv-loop μ-loop
 sub-left c = c .before .before .before .before .loop .inv .some-left
 
 loop-less : tie.Need-loop-less Inv-loop μ-loop
-loop-less c = let far = reached-close (c .before .before .before .before .loop .inv .reached (c .before .before .before .before .before .before .before .pre .0) (c .before .before .before .before .before .before .before .pre .1)) (c .before .before .if2 .taken) (c .skip .result) (c .skip .ensures) in omega (arith, far .0, far .1)
+loop-less c = let far = reached-close (c .before .before .before .before .loop .inv .reached (c .before .before .before .before .before .before .before .before .pre .1 .0) (c .before .before .before .before .before .before .before .before .pre .1 .1)) (c .before .before .if2 .taken) (c .close-of .result) (c .close-of .ensures) in omega (arith, far .0, far .1)
 
 loop-again : tie.Need-loop-again Inv-loop μ-loop
-loop-again c = let more = two-left _ (c .before .before .before .before .loop .inv .some-left) (c .before .if3 .left) in record { some-left = omega (arith, more); reached = λ k a. reached-next (c .before .before .before .before .loop .inv .reached k a) (c .before .before .if2 .taken) (c .skip .result) (c .skip .ensures) more }
+loop-again c = let more = two-left _ (c .before .before .before .before .loop .inv .some-left) (c .before .if3 .left) in record { some-left = omega (arith, more); reached = λ k a. reached-next (c .before .before .before .before .loop .inv .reached k a) (c .before .before .if2 .taken) (c .close-of .result) (c .close-of .ensures) more }
 
 returns-3 : tie.Need-returns-3 Inv-loop μ-loop
 returns-3 c = λ k a. reached-none (c .before .before .loop .inv .reached k a) (c .if2 .left)
@@ -61,7 +61,7 @@ child-spec =
     shared-slice-read-if2
     add-inside
     returns-2
-    skip-requires
+    close-of-requires
     add-at
     sub-left
     loop-less

@@ -5,13 +5,13 @@ use Rattle.inverse.proofs.paths.enter.Statement.{statement}
 use Rattle.inverse.proofs.paths.enter.Tie as tie
 
 child-requires : tie.Need-child-requires
-child-requires c κs = search needs
+child-requires c κs = (c .before .before .before .pre .0, search needs)
 
 child-of-type-requires : tie.Need-child-of-type-requires
 child-of-type-requires c κs = search needs
 
 child-requires-2 : tie.Need-child-requires-2
-child-requires-2 c κs = search needs
+child-requires-2 c κs = (c .before .before .before .pre .0, search needs)
 
 returns : tie.Need-returns
 returns c = λ k a count row. enter-text _ _ _ k count row (c .match .keys1)

@@ -9,13 +9,13 @@ use Rattle.inverse.proofs.paths.follow.Statement.{statement}
 use Rattle.inverse.proofs.paths.follow.Tie as tie
 
 abbrev Inv-loop : tie.InvT-loop
-Inv-loop types kinds counts members em start from to tau tr at i₀ here₀ type-here₀ i here type-here = Onward types kinds counts members em start from to tau tr at i here type-here
+Inv-loop types kinds counts members em start from to tau tr sp at i₀ here₀ type-here₀ i here type-here = Onward types kinds counts members em start from to tau tr at i here type-here
 
 abbrev μ-loop : tie.MeasureT-loop
-μ-loop types kinds counts members em start from to tau tr at i₀ here₀ type-here₀ i here type-here = to - i
+μ-loop types kinds counts members em start from to tau tr sp at i₀ here₀ type-here₀ i here type-here = to - i
 
 loop-holds : tie.Need-loop-holds Inv-loop μ-loop
-loop-holds c = record { walk = c .before .before .pre .0; reached = λ k a. record { content = k; there = a; same = refl } }
+loop-holds c = record { walk = c .before .before .before .pre .1 .0; reached = λ k a. record { content = k; there = a; same = refl } }
 
 add-place : tie.Need-add-place Inv-loop μ-loop
 add-place c = omega (arith, place-within (c .before .loop .inv .walk) (c .loop-test .taken))
@@ -39,7 +39,7 @@ element-copy-out-enter : tie.Need-element-copy-out-enter Inv-loop μ-loop
 element-copy-out-enter c = is-small (c .before .before .before .loop .inv .walk) (c .before .before .loop-test .taken)
 
 enter-requires : tie.Need-enter-requires Inv-loop μ-loop
-enter-requires c κs = let now = c .before .before .before .before .loop .inv .reached (c .before .before .before .before .before .before .before .pre .1 .0) (c .before .before .before .before .before .before .before .pre .1 .1) in (now .content, now .there)
+enter-requires c κs = (c .before .before .before .before .before .before .before .before .pre .0, let now = c .before .before .before .before .loop .inv .reached (c .before .before .before .before .before .before .before .before .pre .1 .1 .0) (c .before .before .before .before .before .before .before .before .pre .1 .1 .1) in (now .content, now .there))
 
 enum-known-found : tie.Need-enum-known-found Inv-loop μ-loop
 enum-known-found c = search needs

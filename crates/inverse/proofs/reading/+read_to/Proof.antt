@@ -24,7 +24,7 @@ use Rattle.inverse.proofs.reading.+read_to.{statement}
 use Rattle.inverse.proofs.reading.+read_to.Tie.{close}
 
 abbrev μ-read-to : Measures 2 read-to-kinds.ps ℕ
-μ-read-to κs a = a .1 .1 .1 .1 .1 .1 .1 .1 .1 .1 .1 .1 .1 .1 .1 .0
+μ-read-to κs a = a .1 .1 .1 .1 .1 .1 .1 .1 .1 .1 .1 .1 .1 .1 .1 .1 .0
 
 abbrev read-to-at : ℕ → In 2 read-to-kinds.ps
 read-to-at t = and 2 read-to-kinds.ps (is 2 read-to-kinds.ps μ-read-to t) read-to.Pre
@@ -33,11 +33,11 @@ abbrev read-to-below : ℕ → In 2 read-to-kinds.ps
 read-to-below t = and 2 read-to-kinds.ps (falls 2 read-to-kinds.ps _<_ μ-read-to t) read-to.Pre
 
 abbrev read-to-Inv-loop : read-to-lts.InvT-loop
-read-to-Inv-loop types1 k1 c1 m1 types2 k2 c2 m2 tg st ln em sigma tr from depth out₀ at s cursor₀ to₀ out cursor to =
+read-to-Inv-loop types1 k1 c1 m1 types2 k2 c2 m2 tg st ln em sigma tr sp from depth out₀ at s cursor₀ to₀ out cursor to =
     Reading (arrays types1 k1 c1 m1) (arrays types2 k2 c2 m2) (paths tg st ln em) sigma tr from depth out₀ at out to cursor
 
 abbrev read-to-μ-loop : read-to-lts.MeasureT-loop
-read-to-μ-loop types1 k1 c1 m1 types2 k2 c2 m2 tg st ln em sigma tr from depth out₀ at s cursor₀ to₀ out cursor to =
+read-to-μ-loop types1 k1 c1 m1 types2 k2 c2 m2 tg st ln em sigma tr sp from depth out₀ at s cursor₀ to₀ out cursor to =
     weight tr cursor
 
 read-to-returns : (t : ℕ) → read-to-lts.Need-returns (
@@ -70,7 +70,7 @@ read-to-element-copy-out-if2 : (t : ℕ) → read-to-lts.Need-element-copy-out-i
   put-close-reads.Asked,
   put-close-reads.Learnt,
 ) (read-to-at t) read-to.Post read-to-Inv-loop read-to-μ-loop
-read-to-element-copy-out-if2 t c = let start = c .before .before .before .before in small (start .pre .1 .0) (start .pre .1 .1 .0)
+read-to-element-copy-out-if2 t c = let start = c .before .before .before .before .before in small (start .pre .1 .1 .0) (start .pre .1 .1 .1 .0)
 
 read-to-mul-place : (t : ℕ) → read-to-lts.Need-mul-place (
   read-text-reads.Asked,
@@ -86,7 +86,7 @@ read-to-mul-place : (t : ℕ) → read-to-lts.Need-mul-place (
   put-close-reads.Asked,
   put-close-reads.Learnt,
 ) (read-to-at t) read-to.Post read-to-Inv-loop read-to-μ-loop
-read-to-mul-place t c = let start = c .before .before .before .before .before .before in omega (arith, small (start .pre .1 .0) (start .pre .1 .1 .0))
+read-to-mul-place t c = let start = c .before .before .before .before .before .before .before in omega (arith, small (start .pre .1 .1 .0) (start .pre .1 .1 .1 .0))
 
 read-to-element-copy-out-read-text : (t : ℕ) → read-to-lts.Need-element-copy-out-read-text (
   read-text-reads.Asked,
@@ -102,7 +102,7 @@ read-to-element-copy-out-read-text : (t : ℕ) → read-to-lts.Need-element-copy
   put-close-reads.Asked,
   put-close-reads.Learnt,
 ) (read-to-at t) read-to.Post read-to-Inv-loop read-to-μ-loop
-read-to-element-copy-out-read-text t c = let start = c .before .before .before .before .before .before in small (start .pre .1 .0) (start .pre .1 .1 .0)
+read-to-element-copy-out-read-text t c = let start = c .before .before .before .before .before .before .before in small (start .pre .1 .1 .0) (start .pre .1 .1 .1 .0)
 
 read-to-read-text-requires : (t : ℕ) → read-to-lts.Need-read-text-requires (
   read-text-reads.Asked,
@@ -118,7 +118,7 @@ read-to-read-text-requires : (t : ℕ) → read-to-lts.Need-read-text-requires (
   put-close-reads.Asked,
   put-close-reads.Learnt,
 ) (read-to-at t) read-to.Post read-to-Inv-loop read-to-μ-loop
-read-to-read-text-requires t c κs = let start = c .before .before .before .before .before .before .before .before in (omega (arith, small (start .pre .1 .0) (start .pre .1 .1 .0)), (text-follows (start .pre .1 .0) (start .pre .1 .1 .0) _ (c .before .before .before .before .if1 .left) (c .before .before .if2 .taken), (start .pre .1 .1 .1 .0, start .pre .1 .1 .1 .1)))
+read-to-read-text-requires t c κs = let start = c .before .before .before .before .before .before .before .before .before in (start .pre .1 .0, (omega (arith, small (start .pre .1 .1 .0) (start .pre .1 .1 .1 .0)), (text-follows (start .pre .1 .1 .0) (start .pre .1 .1 .1 .0) _ (c .before .before .before .before .if1 .left) (c .before .before .if2 .taken), (start .pre .1 .1 .1 .1 .0, start .pre .1 .1 .1 .1 .1))))
 
 read-to-same-length : (t : ℕ) → read-to-lts.Need-same-length (
   read-text-reads.Asked,
@@ -150,7 +150,7 @@ read-to-returns-2 : (t : ℕ) → read-to-lts.Need-returns-2 (
   put-close-reads.Asked,
   put-close-reads.Learnt,
 ) (read-to-at t) read-to.Post read-to-Inv-loop read-to-μ-loop
-read-to-returns-2 t c = λ k a. let start = c .before .before .before .before .before .before .before .before .before .before .before in rw (read-text (start .pre .1 .0) (start .pre .1 .1 .0) _ (c .before .before .before .before .before .before .before .if1 .left) (c .before .before .before .before .before .if2 .taken) k) (c .before .before .read-text .ensures k a)
+read-to-returns-2 t c = λ k a. let start = c .before .before .before .before .before .before .before .before .before .before .before .before in rw (read-text (start .pre .1 .1 .0) (start .pre .1 .1 .1 .0) _ (c .before .before .before .before .before .before .before .if1 .left) (c .before .before .before .before .before .if2 .taken) k) (c .before .before .read-text .ensures k a)
 
 read-to-begin-requires : (t : ℕ) → read-to-lts.Need-begin-requires (
   read-text-reads.Asked,
@@ -166,7 +166,7 @@ read-to-begin-requires : (t : ℕ) → read-to-lts.Need-begin-requires (
   put-close-reads.Asked,
   put-close-reads.Learnt,
 ) (read-to-at t) read-to.Post read-to-Inv-loop read-to-μ-loop
-read-to-begin-requires t c κs = let start = c .before .before .before .before .before .before in (start .pre .1 .0, (start .pre .1 .1 .0, start .pre .1 .1 .1 .0))
+read-to-begin-requires t c κs = let start = c .before .before .before .before .before .before .before in (start .pre .1 .0, (start .pre .1 .1 .0, (start .pre .1 .1 .1 .0, start .pre .1 .1 .1 .1 .0)))
 
 read-to-loop-holds : (t : ℕ) → read-to-lts.Need-loop-holds (
   read-text-reads.Asked,
@@ -182,7 +182,7 @@ read-to-loop-holds : (t : ℕ) → read-to-lts.Need-loop-holds (
   put-close-reads.Asked,
   put-close-reads.Learnt,
 ) (read-to-at t) read-to.Post read-to-Inv-loop read-to-μ-loop
-read-to-loop-holds t c = let start = c .before .before .before .before .before .before .before in reading-start (start .pre .1 .0) (start .pre .1 .1 .0) (c .before .before .before .if1 .left) (c .before .if2 .left) (start .pre .1 .1 .1 .1) (c .begin .ensures)
+read-to-loop-holds t c = let start = c .before .before .before .before .before .before .before .before in reading-start (start .pre .1 .1 .0) (start .pre .1 .1 .1 .0) (c .before .before .before .if1 .left) (c .before .if2 .left) (start .pre .1 .1 .1 .1 .1) (c .begin .ensures)
 
 read-to-next-requires : (t : ℕ) → read-to-lts.Need-next-requires (
   read-text-reads.Asked,
@@ -198,7 +198,7 @@ read-to-next-requires : (t : ℕ) → read-to-lts.Need-next-requires (
   put-close-reads.Asked,
   put-close-reads.Learnt,
 ) (read-to-at t) read-to.Post read-to-Inv-loop read-to-μ-loop
-read-to-next-requires t c κs = let start = c .before .before .before .before .before .before .before .before in (start .pre .1 .0, (start .pre .1 .1 .0, turn-shows (c .loop .inv) (start .pre .1 .1 .1 .0)))
+read-to-next-requires t c κs = let start = c .before .before .before .before .before .before .before .before .before in (start .pre .1 .0, (start .pre .1 .1 .0, (start .pre .1 .1 .1 .0, turn-shows (c .loop .inv) (start .pre .1 .1 .1 .1 .0))))
 
 read-to-enum-known-part : (t : ℕ) → read-to-lts.Need-enum-known-part (
   read-text-reads.Asked,
@@ -310,7 +310,7 @@ read-to-read-to-requires : (t : ℕ) → read-to-lts.Need-read-to-requires (
   put-close-reads.Asked,
   put-close-reads.Learnt,
 ) (read-to-at t) read-to.Post read-to-Inv-loop read-to-μ-loop
-read-to-read-to-requires t c κs = let start = c .before .before .before .before .before .before .before .before .before .before .before .before .before .before .before .before .before .before in let inside = turn-inside (c .before .before .before .before .before .before .before .before .before .before .loop .inv) (rw (c .before .before .before .before .before .before .before .part .given .1) at (c .before .before .before .before .before .before .before .before .before .next .ensures)) (start .pre .1 .1 .1 .0) in let opened = c .before .before .before .put-open .ensures in (omega (arith, start .pre .0, c .before .before .before .before .before .before .before .before .before .before .before .before .before .before .if1 .left), (start .pre .1 .0, (inside .0, (inside .1, omega (arith, opened .after, writes-length opened, c .before .before .before .before .before .if3 .left, (c .before .before .before .before .before .before .before .before .before .before .loop .inv) .fits)))))
+read-to-read-to-requires t c κs = let start = c .before .before .before .before .before .before .before .before .before .before .before .before .before .before .before .before .before .before .before in let inside = turn-inside (c .before .before .before .before .before .before .before .before .before .before .loop .inv) (rw (c .before .before .before .before .before .before .before .part .given .1) at (c .before .before .before .before .before .before .before .before .before .next .ensures)) (start .pre .1 .1 .1 .1 .0) in let opened = c .before .before .before .put-open .ensures in (omega (arith, start .pre .0, c .before .before .before .before .before .before .before .before .before .before .before .before .before .before .if1 .left), (start .pre .1 .0, (start .pre .1 .1 .0, (inside .0, (inside .1, omega (arith, opened .after, writes-length opened, c .before .before .before .before .before .if3 .left, (c .before .before .before .before .before .before .before .before .before .before .loop .inv) .fits))))))
 
 read-to-enum-known-child : (t : ℕ) → read-to-lts.Need-enum-known-child (
   read-text-reads.Asked,
@@ -342,7 +342,7 @@ read-to-same-length-3 : (t : ℕ) → read-to-lts.Need-same-length-3 (
   put-close-reads.Asked,
   put-close-reads.Learnt,
 ) (read-to-at t) read-to.Post read-to-Inv-loop read-to-μ-loop
-read-to-same-length-3 t c = let start = c .before .before .before .before .before .before .before .before .before .before .before .before .before .before .before .before .before .before .before .before .before .before .before .before .before in turn-child (c .before .before .before .before .before .before .before .before .before .before .before .before .before .before .before .before .before .loop .inv) (rw (c .before .before .before .before .before .before .before .before .before .before .before .before .before .before .part .given .1) at (c .before .before .before .before .before .before .before .before .before .before .before .before .before .before .before .before .next .ensures)) (c .before .before .before .before .before .before .before .before .before .before .put-open .ensures) (rw (c .before .before .child .given .1) at (c .before .before .before .before .before .before .read-to .ensures)) (start .pre .1 .1 .1 .0) .1
+read-to-same-length-3 t c = let start = c .before .before .before .before .before .before .before .before .before .before .before .before .before .before .before .before .before .before .before .before .before .before .before .before .before .before in turn-child (c .before .before .before .before .before .before .before .before .before .before .before .before .before .before .before .before .before .loop .inv) (rw (c .before .before .before .before .before .before .before .before .before .before .before .before .before .before .part .given .1) at (c .before .before .before .before .before .before .before .before .before .before .before .before .before .before .before .before .next .ensures)) (c .before .before .before .before .before .before .before .before .before .before .put-open .ensures) (rw (c .before .before .child .given .1) at (c .before .before .before .before .before .before .read-to .ensures)) (start .pre .1 .1 .1 .1 .0) .1
 
 read-to-returns-4 : (t : ℕ) → read-to-lts.Need-returns-4 (
   read-text-reads.Asked,
@@ -374,7 +374,7 @@ read-to-put-close-requires : (t : ℕ) → read-to-lts.Need-put-close-requires (
   put-close-reads.Asked,
   put-close-reads.Learnt,
 ) (read-to-at t) read-to.Post read-to-Inv-loop read-to-μ-loop
-read-to-put-close-requires t c κs = let start = c .before .before .before .before .before .before .before .before .before .before .before .before .before .before .before .before .before .before .before .before .before .before .before .before .before .before in omega (arith, turn-child (c .before .before .before .before .before .before .before .before .before .before .before .before .before .before .before .before .before .before .loop .inv) (rw (c .before .before .before .before .before .before .before .before .before .before .before .before .before .before .before .part .given .1) at (c .before .before .before .before .before .before .before .before .before .before .before .before .before .before .before .before .before .next .ensures)) (c .before .before .before .before .before .before .before .before .before .before .before .put-open .ensures) (rw (c .before .before .before .child .given .1) at (c .before .before .before .before .before .before .before .read-to .ensures)) (start .pre .1 .1 .1 .0) .0, c .before .if4 .left)
+read-to-put-close-requires t c κs = let start = c .before .before .before .before .before .before .before .before .before .before .before .before .before .before .before .before .before .before .before .before .before .before .before .before .before .before .before in omega (arith, turn-child (c .before .before .before .before .before .before .before .before .before .before .before .before .before .before .before .before .before .before .loop .inv) (rw (c .before .before .before .before .before .before .before .before .before .before .before .before .before .before .before .part .given .1) at (c .before .before .before .before .before .before .before .before .before .before .before .before .before .before .before .before .before .next .ensures)) (c .before .before .before .before .before .before .before .before .before .before .before .put-open .ensures) (rw (c .before .before .before .child .given .1) at (c .before .before .before .before .before .before .before .read-to .ensures)) (start .pre .1 .1 .1 .1 .0) .0, c .before .if4 .left)
 
 read-to-loop-less : (t : ℕ) → read-to-lts.Need-loop-less (
   read-text-reads.Asked,
@@ -390,7 +390,7 @@ read-to-loop-less : (t : ℕ) → read-to-lts.Need-loop-less (
   put-close-reads.Asked,
   put-close-reads.Learnt,
 ) (read-to-at t) read-to.Post read-to-Inv-loop read-to-μ-loop
-read-to-loop-less t c = let start = c .before .before .before .before .before .before .before .before .before .before .before .before .before .before .before .before .before .before .before .before .before .before .before .before .before .before .before .before .before in turn-less (c .before .before .before .before .before .before .before .before .before .before .before .before .before .before .before .before .before .before .before .before .before .loop .inv) (rw (c .before .before .before .before .before .before .before .before .before .before .before .before .before .before .before .before .before .before .part .given .1) at (c .before .before .before .before .before .before .before .before .before .before .before .before .before .before .before .before .before .before .before .before .next .ensures)) (start .pre .1 .1 .1 .0)
+read-to-loop-less t c = let start = c .before .before .before .before .before .before .before .before .before .before .before .before .before .before .before .before .before .before .before .before .before .before .before .before .before .before .before .before .before .before in turn-less (c .before .before .before .before .before .before .before .before .before .before .before .before .before .before .before .before .before .before .before .before .before .loop .inv) (rw (c .before .before .before .before .before .before .before .before .before .before .before .before .before .before .before .before .before .before .part .given .1) at (c .before .before .before .before .before .before .before .before .before .before .before .before .before .before .before .before .before .before .before .before .next .ensures)) (start .pre .1 .1 .1 .1 .0)
 
 read-to-loop-again : (t : ℕ) → read-to-lts.Need-loop-again (
   read-text-reads.Asked,
@@ -406,7 +406,7 @@ read-to-loop-again : (t : ℕ) → read-to-lts.Need-loop-again (
   put-close-reads.Asked,
   put-close-reads.Learnt,
 ) (read-to-at t) read-to.Post read-to-Inv-loop read-to-μ-loop
-read-to-loop-again t c = let start = c .before .before .before .before .before .before .before .before .before .before .before .before .before .before .before .before .before .before .before .before .before .before .before .before .before .before .before .before .before in turn-on (c .before .before .before .before .before .before .before .before .before .before .before .before .before .before .before .before .before .before .before .before .before .loop .inv) (rw (c .before .before .before .before .before .before .before .before .before .before .before .before .before .before .before .before .before .before .part .given .1) at (c .before .before .before .before .before .before .before .before .before .before .before .before .before .before .before .before .before .before .before .before .next .ensures)) (c .before .before .before .before .before .before .before .before .before .before .before .before .before .before .put-open .ensures) (rw (c .before .before .before .before .before .before .child .given .1) at (c .before .before .before .before .before .before .before .before .before .before .read-to .ensures)) (start .pre .1 .1 .1 .0) (c .before .before .before .before .if4 .left) (c .before .before .put-close .ensures)
+read-to-loop-again t c = let start = c .before .before .before .before .before .before .before .before .before .before .before .before .before .before .before .before .before .before .before .before .before .before .before .before .before .before .before .before .before .before in turn-on (c .before .before .before .before .before .before .before .before .before .before .before .before .before .before .before .before .before .before .before .before .before .loop .inv) (rw (c .before .before .before .before .before .before .before .before .before .before .before .before .before .before .before .before .before .before .part .given .1) at (c .before .before .before .before .before .before .before .before .before .before .before .before .before .before .before .before .before .before .before .before .next .ensures)) (c .before .before .before .before .before .before .before .before .before .before .before .before .before .before .put-open .ensures) (rw (c .before .before .before .before .before .before .child .given .1) at (c .before .before .before .before .before .before .before .before .before .before .read-to .ensures)) (start .pre .1 .1 .1 .1 .0) (c .before .before .before .before .if4 .left) (c .before .before .put-close .ensures)
 
 read-to-enum-told : (t : ℕ) → read-to-lts.Need-enum-told (
   read-text-reads.Asked,
@@ -438,7 +438,7 @@ read-to-same-length-4 : (t : ℕ) → read-to-lts.Need-same-length-4 (
   put-close-reads.Asked,
   put-close-reads.Learnt,
 ) (read-to-at t) read-to.Post read-to-Inv-loop read-to-μ-loop
-read-to-same-length-4 t c = c .before .before .before .before .read-to .kept .1 .1 .1 .1 .1 .1 .1 .1 .1 .1 .1 .1 .1 .1 .1 .1 .0 ∙ writes-length (c .before .before .before .before .before .before .before .before .put-open .ensures) ∙ (c .before .before .before .before .before .before .before .before .before .before .before .before .before .before .before .loop .inv) .long
+read-to-same-length-4 t c = c .before .before .before .before .read-to .kept .1 .1 .1 .1 .1 .1 .1 .1 .1 .1 .1 .1 .1 .1 .1 .1 .1 .0 ∙ writes-length (c .before .before .before .before .before .before .before .before .put-open .ensures) ∙ (c .before .before .before .before .before .before .before .before .before .before .before .before .before .before .before .loop .inv) .long
 
 read-to-returns-5 : (t : ℕ) → read-to-lts.Need-returns-5 (
   read-text-reads.Asked,

@@ -20,7 +20,7 @@ cast-count : tie.Need-cast-count
 cast-count c = search needs
 
 follow-requires : tie.Need-follow-requires
-follow-requires c κs = search needs
+follow-requires c κs = (c .before .before .before .before .before .pre .0, search needs)
 
 returns : tie.Need-returns
 returns c = λ k a. rw (steps-all _ _ _) at (c .follow .ensures k a)

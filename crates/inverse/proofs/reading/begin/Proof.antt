@@ -9,19 +9,19 @@ element-copy-out-kind : tie.Need-element-copy-out-kind
 element-copy-out-kind c = search needs
 
 begin-list-requires : tie.Need-begin-list-requires
-begin-list-requires c κs = let start = c .before .before .before .before in (start .pre .0, (start .pre .1 .0, (omega (arith, c .match .rest .0 .0 .0 .1, c .match .rest .0 .0 .1, c .match .rest .0 .1, c .match .rest .1), start .pre .1 .1)))
+begin-list-requires c κs = (c .before .before .before .before .before .pre .0, let start = c .before .before .before .before .before in (start .pre .1 .0, (start .pre .1 .1 .0, (omega (arith, c .match .rest .0 .0 .0 .1, c .match .rest .0 .0 .1, c .match .rest .0 .1, c .match .rest .1), start .pre .1 .1 .1))))
 
 returns : tie.Need-returns
-returns c = λ k a. let start = c .before .before .before .before in begin-text (start .pre .0) (start .pre .1 .0) k (c .match .keys1)
+returns c = λ k a. let start = c .before .before .before .before .before in begin-text (start .pre .1 .0) (start .pre .1 .1 .0) k (c .match .keys1)
 
 returns-2 : tie.Need-returns-2
-returns-2 c = λ k a. let start = c .before .before .before .before in begin-empty (start .pre .0) (start .pre .1 .0) k (c .match .keys2)
+returns-2 c = λ k a. let start = c .before .before .before .before .before in begin-empty (start .pre .1 .0) (start .pre .1 .1 .0) k (c .match .keys2)
 
 returns-3 : tie.Need-returns-3
-returns-3 c = λ k a. let start = c .before .before .before .before in begin-sequence (start .pre .0) (start .pre .1 .0) k (c .match .keys3)
+returns-3 c = λ k a. let start = c .before .before .before .before .before in begin-sequence (start .pre .1 .0) (start .pre .1 .1 .0) k (c .match .keys3)
 
 returns-4 : tie.Need-returns-4
-returns-4 c = λ k a. let start = c .before .before .before .before in begin-choice (start .pre .0) (start .pre .1 .0) k (c .match .keys4)
+returns-4 c = λ k a. let start = c .before .before .before .before .before in begin-choice (start .pre .1 .0) (start .pre .1 .1 .0) k (c .match .keys4)
 
 returns-5 : tie.Need-returns-5
 returns-5 c = search needs

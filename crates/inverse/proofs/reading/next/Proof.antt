@@ -7,19 +7,19 @@ enum-known-cursor : tie.Need-enum-known-cursor
 enum-known-cursor c = search needs
 
 next-member-requires : tie.Need-next-member-requires
-next-member-requires c κs = let start = c .before .before .before .before .before in (start .pre .0, (start .pre .1 .0, (start .pre .1 .1 .0, start .pre .1 .1 .1, start .pre .1 .1 .2, rw (c .before .cursor .given .1) at (start .pre .1 .1 .3))))
+next-member-requires c κs = (c .before .before .before .before .before .before .pre .0, let start = c .before .before .before .before .before .before in (start .pre .1 .0, (start .pre .1 .1 .0, (start .pre .1 .1 .1 .0, start .pre .1 .1 .1 .1, start .pre .1 .1 .1 .2, rw (c .before .cursor .given .1) at (start .pre .1 .1 .1 .3)))))
 
 enum-told : tie.Need-enum-told
 enum-told c = search needs
 
 next-choice-requires : tie.Need-next-choice-requires
-next-choice-requires c κs = let start = c .before .before .before .before in (start .pre .0, (start .pre .1 .0, (start .pre .1 .1 .0, start .pre .1 .1 .1, start .pre .1 .1 .2, rw (c .enum-told .given .1) at (start .pre .1 .1 .3))))
+next-choice-requires c κs = (c .before .before .before .before .before .pre .0, let start = c .before .before .before .before .before in (start .pre .1 .0, (start .pre .1 .1 .0, (start .pre .1 .1 .1 .0, start .pre .1 .1 .1 .1, start .pre .1 .1 .1 .2, rw (c .enum-told .given .1) at (start .pre .1 .1 .1 .3)))))
 
 enum-known-cursor-2 : tie.Need-enum-known-cursor-2
 enum-known-cursor-2 c = search needs
 
 next-item-requires : tie.Need-next-item-requires
-next-item-requires c κs = let start = c .before .before .before .before .before in (start .pre .0, (start .pre .1 .0, (start .pre .1 .1 .1, rw (c .before .cursor2 .given .1) at (start .pre .1 .1 .3))))
+next-item-requires c κs = (c .before .before .before .before .before .before .pre .0, let start = c .before .before .before .before .before .before in (start .pre .1 .0, (start .pre .1 .1 .0, (start .pre .1 .1 .1 .1, rw (c .before .cursor2 .given .1) at (start .pre .1 .1 .1 .3)))))
 
 enum-told-2 : tie.Need-enum-told-2
 enum-told-2 c = search needs

@@ -7,25 +7,25 @@ use Rattle.inverse.proofs.reading.read_text.Statement.{statement}
 use Rattle.inverse.proofs.reading.read_text.Tie as tie
 
 along-requires : tie.Need-along-requires
-along-requires c κs = search needs
+along-requires c κs = (c .before .before .before .before .pre .0, search needs)
 
 enum-known-found : tie.Need-enum-known-found
 enum-known-found c = search needs
 
-skip-requires : tie.Need-skip-requires
-skip-requires c κs = let start = c .before .before .before .before .before .before .before in let found = rw (c .before .found .given .1) at (c .before .before .before .along .ensures (start .pre .1 .1 .0 .0) (start .pre .1 .1 .0 .1)) in (found .content, found .there)
+close-of-requires : tie.Need-close-of-requires
+close-of-requires c κs = (c .before .before .before .before .before .before .before .before .pre .0, let start = c .before .before .before .before .before .before .before .before in let found = rw (c .before .found .given .1) at (c .before .before .before .along .ensures (start .pre .1 .1 .1 .0 .0) (start .pre .1 .1 .1 .0 .1)) in (found .content, found .there))
 
 sub-if1 : tie.Need-sub-if1
 sub-if1 c = search needs
 
 sub-if1-2 : tie.Need-sub-if1-2
-sub-if1-2 c = let start = c .before .before .before .before .before .before .before .before in omega (arith, text-within (rw (c .before .before .found .given .1) at (c .before .before .before .before .along .ensures (start .pre .1 .1 .0 .0) (start .pre .1 .1 .0 .1))) (c .skip .ensures) .0)
+sub-if1-2 c = let start = c .before .before .before .before .before .before .before .before .before in omega (arith, text-within (rw (c .before .before .found .given .1) at (c .before .before .before .before .along .ensures (start .pre .1 .1 .1 .0 .0) (start .pre .1 .1 .1 .0 .1))) (c .close-of .ensures) .0)
 
 returns : tie.Need-returns
-returns c = λ k a. let start = c .before .before .before .before .before .before .before .before .before in text-too-long (rw (c .before .before .before .found .given .1) at (c .before .before .before .before .before .along .ensures k a)) (c .before .skip .ensures) (start .args .out .now) (start .args .at) (c .if1 .taken)
+returns c = λ k a. let start = c .before .before .before .before .before .before .before .before .before .before in text-too-long (rw (c .before .before .before .found .given .1) at (c .before .before .before .before .before .along .ensures k a)) (c .before .close-of .ensures) (start .args .out .now) (start .args .at) (c .if1 .taken)
 
 copy-requires : tie.Need-copy-requires
-copy-requires c κs = let start = c .before .before .before .before .before .before .before .before .before .before in let within = text-within (rw (c .before .before .before .before .found .given .1) at (c .before .before .before .before .before .before .along .ensures (start .pre .1 .1 .0 .0) (start .pre .1 .1 .0 .1))) (c .before .before .skip .ensures) in (within .0, within .1, omega (arith, within .0, c .before .if1 .left, start .pre .1 .1 .1))
+copy-requires c κs = let start = c .before .before .before .before .before .before .before .before .before .before .before in let within = text-within (rw (c .before .before .before .before .found .given .1) at (c .before .before .before .before .before .before .along .ensures (start .pre .1 .1 .1 .0 .0) (start .pre .1 .1 .1 .0 .1))) (c .before .before .close-of .ensures) in (within .0, within .1, omega (arith, within .0, c .before .if1 .left, start .pre .1 .1 .1 .1))
 
 enum-told : tie.Need-enum-told
 enum-told c = search needs
@@ -34,7 +34,7 @@ same-length : tie.Need-same-length
 same-length c = search needs
 
 returns-2 : tie.Need-returns-2
-returns-2 c = λ k a. let start = c .before .before .before .before .before .before .before .before .before .before .before .before .before in text-copied (rw (c .before .before .before .before .before .before .before .found .given .1) at (c .before .before .before .before .before .before .before .before .before .along .ensures k a)) (c .before .before .before .before .before .skip .ensures) (c .before .before .before .before .if1 .left) (start .pre .1 .1 .1) (c .before .before .copy .ensures)
+returns-2 c = λ k a. let start = c .before .before .before .before .before .before .before .before .before .before .before .before .before .before in text-copied (rw (c .before .before .before .before .before .before .before .found .given .1) at (c .before .before .before .before .before .before .before .before .before .along .ensures k a)) (c .before .before .before .before .before .close-of .ensures) (c .before .before .before .before .if1 .left) (start .pre .1 .1 .1 .1) (c .before .before .copy .ensures)
 
 returns-3 : tie.Need-returns-3
 returns-3 c = λ k a j e. some-none e (rw (c .enum-told .given .1) at (c .before .before .along .ensures k a))
@@ -45,7 +45,7 @@ read-text-spec =
     (tie.spec
     along-requires
     enum-known-found
-    skip-requires
+    close-of-requires
     sub-if1
     sub-if1-2
     returns

@@ -1,0 +1,25 @@
+-- How far it is, from each offset of a document, to the 32 that closes the element around it.
+use mathlib.Core.Path.{_≡_}
+use mathlib.Core.List.{List}
+use Prim.Native.Nat.{ℕ, _+_, _≤_, _<_}
+use lib.ListN.{length, getD}
+use Rattle.model.specs.Definitions.Content.{Content, bytes}
+use Rattle.scanning.specs.Scanning.{At}
+
+-- for content that begins at an offset, its length
+pub record Spans (tr spans : List ℕ) : Type 0 where
+  pub short : length tr ≤ 60000
+  pub whole : length tr ≤ length spans
+  pub span-is : (o : ℕ) (k : Content) → At tr o k → getD spans o 0 ≡ length (bytes k)
+
+-- from the offsets behind o it is never further than to the end
+pub record Bounded (spans : List ℕ) (o : ℕ) : Type 0 where
+  pub within : (j : ℕ) → o < j → j < length spans → j + getD spans j 0 ≤ length spans
+
+-- how far it is from offset o, where the byte b stands: past a character, past an element, or no way
+pub record SpanAt (spans : List ℕ) (b o r : ℕ) : Type 0 where
+  pub short : o + r ≤ length spans
+  pub character : b ≡ 0x31 → o + 2 < length spans → r ≡ 2 + getD spans (o + 2) 0
+  pub element : b ≡ 0x30 → o + 2 + getD spans (o + 2) 0 + 1 < length spans
+      → r ≡ 2 + getD spans (o + 2) 0 + 1 + getD spans (o + 2 + getD spans (o + 2) 0 + 1) 0
+  pub closing : (b ≡ 0x30 → ⊥) → (b ≡ 0x31 → ⊥) → r ≡ 0

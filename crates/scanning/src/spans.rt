@@ -1,0 +1,60 @@
+// Lengths of contents, found once for a document, so that an element is passed over in one step.
+ghost use mathlib.Core.Path.{_≡_};
+ghost use Prim.Native.Nat.{_+_, _≤_, _<_};
+ghost use lib.ListN.{length, getD};
+ghost use Rattle.model.specs.Definitions.Content.{Content, bytes};
+ghost use Rattle.scanning.specs.Scanning.{At};
+ghost use Rattle.scanning.specs.Spanning.{Spans, Bounded, SpanAt};
+
+// How far it is from offset o, where the byte b stands, to the 32 that closes the element around it, by how far it is from the
+// offsets behind o; 0 where the document ends too soon.
+fn span_at(b: u8, spans: &[u16], o: usize) -> usize
+    requires { ⌜ (o < length (now spans)) × (length (now spans) ≤ 60000) × Bounded (now spans) o ⌝ }
+    ensures { λ r. ⌜ SpanAt (now (spans .entry)) b o r ⌝ }
+{
+    match b {
+        0x30 => {
+            let inside = o + 2;
+            if spans.len() <= inside {
+                return 0;
+            }
+            let next = inside + spans[inside] as usize + 1;
+            if spans.len() <= next {
+                return 0;
+            }
+            next - o + spans[next] as usize
+        }
+        0x31 => {
+            let next = o + 2;
+            if spans.len() <= next {
+                return 0;
+            }
+            2 + spans[next] as usize
+        }
+        _ => 0,
+    }
+}
+
+// Fills `spans`: for content that begins at an offset of the document, its length. The loop goes from the last offset to the
+// first, so that what is behind an offset is known.
+pub fn fill_spans(tr: &[u8], spans: &mut [u16])
+    requires { ⌜ (length (now tr) ≤ 60000) × (length (now tr) ≤ length (now spans)) ⌝ }
+    ensures { λ r. ⌜ Spans (now (tr .entry)) (now (spans .exit)) ⌝ }
+{
+    let n = tr.len();
+    let mut o = n;
+    while 0 < o {
+        o -= 1;
+        let far = span_at(tr[o], &spans[..n], o);
+        spans[o] = far as u16;
+    }
+}
+
+// The offset of the 32 that closes the element whose content begins at `from`.
+pub fn close_of<'a>(tr: &'a [u8], spans: &'a [u16], from: usize) -> usize
+    requires spans { ⌜ Spans (now tr) (now spans) ⌝ }
+    requires content { ⌜ ((k : Content) × At (now tr) from k) ⌝ }
+    ensures { λ r. ⌜ ((k : Content) → At (now (tr .entry)) from k → r ≡ from + length (bytes k)) ⌝ }
+{
+    from + spans[from] as usize
+}
