@@ -30,9 +30,9 @@ use Rattle.bringing.proofs.Imaging.{front}
 abbrev pub withTree : World → List ℕ → World
 withTree w tree = record { source = w .source; target = w .target; paths = w .paths; high = w .high; tree = tree }
 
--- are as usable, and hold the same filler lengths
-pub usable-with : {w : World} → Usable w → (tree : List ℕ) → Usable (withTree w tree)
-usable-with u tree = record { ready = u .ready; source-places = u .source-places; target-places = u .target-places }
+-- are as usable if it is short, and hold the same filler lengths
+pub usable-with : {w : World} → Usable w → (tree : List ℕ) → length tree ≤ 60000 → Usable (withTree w tree)
+usable-with u tree short = record { ready = u .ready; source-places = u .source-places; target-places = u .target-places; short = short }
 
 pub fill-with : {w : World} {fill : List ℕ} → FillHeld w fill → (tree : List ℕ) → FillHeld (withTree w tree) fill
 fill-with f tree = record { fill-at = f .fill-at }
@@ -42,10 +42,11 @@ pub read-within : {old new : List ℕ} {n : ℕ} {sought : Option Content} → B
 read-within b = omega (arith, b .fits, writes-length (b .written))
 
 -- and stands at its start
-pub read-front : {w : World} {old new : List ℕ} {n : ℕ} → BringsTo old new n (readBack (settingOf w) (contentOf (w .tree))) → ReadFrom w (take n new)
-read-front {w} {old} {new} {n} b =
+pub read-front : {w : World} {old new : List ℕ} {n : ℕ} → length old ≤ 60000 → BringsTo old new n (readBack (settingOf w) (contentOf (w .tree))) → ReadFrom w (take n new)
+read-front {w} {old} {new} {n} room b =
     let long : n ≡ length (document 0 (b .content)) = omega (arith, b .written .after) in
-    record { content = b .content; is = b .is; bytes-are = rw (b .written .written, long) (front old (document 0 (b .content)) (omega (arith, b .fits))) }
+    let same : take n new ≡ document 0 (b .content) = rw (b .written .written, long) (front old (document 0 (b .content)) (omega (arith, b .fits))) in
+    record { content = b .content; is = b .is; bytes-are = same; short = omega (arith, room, b .fits, ap length same) }
 
 -- ---- the model's answer for what bringing back finds
 

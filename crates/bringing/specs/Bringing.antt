@@ -25,11 +25,12 @@ pub record Target (w : World) : Type 0 where
   pub holds : Holds (targetTable w) (kindOf (targetTable w) 0) (contentOf (w .tree))
   pub short : length (w .tree) ≤ 60000
 
--- a source document was read from it
+-- a source document of at most 60,000 bytes was read from it
 pub record ReadFrom (w : World) (source : List ℕ) : Type 0 where
   pub content : Content
   pub is : readBack (settingOf w) (contentOf (w .tree)) ≡ some content
   pub bytes-are : source ≡ document 0 content
+  pub short : length source ≤ 60000
 
 -- the model's answer for each case
 abbrev pub broughtResult : Brought → Result

@@ -186,7 +186,7 @@ fn bring_through<'a>(
     requires setting { ⌜ Usable (world types1 (now k1) (now c1) (now m1) types2 (now k2) (now c2) (now m2) (now h2) (now tg) (now st) (now ln) (now em) (now tr)) ⌝ }
     requires fill { ⌜ FillHeld (world types1 (now k1) (now c1) (now m1) types2 (now k2) (now c2) (now m2) (now h2) (now tg) (now st) (now ln) (now em) (now tr)) (now f2) ⌝ }
     requires target { ⌜ Target (world types1 (now k1) (now c1) (now m1) types2 (now k2) (now c2) (now m2) (now h2) (now tg) (now st) (now ln) (now em) (now tr)) ⌝ }
-    requires within { ⌜ (length (now tr) ≤ length (now spans)) × (length (now tr) ≤ length (now buffer)) × (length (now tr) ≤ length (now room)) ⌝ }
+    requires within { ⌜ (length (now tr) ≤ length (now spans)) × (length (now tr) ≤ length (now buffer)) × (length (now buffer) ≤ 60000) × (length (now tr) ≤ length (now room)) ⌝ }
     ensures { λ r. ⌜ Brings (world types1 (now (k1 .entry)) (now (c1 .entry)) (now (m1 .entry)) types2 (now (k2 .entry)) (now (c2 .entry)) (now (m2 .entry)) (now (h2 .entry)) (now (tg .entry)) (now (st .entry)) (now (ln .entry)) (now (em .entry)) (now (tr .entry))) (now (out .entry)) (now (out .exit)) r ⌝ }
 {
     fill_spans(tr, spans);

@@ -8,8 +8,7 @@ use lib.ListN.{length, getD, set, replicate, length-set, length-replicate, getD-
 use lib.Seq.{getD-set-same, getD-set-other}
 use lib.Dec.{eqb, ltb}
 use borrow.Author.Tests.{eqb-true, eqb-false, ltb-true, ltb-false}
-use Rattle.embedding_load.specs.declared.Arrays.{Arrays}
-use Rattle.embedding_load.specs.Loading.{nothing, mapped}
+use Rattle.embedding_load.specs.Loading.{Arrays, nothing, mapped}
 
 -- the arrays have their lengths, and every path is within the document and has at most 12 steps
 pub record Shaped (em : List ℕ) (a : Arrays) : Type 0 where

@@ -24,8 +24,7 @@ use Rattle.model.specs.Theorems.JudgedTables.{goes-if, pick-passes}
 use Rattle.model.specs.Theorems.Runs.{passes-fails, goes-stops}
 use Rattle.model.specs.Theorems.Tools.{true-false}
 use Rattle.model.specs.Theorems.Reading.{rawAt, ReadsAt, left-stops, left-goes, left-ends, embedding-reads, no-embedding-commands}
-use Rattle.embedding_load.specs.declared.Arrays.{Arrays}
-use Rattle.embedding_load.specs.Loading.{nothing, mapped, begun, stepped, puts, Maps, Begins, Steps, Room, LoadedAs}
+use Rattle.embedding_load.specs.Loading.{Arrays, nothing, mapped, begun, stepped, puts, Maps, Begins, Steps, Room, LoadedAs}
 use Rattle.embedding_load.proofs.Continuation.{continued, edgesDue, continued-mapped, continued-begun, continued-stepped, continued-full}
 use Rattle.embedding_load.proofs.Shapes.{Shaped, shaped-nothing, shaped-mapped, shaped-written}
 use Rattle.embedding_load.proofs.Sources.{Source, some-bytes, next-type, none-next, operand-behind}
@@ -313,16 +312,9 @@ pub record Loading (em : List ℕ) (S : Table) (a : Arrays) (at : ℕ) : Type 0 
   limits-left : run embeddingWidth stepCount (λ n. true) count-state at (embeddingCommands (drop at em)) ≡ passes
   loaded : Loaded em S form-state count-state a at (embeddingTail at (embeddingCommands (drop at em))) (embeddingOf em)
 
-pub loading-starts : {em : List ℕ} {S : Table} {a : Arrays} → Source em S → embeddingForm S em ≡ passes → embeddingLimits em ≡ passes → a ≡ nothing → Loading em S a 0
+pub loading-starts : {em : List ℕ} {S : Table} → Source em S → embeddingForm S em ≡ passes → embeddingLimits em ≡ passes → Loading em S nothing 0
 unfolding embeddingForm embeddingLimits embeddingOf continued nothing edgesDue
-loading-starts {em} {S} {a} source form limits e =
-    let there : Loaded em S (due 0 (map edgesOf S) false) 0 nothing 0 (embeddingTail 0 (embeddingCommands em)) (embeddingOf em)
-    = record {
-      shaped = shaped-nothing em (some-bytes S em form);
-      few-maps = omega arith;
-      in-state = record { to-come = refl; counted = refl; on-path = λ same. true-false same refl };
-      whole = refl;
-    } in
+loading-starts {em} {S} source form limits =
     record {
       within = omega arith;
       source = source;
@@ -330,7 +322,13 @@ loading-starts {em} {S} {a} source form limits e =
       count-state = 0;
       form-left = form;
       limits-left = limits;
-      loaded = subst (λ b. Loaded em S (due 0 (map edgesOf S) false) 0 b 0 (embeddingTail 0 (embeddingCommands em)) (embeddingOf em)) (sym e) there;
+      loaded =
+          record {
+            shaped = shaped-nothing em (some-bytes S em form);
+            few-maps = omega arith;
+            in-state = record { to-come = refl; counted = refl; on-path = λ same. true-false same refl };
+            whole = refl;
+          };
     }
 
 -- what a turn needs and gives

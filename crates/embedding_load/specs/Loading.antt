@@ -3,12 +3,20 @@ use mathlib.Core.Path.{_≡_}
 use mathlib.Core.List.{List}
 use Prim.Native.Nat.{ℕ, _+_, _-_, _*_, _≤_, _<_}
 use lib.ListN.{getD, set, replicate}
-use Rattle.embedding_load.specs.declared.Arrays.{Arrays}
 use Rattle.maps.specs.declared.Embedding.{Embedding}
 use Rattle.maps.specs.Loaded.{embeddingIn, Bounded}
 use Rattle.model.specs.Definitions.Commands.{EmbeddingCommand, mapsTo, path, step, embeddingEnd, alienE}
 use Rattle.model.specs.Definitions.Table.{Table}
 use Rattle.model.specs.Definitions.Embedding.{embeddingOf}
+
+-- The maps loaded so far, and the number of paths of the last one. Source type s is mapped to targets[s]. The 21 of its
+-- edge i stands at starts[s * 16 + i], and lengths[s * 16 + i] steps follow it. Entries that no command wrote are 0.
+pub record Arrays : Type 0 where
+  pub maps : ℕ
+  pub edges : ℕ
+  pub targets : List ℕ
+  pub starts : List ℕ
+  pub lengths : List ℕ
 
 -- ---- what a command does
 

@@ -204,7 +204,7 @@ module _ {w : World} (u : Usable w) {s from : ℕ} (el : Element w s from) where
         let carried : Carried w r 0 (endOf (targetTable w) target (pathAt w (base + j))) (imageIn w (one .member) (one .inside)) =
         inner (edge .is-mode) (rw (edge .is-kid, edge .is-from) (is-element at-one (omega arith) (exists e (one .member) in-members) (one .holds))) in
         let sel = one-active u el (pathAt w (base + j)) edge (omega (arith, row-within)) (omega arith) refl carried in
-        prepared u el (choice ms) e (edge .is-from) (as-placed (subst (λ (path : List ℕ). Selected w r (r .act) 0 target 16 0 (placed path (imageIn w (one .member) (one .inside)) ∷ [])) (sym (path-is less)) sel))
+        prepared u el (choice ms) e (edge .is-from) (omega (arith, edge .is-count)) (as-placed (subst (λ (path : List ℕ). Selected w r (r .act) 0 target 16 0 (placed path (imageIn w (one .member) (one .inside)) ∷ [])) (sym (path-is less)) sel))
       where
         in-members : List·Memᴰ (one .member) (membersOf (choice ms))
         in-members = unfold membersOf in one .named
@@ -282,7 +282,7 @@ module _ {w : World} (u : Usable w) {s from : ℕ} (el : Element w s from) where
         } in
         let carried : Carried w r 0 (endOf (targetTable w) target (divided .before)) items =
         listed (edge .is-mode) refl (rw (edge .is-kid, edge .is-from, edge .is-first, edge .is-stop) is) in
-        prepared u el (list m) e (edge .is-from)
+        prepared u el (list m) e (edge .is-from) (omega (arith, edge .is-count))
         (as-placed (one-active u el (divided .before) edge (omega (arith, type-small u el)) (omega (arith, steps .shorter)) (rw depth (steps .before-is)) carried))
       where
         in-members : List·Memᴰ m (membersOf (list m))
@@ -346,6 +346,7 @@ module _ {w : World} (u : Usable w) {s from : ℕ} (el : Element w s from) where
         let active : Active w r 0 i (endOf (targetTable w) τ (restOf w r 0 i)) (imageIn w n c) =
         record {
           near = omega (arith, row-within);
+          counted = omega (arith, edges .is-count);
           reach = omega arith;
           long = rw (place, edges .stops i less) (omega arith);
           carried = inner (edges .is-mode) (rw (kid, edges .is-from) carried-element);
@@ -357,7 +358,7 @@ module _ {w : World} (u : Usable w) {s from : ℕ} (el : Element w s from) where
 
   pub prepare-sequence : {r : Edges} → kindOf (sourceOf w) s ≡ sequence ms → MemberEdges (w .paths .lengths) base count from k r → Prepared w s from k r
   prepare-sequence {r} e edges =
-      prepared u el (sequence ms) e (edges .is-from)
+      prepared u el (sequence ms) e (edges .is-from) (omega (arith, edges .is-count, few-members))
       (as-placed (from-member edges target 16 0 from ms (holds-as e) (el .there) (omega arith) (λ m h. exists e m (named h)) (λ j. ap (childOffset k from) (zero-plus j)) (omega (arith, members-many)) (omega arith)))
     where
       zero-plus : (j : ℕ) → 0 + j ≡ j

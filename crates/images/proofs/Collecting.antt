@@ -106,12 +106,13 @@ collects-more {ln} {tr} {base} {count} {from} {act} {stop} {kids} {o} {i} m less
     }
 
 pub collects-all : {ln tr : List ℕ} {base count from : ℕ} {act stop kids : List ℕ} {o i : ℕ} → Collects ln tr base count from act stop kids o i → count ≤ i
-    → (k : Content) → At tr from k → children k ≡ count → MemberEdges ln base count from k (record { mode = 1; first = base; from = from; act = act; stop = stop; kids = kids })
+    → (k : Content) → At tr from k → children k ≡ count → MemberEdges ln base count from k (record { mode = 1; first = base; from = from; count = count; act = act; stop = stop; kids = kids })
 collects-all m over k a e =
     record {
       is-mode = refl;
       is-first = refl;
       is-from = refl;
+      is-count = refl;
       marked = λ j h. m .marked j (omega arith);
       no-other = λ j low high on. m .off j (omega (arith, m .high)) high on;
       stops = λ j h. m .stops j (omega arith);

@@ -6,7 +6,7 @@ use Prim.Native.Nat.{ℕ, zero, suc, _+_, _-_, _*_, _≤_, _<_}
 use native.Mathlib.Nat.{add-zero}
 use native.Mathlib.Numerals.{add-one}
 use native.Mathlib.Omega.{arith}
-use lib.ListN.{length, getD, drop}
+use lib.ListN.{length, getD, drop, length-drop}
 use lib.Seq.{getD-drop, drop-drop}
 use Rattle.model.specs.Definitions.Table.{text, list, Table, kindOf, membersOf}
 use Rattle.model.specs.Definitions.Content.{Content, end, elem, bytes}
@@ -34,8 +34,10 @@ use Rattle.images.proofs.Turns.{Leaves, leaves-all, leaves-more, leaves
 abbrev pub withTree : World → List ℕ → World
 withTree w tree = record { source = w .source; target = w .target; paths = w .paths; high = w .high; tree = tree }
 
-pub usable-with : {w : World} → Usable w → (tree : List ℕ) → Usable (withTree w tree)
-usable-with u tree = record { ready = u .ready; source-places = u .source-places; target-places = u .target-places }
+-- with the rest of the document, they are as usable
+pub usable-part : {w : World} → Usable w → {part : List ℕ} (o : ℕ) → part ≡ drop o (w .tree) → Usable (withTree w part)
+usable-part {w} u o is-part =
+    record { ready = u .ready; source-places = u .source-places; target-places = u .target-places; short = omega (arith, u .short, ap length is-part, length-drop o (w .tree)) }
 
 image-with : (w : World) (tree : List ℕ) (t : ℕ) (k : Content) → imageIn w t k ≡ imageIn (withTree w tree) t k
 unfolding imageIn fillersIn
@@ -197,6 +199,7 @@ module _ {w : World} (u : Usable w) {from first kid d τ : ℕ} (g : Lists w fro
         the-active =
             record {
               near = omega (arith, one .is-first, g .list .near);
+              counted = omega (arith, one .is-count);
               reach = omega (arith, one .is-stop, g .list .shorter);
               long = rw (one .is-stop, one .is-first, add-zero first) (omega arith);
               carried = inner (one .is-mode) (rw (one .is-kid, one .is-from) the-element);
@@ -208,6 +211,7 @@ module _ {w : World} (u : Usable w) {from first kid d τ : ℕ} (g : Lists w fro
               bound = suc maxSteps;
               ps = placed (g .list .divided .rest) a ∷ [];
               few-steps = omega (arith, g .few-steps);
+              few-edges = omega (arith, one .is-count);
               is-type = u .ready .valid .target-sound .well-formed .members-exist τ target (rw (g .list .is-list) list-member);
               fits = single-fits (targetTable w) maxSteps a (g .list .walks) short;
               selected = subst (λ (path : List ℕ). Selected (withTree w part) r (r .act) (d + 1) target 16 0 (placed path a ∷ [])) path-is (selects-one one the-active);

@@ -93,10 +93,11 @@ module _ {w : World} (u : Usable w) {s from : ℕ} (el : Element w s from) where
   valid κ e = subst (ValidEdges (settingOf w) τ κ) (paths-at w s (el .is-type) ∙ ap (λ (c : Kind). pathsFrom w (s * 16) (edgesOf c)) e) (subst (λ (c : Kind). ValidEdges (settingOf w) τ c (pathsOf (settingOf w .embedding) s)) e (u .ready .valid .edges s (el .is-type)))
 
   -- what is placed, once the kind is known
-  pub prepared : {r : Edges} (κ : Kind) → kindOf (sourceOf w) s ≡ κ → r .from ≡ from → Selected w r (r .act) 0 τ 16 0 (all κ (pathsFrom w (s * 16) (edgesOf κ))) → Prepared w s from k r
-  prepared {r} κ e same sel =
+  pub prepared : {r : Edges} (κ : Kind) → kindOf (sourceOf w) s ≡ κ → r .from ≡ from → r .count ≤ 16 → Selected w r (r .act) 0 τ 16 0 (all κ (pathsFrom w (s * 16) (edgesOf κ))) → Prepared w s from k r
+  prepared {r} κ e same few sel =
       record {
         same-from = same;
+        few-edges = few;
         selected =
             subst (λ (pss : List (List ℕ)). Selected w r (r .act) 0 τ 16 0 (all (kindOf (sourceOf w) s) pss)) (sym (paths-at w s (el .is-type)))
             (subst (λ (c : Kind). Selected w r (r .act) 0 τ 16 0 (all c (pathsFrom w (s * 16) (edgesOf c)))) (sym e) sel);
@@ -109,12 +110,12 @@ module _ {w : World} (u : Usable w) {s from : ℕ} (el : Element w s from) where
       let place : r .first + 0 ≡ first = omega (arith, one .is-first) in
       let rest : restOf w r 0 0 ≡ path = rest-start w r 0 first stop place (one .is-stop) ∙ is in
       let active : Active w r 0 0 (endOf (targetTable w) τ (restOf w r 0 0)) a =
-      record { near = omega arith; reach = omega arith; long = rw (place, one .is-stop) long; carried = rw rest carried } in
+      record { near = omega arith; counted = omega (arith, one .is-count); reach = omega arith; long = rw (place, one .is-stop) long; carried = rw rest carried } in
       subst (λ (p : List ℕ). Selected w r (r .act) 0 τ 16 0 (placed p a ∷ [])) rest (selects-one one active)
 
   -- ---- empty
   pub prepare-empty : {r : Edges} → kindOf (sourceOf w) s ≡ empty → NoEdges from r → Prepared w s from k r
-  prepare-empty {r} e none = prepared empty e (none .is-from) (nothing-there (selects-nothing (none .no-one)))
+  prepare-empty {r} e none = prepared empty e (none .is-from) (omega (arith, none .is-count)) (nothing-there (selects-nothing (none .no-one)))
     where
       nothing-there : Selected w r (r .act) 0 τ 16 0 [] → Selected w r (r .act) 0 τ 16 0 (all empty (pathsFrom w (s * 16) (edgesOf empty)))
       nothing-there sel = unfold placements in sel
@@ -134,7 +135,7 @@ module _ {w : World} (u : Usable w) {s from : ℕ} (el : Element w s from) where
   prepare-text {r} e one =
       let holds : Holds (sourceOf w) text k = subst (λ (c : Kind). Holds (sourceOf w) c k) e (el .holds) in
       let there : At (w .tree) (getD (r .kids) 0 0) (unmarked (lettersOf marked (ks k))) = rw (one .is-kid, letters-content holds) (el .there) in
-      prepared text e (one .is-from)
+      prepared text e (one .is-from) (omega (arith, one .is-count))
       (as-placed (one-active (pathAt w (s * 16)) one (omega (arith, type-small)) (omega arith) refl (letters (one .is-mode) there (letters-count holds))))
     where
       as-placed : Selected w r (r .act) 0 τ 16 0 (placed (pathAt w (s * 16)) (lettersOf marked (ks k)) ∷ []) → Selected w r (r .act) 0 τ 16 0 (all text (pathsFrom w (s * 16) (edgesOf text)))

@@ -45,6 +45,12 @@ listed-of (letters m there count) no-zero no-one = absurd (no-zero m)
 listed-of (inner m is) no-zero no-one = absurd (no-one m)
 listed-of (listed m z is) no-zero no-one = is
 
+-- what an edge carries begins within the document
+pub carried-within : {w : World} {e : Edges} {i τ : ℕ} {a : Marked} → Carried w e i τ a → getD (e .kids) i 0 < length (w .tree)
+carried-within (letters m there count) = omega (arith, content-within there)
+carried-within (inner m is) = omega (arith, content-within (is .there))
+carried-within (listed m z is) = omega (arith, content-within (is .there))
+
 -- ---- characters
 
 module _ {w : World} {kid : ℕ} {a : Marked} (l : Letters w kid a) {close : ℕ} (skipped : (k : Content) → At (w .tree) kid k → close ≡ kid + length (bytes k)) where
@@ -103,6 +109,7 @@ module _ {w : World} (u : Usable w) {s from : ℕ} {k : Content} {e : Edges} (is
         bound = suc maxSteps;
         ps = placements marked (targetTable w) (fillersIn w) (kindOf (sourceOf w) s) τ (pathsOf (settingOf w .embedding) s) ks;
         few-steps = omega arith;
+        few-edges = p .few-edges;
         is-type = u .ready .valid .target-exists s is-type;
         fits = placements-fit marked (settingOf w) (fillersIn w) τ (kindOf (sourceOf w) s) (pathsOf (settingOf w .embedding) s) ks (u .ready .valid .edges s is-type);
         selected = p .selected;

@@ -1,14 +1,11 @@
 -- The members that `grow` hands to `row`, as the arrays give them.
 use mathlib.Core.Path.{_≡_, refl, sym, ap, _∙_, subst}
-use mathlib.Core.Bool.{Bool, true, false}
 use mathlib.Core.List.{List, [], _∷_}
 use mathlib.Core.Option.{some}
 use Prim.Native.Nat.{ℕ, zero, suc, _+_, _-_, _*_, _≤_, _<_}
 use native.Mathlib.Omega.{arith}
 use lib.ListN.{length, getD, take, drop}
 use lib.Seq.{sets, drop-cons, getD-drop}
-use lib.Dec.{eqb}
-use borrow.Author.Tests.{eqb-true, eqb-false}
 use native.Mathlib.Nat.{add-zero}
 use Rattle.model.specs.Definitions.Basics.{entry}
 use Rattle.model.specs.Definitions.Table.{text, sequence, Table, kindOf, membersOf, stepFrom}
@@ -27,9 +24,9 @@ use Rattle.writing.specs.Writing as writing
 use Rattle.writing.specs.Writing.{Fills, fillerBytes, fillerCount}
 use Rattle.images.specs.declared.Edges.{Edges}
 use Rattle.images.specs.Setting.{World, targetTable, fillersIn, Usable}
-use Rattle.images.specs.Selecting.{First, Reads, Readable, Active, Selected, no-edge, edge-off, edge-on, restOf, stepAt}
+use Rattle.images.specs.Selecting.{First, Reads, Readable, Active, Selected, restOf, stepAt}
 use Rattle.images.specs.Growing.{bytesOf, Makes, Room, Below, grown, rowIn, RowBelow, membersFrom, grownRow, Ends}
-use Rattle.images.specs.Laws.{FirstPlaced, rest-none, rest-more}
+use Rattle.images.specs.Laws.{FirstPlaced, rest-none, rest-more, each-marked, selects-counted}
 use Rattle.images.proofs.Filling.{filler-content, filler-count}
 use Rattle.images.proofs.Growing.{nothing-below, first-below}
 use Rattle.images.proofs.Cases.{grow-none, grow-here, Grows, grow-sequence, GrowsOne, grow-one}
@@ -100,26 +97,15 @@ module _ {w : World} (u : Usable w) where
         within = omega (arith, a .long, u .ready .paths-bounded .within (e .first + i));
       }
 
-  selected-reads : {e : Edges} {act : List ℕ} {d τ left i : ℕ} {ps : List (Placement Marked)} → Selected w e act d τ left i ps → (j : ℕ) → i ≤ j → j < i + left
-      → getD act j 0 ≡ 1 → Reads (w .paths .text) (w .paths .starts) (e .first) (getD (e .stop) j 0) j
-  selected-reads (no-edge {i = i}) j low high on = absurd (omega arith)
-  selected-reads {e} {act} (edge-off {left = left} {i = i} off rest) j low high on = go (eqb i j) refl (λ more. selected-reads rest j more (omega arith) on)
-    where
-      go : (b : Bool) → eqb i j ≡ b → (suc i ≤ j → Reads (w .paths .text) (w .paths .starts) (e .first) (getD (e .stop) j 0) j)
-          → Reads (w .paths .text) (w .paths .starts) (e .first) (getD (e .stop) j 0) j
-      go true q later = absurd (off (rw (eqb-true i j q) on))
-      go false q later = let other : i ≡ j → ⊥ = eqb-false i j q in later (omega arith)
-  selected-reads {e} {act} (edge-on {left = left} {i = i} here a rest) j low high on = go (eqb i j) refl (λ more. selected-reads rest j more (omega arith) on)
-    where
-      go : (b : Bool) → eqb i j ≡ b → (suc i ≤ j → Reads (w .paths .text) (w .paths .starts) (e .first) (getD (e .stop) j 0) j)
-          → Reads (w .paths .text) (w .paths .starts) (e .first) (getD (e .stop) j 0) j
-      go true q later = rw (sym (eqb-true i j q)) (active-reads a)
-      go false q later = let other : i ≡ j → ⊥ = eqb-false i j q in later (omega arith)
-
   -- marked edges can be read
-  pub selected-readable : {e : Edges} {act : List ℕ} {d τ : ℕ} {ps : List (Placement Marked)} → Selected w e act d τ 16 0 ps
-      → Readable (w .paths .text) (w .paths .starts) (e .first) act (e .stop)
-  selected-readable s = record { reads = λ i less on. selected-reads s i (omega arith) (omega arith) on }
+  pub selected-readable : {e : Edges} {act : List ℕ} {d τ : ℕ} {ps : List (Placement Marked)} → e .count ≤ 16 → Selected w e act d τ 16 0 ps
+      → Readable (w .paths .text) (w .paths .starts) (e .first) act (e .stop) (e .count)
+  selected-readable {e} few s =
+      record {
+        marks = selects-counted few s;
+        reads = λ i less on.
+            each-marked (λ j. Reads (w .paths .text) (w .paths .starts) (e .first) (getD (e .stop) j 0) j) (λ j end a h. active-reads h) s i (omega arith) (omega arith) on;
+      }
 
   module _ {e : Edges} {act : List ℕ} {d τ : ℕ} (g : Below w e act d τ) {i : ℕ} (f : First act i) where
     -- no edge is marked: filler
@@ -195,6 +181,7 @@ module _ {w : World} (u : Usable w) where
                 bound = grows .bound;
                 ps = g .ps;
                 few-steps = few;
+                few-edges = g .few-edges;
                 is-type = g .is-type;
                 selected = g .selected;
                 low = omega arith;
@@ -218,6 +205,7 @@ module _ {w : World} (u : Usable w) where
                 bound = one .grows .bound;
                 ps = g .ps;
                 few-steps = few;
+                few-edges = g .few-edges;
                 is-type = g .is-type;
                 selected = g .selected;
                 low = there .0;

@@ -166,6 +166,7 @@ module _ {w : World} (u : Usable w) {e : Edges} {act : List ℕ} {d τ from to :
             bound = g .bound;
             ps = under j (g .ps);
             few-steps = omega (arith, g .few-steps);
+            few-edges = g .few-edges;
             is-type = here .is-type;
             fits = here .fits;
             selected =

@@ -39,6 +39,7 @@ pub record Below (w : World) (e : Edges) (act : List ℕ) (d τ : ℕ) : Type 0 
   pub bound : ℕ
   pub ps : List (Placement Marked)
   pub few-steps : d ≤ 12
+  pub few-edges : e .count ≤ 16
   pub is-type : τ < length (targetTable w)
   pub fits : Fits (targetTable w) bound τ ps
   pub selected : Selected w e act d τ 16 0 ps
@@ -66,6 +67,7 @@ pub record RowBelow (w : World) (e : Edges) (act : List ℕ) (d τ from to : ℕ
   pub bound : ℕ
   pub ps : List (Placement Marked)
   pub few-steps : d < 12
+  pub few-edges : e .count ≤ 16
   pub is-type : τ < length (targetTable w)
   pub selected : Selected w e act d τ 16 0 ps
   pub low : 1 ≤ from
@@ -108,6 +110,7 @@ pub record Element (w : World) (s from : ℕ) : Type 0 where
 -- the edges stand for all that is placed below its image
 pub record Prepared (w : World) (s from : ℕ) (k : Content) (e : Edges) : Type 0 where
   pub same-from : e .from ≡ from
+  pub few-edges : e .count ≤ 16
   pub selected :
       Selected w e (e .act) 0 (targetOf (settingOf w .embedding) s) 16 0
       (placements marked (targetTable w) (fillersIn w) (kindOf (sourceOf w) s) (targetOf (settingOf w .embedding) s) (pathsOf (settingOf w .embedding) s)

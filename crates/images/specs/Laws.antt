@@ -15,7 +15,7 @@ use Rattle.model.specs.Theorems.Measures.{Marked}
 use Rattle.maps.specs.Loaded.{stepsFrom}
 use Rattle.images.specs.declared.Edges.{Edges}
 use Rattle.images.specs.Setting.{World, targetTable}
-use Rattle.images.specs.Selecting.{OneEdge, Narrows, Carried, letters, inner, listed, restOf, stepAt, Active, Selected, no-edge, edge-off, edge-on}
+use Rattle.images.specs.Selecting.{OneEdge, Counted, Narrows, Carried, letters, inner, listed, restOf, stepAt, Active, Selected, no-edge, edge-off, edge-on}
 
 -- ---- the rest of a path
 
@@ -76,11 +76,31 @@ module _ {w : World} {e : Edges} {act : List ℕ} {d τ : ℕ} where
       go true q = subst (λ (j : ℕ). FirstPlaced w e d τ j (placed (restOf w e d i) a ∷ ps)) (eqb-true i r q) record { content = a; later = ps; is = refl; active = h }
       go false q = let other = eqb-false i r q in absurd (none i (omega arith) here)
 
+  -- what holds of each active edge holds of each marked one
+  pub each-marked : (P : ℕ → Type 0) → ((i end : ℕ) (a : Marked) → Active w e d i end a → P i) → {left i : ℕ} {ps : List (Placement Marked)} → Selected w e act d τ left i ps
+      → (j : ℕ) → i ≤ j → j < i + left → getD act j 0 ≡ 1 → P j
+  each-marked P active (no-edge {i = i}) j low high on = absurd (omega arith)
+  each-marked P active (edge-off {left = left} {i = i} off rest) j low high on = go (eqb i j) refl (λ more. each-marked P active rest j more (omega arith) on)
+    where
+      go : (b : Bool) → eqb i j ≡ b → (suc i ≤ j → P j) → P j
+      go true q later = absurd (off (rw (eqb-true i j q) on))
+      go false q later = let other : i ≡ j → ⊥ = eqb-false i j q in later (omega arith)
+  each-marked P active (edge-on {left = left} {i = i} {a = a} here h rest) j low high on = go (eqb i j) refl (λ more. each-marked P active rest j more (omega arith) on)
+    where
+      go : (b : Bool) → eqb i j ≡ b → (suc i ≤ j → P j) → P j
+      go true q later = rw (sym (eqb-true i j q)) (active i _ a h)
+      go false q later = let other : i ≡ j → ⊥ = eqb-false i j q in later (omega arith)
+
+  -- only edges below the number of edges are marked
+  pub selects-counted : {ps : List (Placement Marked)} → e .count ≤ 16 → Selected w e act d τ 16 0 ps → Counted act (e .count)
+  selects-counted few sel =
+      record { few = few; counted = λ i less on. each-marked (λ j. j < e .count) (λ j end a h. h .counted) sel i (omega arith) (omega arith) on }
+
 -- ---- beyond a step
 
 -- an edge whose path goes on stays active, to the same end
 further : {w : World} {e : Edges} {d i τ : ℕ} {a : Marked} → Active w e d i τ a → d < getD (e .stop) i 0 → Active w e (suc d) i τ a
-further a h = record { near = a .near; reach = omega arith; long = a .long; carried = a .carried }
+further a h = record { near = a .near; counted = a .counted; reach = omega arith; long = a .long; carried = a .carried }
 
 -- what is placed under a step, by the first path: it has ended, goes on by the step, or goes on by another
 module _ {A : Type 0} (q : ℕ) {path : List ℕ} (a : A) (ps : List (Placement A)) where

@@ -17,6 +17,7 @@ use Rattle.images.specs.Selecting.{Reads}
 
 pub record NoEdges (from : ℕ) (r : Edges) : Type 0 where
   pub is-from : r .from ≡ from
+  pub is-count : r .count ≡ 0
   pub no-one : (i : ℕ) → i < 16 → getD (r .act) i 0 ≡ 1 → ⊥
 
 -- r is the index of the first of `count` members, from place `base` on, that is t, or `count`
@@ -43,6 +44,7 @@ pub record MemberEdges (lengths : List ℕ) (base count from : ℕ) (k : Content
   pub is-mode : r .mode ≡ 1
   pub is-first : r .first ≡ base
   pub is-from : r .from ≡ from
+  pub is-count : r .count ≡ count
   pub marked : (i : ℕ) → i < count → getD (r .act) i 0 ≡ 1
   pub no-other : (i : ℕ) → count ≤ i → i < 16 → getD (r .act) i 0 ≡ 1 → ⊥
   pub stops : (i : ℕ) → i < count → getD (r .stop) i 0 ≡ getD lengths (base + i) 0

@@ -45,8 +45,14 @@ pub record Reads (em starts : List ℕ) (first stop i : ℕ) : Type 0 where
   pub near : first + i < 1024
   pub within : getD starts (first + i) 0 + 1 + 2 * stop ≤ length em
 
--- the steps of marked edges can be read
-pub record Readable (em starts : List ℕ) (first : ℕ) (act stop : List ℕ) : Type 0 where
+-- only edges below `count` are marked
+pub record Counted (act : List ℕ) (count : ℕ) : Type 0 where
+  pub few : count ≤ 16
+  pub counted : (i : ℕ) → i < 16 → getD act i 0 ≡ 1 → i < count
+
+-- the steps of marked edges can be read, and only edges below `count` are marked
+pub record Readable (em starts : List ℕ) (first : ℕ) (act stop : List ℕ) (count : ℕ) : Type 0 where
+  pub marks : Counted act count
   pub reads : (i : ℕ) → i < 16 → getD act i 0 ≡ 1 → Reads em starts first (getD stop i 0) i
 
 -- one edge, edge 0, is marked, and is as told
@@ -54,6 +60,7 @@ pub record OneEdge (mode first from stop kid : ℕ) (r : Edges) : Type 0 where
   pub is-mode : r .mode ≡ mode
   pub is-first : r .first ≡ first
   pub is-from : r .from ≡ from
+  pub is-count : r .count ≡ 1
   pub marked : getD (r .act) 0 0 ≡ 1
   pub no-other : (i : ℕ) → 0 < i → i < 16 → getD (r .act) i 0 ≡ 1 → ⊥
   pub is-stop : getD (r .stop) 0 0 ≡ stop
@@ -102,6 +109,7 @@ restOf w e d i = stepsFrom (w .paths .text) (stepAt (w .paths .starts) (e .first
 -- edge i has at least d steps, and carries a to the type τ at its end
 pub record Active (w : World) (e : Edges) (d i τ : ℕ) (a : Marked) : Type 0 where
   pub near : e .first + i < 1024
+  pub counted : i < e .count
   pub reach : d ≤ getD (e .stop) i 0
   pub long : getD (e .stop) i 0 ≤ getD (w .paths .lengths) (e .first + i) 0
   pub carried : Carried w e i τ a

@@ -47,8 +47,9 @@ fillersIn w = fillers marked (targetTable w)
 unfoldable pub imageIn : World → ℕ → Content → Marked
 imageIn w s k = imageOfElement marked (settingOf w) (fillersIn w) s (children marked (settingOf w) (fillersIn w) k)
 
--- accepted, within bounds, with all places of the arrays
+-- accepted, within bounds, with all places of the arrays; the document has at most 60,000 bytes
 pub record Usable (w : World) : Type 0 where
   pub ready : setting.Ready (w .source) (w .target) (w .paths) (w .high)
   pub source-places : length (w .source .members) ≡ 1024
   pub target-places : length (w .target .members) ≡ 1024
+  pub short : length (w .tree) ≤ 60000

@@ -3,41 +3,46 @@ ghost use mathlib.Core.Path.{_≡_};
 ghost use Prim.Native.Nat.{_+_, _*_, _≤_, _<_};
 ghost use lib.ListN.{length, getD};
 ghost use Rattle.images.specs.Setting.{world, Usable};
-ghost use Rattle.images.specs.Selecting.{First, stepAt, Reads, Takes, Narrows, Readable, OneEdge};
+ghost use Rattle.images.specs.Selecting.{First, stepAt, Reads, Takes, Narrows, Counted, Readable, OneEdge};
 ghost use Rattle.model.specs.Definitions.Content.{Content};
 ghost use Rattle.model.specs.Definitions.Embedding.{divide};
 ghost use Rattle.dtd.specs.Loaded.{tableIn};
 ghost use Rattle.maps.specs.Loaded.{stepsFrom};
 ghost use Rattle.scanning.specs.Scanning.{At};
+ghost use Rattle.scanning.specs.Spanning.{Spans};
 ghost use Rattle.images.specs.Preparing.{NoEdges, IndexOf, children, MemberEdges, Leads};
 ghost use Rattle.images.specs.Image.{Source, imageDocument, Written};
 ghost use Rattle.images.specs.Growing.{Makes, Room, Below, grown, grownElement, RowBelow, grownRow, Ends, Lists, Element, Prepared};
+use scanning::spans::close_of;
+use scanning::spans::fill_spans;
 use writing::Wrote;
 
-// The edges of a source element whose content begins at `from`. The path of edge i stands at place first + i of the embedding's
-// arrays, and its first stop[i] steps are meant; act[i] is 1 where edge i is meant. What it carries begins at kids[i] in the
-// source: characters (mode 0), an element (mode 1), or the items of a list (mode 2).
+// The edges of a source element whose content begins at `from`, `count` of them. The path of edge i stands at place first + i of the
+// embedding's arrays, and its first stop[i] steps are meant; act[i] is 1 where edge i is meant. What it carries begins at kids[i]
+// in the source: characters (mode 0), an element (mode 1), or the items of a list (mode 2).
 pub struct Edges {
     pub mode: u8,
     pub first: usize,
     pub from: usize,
+    pub count: usize,
     pub act: [u8; 16],
     pub stop: [u8; 16],
-    pub kids: [usize; 16],
+    pub kids: [u16; 16],
 }
 
-// The first index at which `act` holds 1, or 16.
-fn first_active(act: [u8; 16]) -> usize
+// The first index at which `act` holds 1, or 16. None is marked from `count` on.
+fn first_active(act: [u8; 16], count: usize) -> usize
+    requires { ⌜ Counted act count ⌝ }
     ensures { λ r. ⌜ First act r ⌝ }
 {
     let mut i = 0;
-    while i < 16 {
+    while i < count {
         if act[i] == 1 {
             return i;
         }
         i += 1;
     }
-    i
+    16
 }
 
 // Step d of edge i.
@@ -95,14 +100,15 @@ fn narrowed<'a>(
     d: usize,
     q: usize,
 ) -> [u8; 16]
-    requires { ⌜ Readable (now em) (now st) (e .first) act (e .stop) ⌝ }
+    requires { ⌜ Readable (now em) (now st) (e .first) act (e .stop) (e .count) ⌝ }
     ensures { λ r. ⌜ Narrows (now (em .entry)) (now (st .entry)) (e .first) act (e .stop) d q r ⌝ }
 {
     let first = e.first;
+    let count = e.count;
     let stop = e.stop;
     let mut sub = [0u8; 16];
     let mut i = 0;
-    while i < 16 {
+    while i < count {
         sub[i] = takes(st, em, first, act[i], stop[i], d, q, i);
         i += 1;
     }
@@ -111,18 +117,20 @@ fn narrowed<'a>(
 
 // One edge.
 fn one_edge(mode: u8, first: usize, from: usize, stop: u8, kid: usize) -> Edges
+    requires { ⌜ kid < 65536 ⌝ }
     ensures { λ r. ⌜ OneEdge mode first from stop kid r ⌝ }
 {
     let mut act = [0u8; 16];
     act[0] = 1;
     let mut stops = [0u8; 16];
     stops[0] = stop;
-    let mut kids = [0usize; 16];
-    kids[0] = kid;
+    let mut kids = [0u16; 16];
+    kids[0] = kid as u16;
     Edges {
         mode,
         first,
         from,
+        count: 1,
         act,
         stop: stops,
         kids,
@@ -135,11 +143,12 @@ fn no_edges(from: usize) -> Edges
 {
     let act = [0u8; 16];
     let stop = [0u8; 16];
-    let kids = [0usize; 16];
+    let kids = [0u16; 16];
     Edges {
         mode: 1,
         first: 0,
         from,
+        count: 0,
         act,
         stop,
         kids,
@@ -166,17 +175,19 @@ fn member_index(m1: &[u8; 1024], base: usize, count: usize, t: u8) -> usize
 fn member_edges<'a>(
     ln: &'a [u8; 1024],
     tr: &'a [u8],
+    sp: &'a [u16],
     base: usize,
     count: usize,
     from: usize,
 ) -> Edges
-    requires places { ⌜ (base + count ≤ 1024) × (count ≤ 16) ⌝ }
+    requires spans { ⌜ Spans (now tr) (now sp) ⌝ }
+    requires places { ⌜ (base + count ≤ 1024) × (count ≤ 16) × (length (now tr) ≤ 60000) ⌝ }
     requires members { ⌜ ((k : Content) × At (now tr) from k × (children k ≡ count)) ⌝ }
     ensures { λ r. ⌜ ((k : Content) → At (now (tr .entry)) from k → children k ≡ count → MemberEdges (now (ln .entry)) base count from k r) ⌝ }
 {
     let mut act = [0u8; 16];
     let mut stop = [0u8; 16];
-    let mut kids = [0usize; 16];
+    let mut kids = [0u16; 16];
     let mut o = from;
     let mut i = 0;
     while i < count {
@@ -184,8 +195,8 @@ fn member_edges<'a>(
         let inside = o + 2;
         act[i] = 1;
         stop[i] = ln[edge];
-        kids[i] = inside;
-        let close = scanning::skip(tr, inside);
+        kids[i] = inside as u16;
+        let close = close_of(tr, sp, inside);
         o = close + 1;
         i += 1;
     }
@@ -193,6 +204,7 @@ fn member_edges<'a>(
         mode: 1,
         first: base,
         from,
+        count,
         act,
         stop,
         kids,
@@ -246,9 +258,11 @@ fn edges_of<'a>(
     ln: &'a [u8; 1024],
     em: &'a [u8],
     tr: &'a [u8],
+    sp: &'a [u16],
     s: u8,
     from: usize,
 ) -> Edges
+    requires spans { ⌜ Spans (now tr) (now sp) ⌝ }
     requires ready { ⌜ Usable (world types1 (now k1) (now c1) (now m1) types2 (now k2) (now c2) (now m2) (now h2) (now tg) (now st) (now ln) (now em) (now tr)) ⌝ }
     requires element { ⌜ Element (world types1 (now k1) (now c1) (now m1) types2 (now k2) (now c2) (now m2) (now h2) (now tg) (now st) (now ln) (now em) (now tr)) s from ⌝ }
     ensures { λ r. ⌜ ((k : Element (world types1 (now (k1 .entry)) (now (c1 .entry)) (now (m1 .entry)) types2 (now (k2 .entry)) (now (c2 .entry)) (now (m2 .entry)) (now (h2 .entry)) (now (tg .entry)) (now (st .entry)) (now (ln .entry)) (now (em .entry)) (now (tr .entry))) s from) → Prepared (world types1 (now (k1 .entry)) (now (c1 .entry)) (now (m1 .entry)) types2 (now (k2 .entry)) (now (c2 .entry)) (now (m2 .entry)) (now (h2 .entry)) (now (tg .entry)) (now (st .entry)) (now (ln .entry)) (now (em .entry)) (now (tr .entry))) s from (k .inside) r) ⌝ }
@@ -264,7 +278,7 @@ fn edges_of<'a>(
         1 => no_edges(from),
         2 => {
             let count = c1[place] as usize;
-            member_edges(ln, tr, base, count, from)
+            member_edges(ln, tr, sp, base, count, from)
         }
         3 => {
             let o = from + 1;
@@ -300,6 +314,7 @@ fn grow<'a>(
     ln: &'a [u8; 1024],
     em: &'a [u8],
     tr: &'a [u8],
+    sp: &'a [u16],
     e: Edges,
     act: [u8; 16],
     d: usize,
@@ -308,11 +323,12 @@ fn grow<'a>(
     at: usize,
     count: usize,
 ) -> Wrote
+    requires spans { ⌜ Spans (now tr) (now sp) ⌝ }
     requires ready { ⌜ Usable (world types1 (now k1) (now c1) (now m1) types2 (now k2) (now c2) (now m2) (now h2) (now tg) (now st) (now ln) (now em) (now tr)) ⌝ }
     requires task { ⌜ ((g : Below (world types1 (now k1) (now c1) (now m1) types2 (now k2) (now c2) (now m2) (now h2) (now tg) (now st) (now ln) (now em) (now tr)) e act d t) × Room (grown g) (now out) at count) ⌝ }
     ensures { λ r. ⌜ ((g : Below (world types1 (now (k1 .entry)) (now (c1 .entry)) (now (m1 .entry)) types2 (now (k2 .entry)) (now (c2 .entry)) (now (m2 .entry)) (now (h2 .entry)) (now (tg .entry)) (now (st .entry)) (now (ln .entry)) (now (em .entry)) (now (tr .entry))) e act d t) → Makes (grown g) (now (out .entry)) (now (out .exit)) at count r) ⌝ }
 {
-    let i = first_active(act);
+    let i = first_active(act, e.count);
     if i == 16 {
         return writing::filler(types2, k2, c2, m2, h2, t, out, at, count);
     }
@@ -334,6 +350,7 @@ fn grow<'a>(
             ln,
             em,
             tr,
+            sp,
             e,
             i,
             d,
@@ -361,6 +378,7 @@ fn grow<'a>(
             ln,
             em,
             tr,
+            sp,
             e,
             act,
             d,
@@ -388,6 +406,7 @@ fn grow<'a>(
         ln,
         em,
         tr,
+        sp,
         e,
         act,
         d,
@@ -416,6 +435,7 @@ fn placed<'a>(
     ln: &'a [u8; 1024],
     em: &'a [u8],
     tr: &'a [u8],
+    sp: &'a [u16],
     e: Edges,
     i: usize,
     d: usize,
@@ -424,16 +444,17 @@ fn placed<'a>(
     at: usize,
     count: usize,
 ) -> Wrote
+    requires spans { ⌜ Spans (now tr) (now sp) ⌝ }
     requires ready { ⌜ Usable (world types1 (now k1) (now c1) (now m1) types2 (now k2) (now c2) (now m2) (now h2) (now tg) (now st) (now ln) (now em) (now tr)) ⌝ }
     requires task { ⌜ ((g : Ends (world types1 (now k1) (now c1) (now m1) types2 (now k2) (now c2) (now m2) (now h2) (now tg) (now st) (now ln) (now em) (now tr)) e d i t) × Room (g .content) (now out) at count) ⌝ }
     ensures { λ r. ⌜ ((g : Ends (world types1 (now (k1 .entry)) (now (c1 .entry)) (now (m1 .entry)) types2 (now (k2 .entry)) (now (c2 .entry)) (now (m2 .entry)) (now (h2 .entry)) (now (tg .entry)) (now (st .entry)) (now (ln .entry)) (now (em .entry)) (now (tr .entry))) e d i t) → Makes (g .content) (now (out .entry)) (now (out .exit)) at count r) ⌝ }
 {
     let mode = e.mode;
     let kids = e.kids;
-    let kid = kids[i];
+    let kid = kids[i] as usize;
     match mode {
         0 => {
-            let close = scanning::skip(tr, kid);
+            let close = close_of(tr, sp, kid);
             let next = writing::copy(tr, kid, close, out, at);
             Wrote {
                 at: next,
@@ -458,6 +479,7 @@ fn placed<'a>(
                 ln,
                 em,
                 tr,
+                sp,
                 s,
                 kid,
             );
@@ -479,6 +501,7 @@ fn placed<'a>(
                 ln,
                 em,
                 tr,
+                sp,
                 inner,
                 act,
                 0,
@@ -503,6 +526,7 @@ fn placed<'a>(
             ln,
             em,
             tr,
+            sp,
             e,
             kid,
             d,
@@ -530,6 +554,7 @@ fn element<'a>(
     ln: &'a [u8; 1024],
     em: &'a [u8],
     tr: &'a [u8],
+    sp: &'a [u16],
     e: Edges,
     act: [u8; 16],
     d: usize,
@@ -538,12 +563,13 @@ fn element<'a>(
     at: usize,
     count: usize,
 ) -> Wrote
+    requires spans { ⌜ Spans (now tr) (now sp) ⌝ }
     requires ready { ⌜ Usable (world types1 (now k1) (now c1) (now m1) types2 (now k2) (now c2) (now m2) (now h2) (now tg) (now st) (now ln) (now em) (now tr)) ⌝ }
     requires task { ⌜ ((g : Below (world types1 (now k1) (now c1) (now m1) types2 (now k2) (now c2) (now m2) (now h2) (now tg) (now st) (now ln) (now em) (now tr)) e act d t) × Room (grownElement g) (now out) at count) ⌝ }
     ensures { λ r. ⌜ ((g : Below (world types1 (now (k1 .entry)) (now (c1 .entry)) (now (m1 .entry)) types2 (now (k2 .entry)) (now (c2 .entry)) (now (m2 .entry)) (now (h2 .entry)) (now (tg .entry)) (now (st .entry)) (now (ln .entry)) (now (em .entry)) (now (tr .entry))) e act d t) → Makes (grownElement g) (now (out .entry)) (now (out .exit)) at count r) ⌝ }
 {
     let inside = writing::put_open(out, at, t);
-    let i = first_active(act);
+    let i = first_active(act, e.count);
     let mut number = count;
     if i == 16 {
         number += 1;
@@ -563,6 +589,7 @@ fn element<'a>(
         ln,
         em,
         tr,
+        sp,
         e,
         act,
         d,
@@ -595,6 +622,7 @@ fn row<'a>(
     ln: &'a [u8; 1024],
     em: &'a [u8],
     tr: &'a [u8],
+    sp: &'a [u16],
     e: Edges,
     act: [u8; 16],
     d: usize,
@@ -605,6 +633,7 @@ fn row<'a>(
     at: usize,
     count: usize,
 ) -> Wrote
+    requires spans { ⌜ Spans (now tr) (now sp) ⌝ }
     requires ready { ⌜ Usable (world types1 (now k1) (now c1) (now m1) types2 (now k2) (now c2) (now m2) (now h2) (now tg) (now st) (now ln) (now em) (now tr)) ⌝ }
     requires task { ⌜ ((g : RowBelow (world types1 (now k1) (now c1) (now m1) types2 (now k2) (now c2) (now m2) (now h2) (now tg) (now st) (now ln) (now em) (now tr)) e act d t from to) × Room (grownRow g) (now out) at count) ⌝ }
     ensures { λ r. ⌜ ((g : RowBelow (world types1 (now (k1 .entry)) (now (c1 .entry)) (now (m1 .entry)) types2 (now (k2 .entry)) (now (c2 .entry)) (now (m2 .entry)) (now (h2 .entry)) (now (tg .entry)) (now (st .entry)) (now (ln .entry)) (now (em .entry)) (now (tr .entry))) e act d t from to) → Makes (grownRow g) (now (out .entry)) (now (out .exit)) at count r) ⌝ }
@@ -633,6 +662,7 @@ fn row<'a>(
             ln,
             em,
             tr,
+            sp,
             e,
             sub,
             deeper,
@@ -668,6 +698,7 @@ fn items<'a>(
     ln: &'a [u8; 1024],
     em: &'a [u8],
     tr: &'a [u8],
+    sp: &'a [u16],
     e: Edges,
     kid: usize,
     d: usize,
@@ -676,6 +707,7 @@ fn items<'a>(
     at: usize,
     count: usize,
 ) -> Wrote
+    requires spans { ⌜ Spans (now tr) (now sp) ⌝ }
     requires ready { ⌜ Usable (world types1 (now k1) (now c1) (now m1) types2 (now k2) (now c2) (now m2) (now h2) (now tg) (now st) (now ln) (now em) (now tr)) ⌝ }
     requires task { ⌜ ((g : Lists (world types1 (now k1) (now c1) (now m1) types2 (now k2) (now c2) (now m2) (now h2) (now tg) (now st) (now ln) (now em) (now tr)) (e .from) (e .first) kid d t) × Room (g .content) (now out) at count) ⌝ }
     ensures { λ r. ⌜ ((g : Lists (world types1 (now (k1 .entry)) (now (c1 .entry)) (now (m1 .entry)) types2 (now (k2 .entry)) (now (c2 .entry)) (now (m2 .entry)) (now (h2 .entry)) (now (tg .entry)) (now (st .entry)) (now (ln .entry)) (now (em .entry)) (now (tr .entry))) (e .from) (e .first) kid d t) → Makes (g .content) (now (out .entry)) (now (out .exit)) at count r) ⌝ }
@@ -690,6 +722,7 @@ fn items<'a>(
     let mut number = count;
     while tr[o] == 0x30 {
         let item = &tr[o..];
+        let item_spans = &sp[o..];
         let one = one_edge(1, first, 0, all, 2);
         let act = one.act;
         let wrote = element(
@@ -707,6 +740,7 @@ fn items<'a>(
             ln,
             em,
             item,
+            item_spans,
             one,
             act,
             deeper,
@@ -717,7 +751,7 @@ fn items<'a>(
         );
         next = wrote.at;
         number = wrote.filler;
-        let close = scanning::skip(item, 2);
+        let close = close_of(item, item_spans, 2);
         o += close + 1;
     }
     Wrote {
@@ -726,7 +760,88 @@ fn items<'a>(
     }
 }
 
-// Writes the document of the image of the source document `tr`, and returns its length and the number of its filler elements.
+// Writes the document of the image of the source document `tr`, given the lengths of what its elements hold.
+fn write_by<'a>(
+    types1: usize,
+    k1: &'a [u8; 64],
+    c1: &'a [u8; 64],
+    m1: &'a [u8; 1024],
+    types2: usize,
+    k2: &'a [u8; 64],
+    c2: &'a [u8; 64],
+    m2: &'a [u8; 1024],
+    h2: &'a [u8; 64],
+    tg: &'a [u8; 64],
+    st: &'a [u16; 1024],
+    ln: &'a [u8; 1024],
+    em: &'a [u8],
+    tr: &'a [u8],
+    sp: &'a [u16],
+    out: &mut [u8],
+) -> Wrote
+    requires spans { ⌜ Spans (now tr) (now sp) ⌝ }
+    requires ready { ⌜ Usable (world types1 (now k1) (now c1) (now m1) types2 (now k2) (now c2) (now m2) (now h2) (now tg) (now st) (now ln) (now em) (now tr)) ⌝ }
+    requires source { ⌜ Source (world types1 (now k1) (now c1) (now m1) types2 (now k2) (now c2) (now m2) (now h2) (now tg) (now st) (now ln) (now em) (now tr)) ⌝ }
+    requires room { ⌜ length (imageDocument (world types1 (now k1) (now c1) (now m1) types2 (now k2) (now c2) (now m2) (now h2) (now tg) (now st) (now ln) (now em) (now tr))) ≤ length (now out) ⌝ }
+    ensures { λ r. ⌜ Written (world types1 (now (k1 .entry)) (now (c1 .entry)) (now (m1 .entry)) types2 (now (k2 .entry)) (now (c2 .entry)) (now (m2 .entry)) (now (h2 .entry)) (now (tg .entry)) (now (st .entry)) (now (ln .entry)) (now (em .entry)) (now (tr .entry))) (now (out .entry)) (now (out .exit)) r ⌝ }
+{
+    let e = edges_of(
+        types1,
+        k1,
+        c1,
+        m1,
+        types2,
+        k2,
+        c2,
+        m2,
+        h2,
+        tg,
+        st,
+        ln,
+        em,
+        tr,
+        sp,
+        0,
+        2,
+    );
+    let act = e.act;
+    let root = tg[0];
+    let inside = writing::put_open(out, 0, root);
+    let wrote = grow(
+        types1,
+        k1,
+        c1,
+        m1,
+        types2,
+        k2,
+        c2,
+        m2,
+        h2,
+        tg,
+        st,
+        ln,
+        em,
+        tr,
+        sp,
+        e,
+        act,
+        0,
+        root,
+        out,
+        inside,
+        0,
+    );
+    let end = wrote.at;
+    let close = writing::put_close(out, end);
+    let last = writing::put_end(out, close);
+    Wrote {
+        at: last,
+        filler: wrote.filler,
+    }
+}
+
+// Writes the document of the image of the source document `tr`, and returns its length and the number of its filler elements. For a
+// short document a short buffer does for the lengths of what its elements hold, and need not be cleared at length.
 pub fn write_image<'a>(
     types1: usize,
     k1: &'a [u8; 64],
@@ -749,55 +864,46 @@ pub fn write_image<'a>(
     requires room { ⌜ length (imageDocument (world types1 (now k1) (now c1) (now m1) types2 (now k2) (now c2) (now m2) (now h2) (now tg) (now st) (now ln) (now em) (now tr))) ≤ length (now out) ⌝ }
     ensures { λ r. ⌜ Written (world types1 (now (k1 .entry)) (now (c1 .entry)) (now (m1 .entry)) types2 (now (k2 .entry)) (now (c2 .entry)) (now (m2 .entry)) (now (h2 .entry)) (now (tg .entry)) (now (st .entry)) (now (ln .entry)) (now (em .entry)) (now (tr .entry))) (now (out .entry)) (now (out .exit)) r ⌝ }
 {
-    let e = edges_of(
-        types1,
-        k1,
-        c1,
-        m1,
-        types2,
-        k2,
-        c2,
-        m2,
-        h2,
-        tg,
-        st,
-        ln,
-        em,
-        tr,
-        0,
-        2,
-    );
-    let act = e.act;
-    let root = tg[0];
-    let inside = writing::put_open(out, 0, root);
-    let wrote = grow(
-        types1,
-        k1,
-        c1,
-        m1,
-        types2,
-        k2,
-        c2,
-        m2,
-        h2,
-        tg,
-        st,
-        ln,
-        em,
-        tr,
-        e,
-        act,
-        0,
-        root,
-        out,
-        inside,
-        0,
-    );
-    let end = wrote.at;
-    let close = writing::put_close(out, end);
-    let last = writing::put_end(out, close);
-    Wrote {
-        at: last,
-        filler: wrote.filler,
+    if tr.len() <= 2048 {
+        let mut spans = [0u16; 2048];
+        fill_spans(tr, &mut spans);
+        return write_by(
+            types1,
+            k1,
+            c1,
+            m1,
+            types2,
+            k2,
+            c2,
+            m2,
+            h2,
+            tg,
+            st,
+            ln,
+            em,
+            tr,
+            &spans,
+            out,
+        );
     }
+    let mut spans = [0u16; 60000];
+    fill_spans(tr, &mut spans);
+    write_by(
+        types1,
+        k1,
+        c1,
+        m1,
+        types2,
+        k2,
+        c2,
+        m2,
+        h2,
+        tg,
+        st,
+        ln,
+        em,
+        tr,
+        &spans,
+        out,
+    )
 }

@@ -1,7 +1,8 @@
 -- Carrying: from a judged setting, a judged tree and the outcome of carrying to the entry's answer.
 use mathlib.Core.Path.{_≡_, refl, ap, _∙_}
 use mathlib.Core.List.{List}
-use Prim.Native.Nat.{ℕ}
+use Prim.Native.Nat.{ℕ, _≤_}
+use lib.ListN.{length}
 use Rattle.lafindry.specs.declared.answer.Answer.{Answer}
 use Rattle.lafindry.specs.Numbers.{numbers, ForFault}
 use Rattle.lafindry.specs.Writing.{Answers}
@@ -52,6 +53,9 @@ module _ (x : Setting) (e tr : List ℕ) where
   carry-source r j found {s} h =
       let accepted = tree-sound (x .source) s tr r (h .judges .source-sound) (h .source-stands) j found in
       record { form = accepted .form; holds = accepted .holds }
+
+  pub carry-short : (r : JudgedTree) → TreeJudged S tr r → r .judged ≡ Judged.Sound → {s t : List ℕ} → Standing s t e x → length tr ≤ 60000
+  carry-short r j found {s} h = tree-sound (x .source) s tr r (h .judges .source-sound) (h .source-stands) j found .short
 
   -- what it gives is the entry's answer
   pub carry-answers : (old new : List ℕ) (r : JudgedTree) (c : Carried) (a : Answer) → TreeJudged S tr r → r .judged ≡ Judged.Sound

@@ -109,8 +109,9 @@ worldOf x e tr =
     (x .target .heights) (x .embedding .targets) (x .embedding .starts) (x .embedding .lengths) e tr
 
 -- they can use it
-pub usable : {s t e : List ℕ} (x : Setting) (tr : List ℕ) → Standing s t e x → length (x .source .members) ≡ 1024 → length (x .target .members) ≡ 1024 → Usable (worldOf x e tr)
-usable x tr h first second = record { ready = standing-ready h; source-places = first; target-places = second }
+pub usable : {s t e : List ℕ} (x : Setting) (tr : List ℕ) → Standing s t e x → length (x .source .members) ≡ 1024 → length (x .target .members) ≡ 1024 → length tr ≤ 60000
+    → Usable (worldOf x e tr)
+usable x tr h first second short = record { ready = standing-ready h; source-places = first; target-places = second; short = short }
 
 -- what a known verdict says
 pub standing : (s t e : List ℕ) (r : JudgedSetting) → SettingJudged s t e r → r .verdict ≡ Verdict.Sound → Standing s t e (r .setting)

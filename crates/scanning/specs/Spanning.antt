@@ -1,8 +1,10 @@
 -- How far it is, from each offset of a document, to the 32 that closes the element around it.
-use mathlib.Core.Path.{_≡_}
+use mathlib.Core.Path.{_≡_, sym, ap, _∙_}
 use mathlib.Core.List.{List}
 use Prim.Native.Nat.{ℕ, _+_, _≤_, _<_}
-use lib.ListN.{length, getD}
+use native.Mathlib.Omega.{arith}
+use lib.ListN.{length, drop, getD, length-drop}
+use lib.Seq.{drop-drop, getD-drop}
 use Rattle.model.specs.Definitions.Content.{Content, bytes}
 use Rattle.scanning.specs.Scanning.{At}
 
@@ -23,3 +25,14 @@ pub record SpanAt (spans : List ℕ) (b o r : ℕ) : Type 0 where
   pub element : b ≡ 0x30 → o + 2 + getD spans (o + 2) 0 + 1 < length spans
       → r ≡ 2 + getD spans (o + 2) 0 + 1 + getD spans (o + 2 + getD spans (o + 2) 0 + 1) 0
   pub closing : (b ≡ 0x30 → ⊥) → (b ≡ 0x31 → ⊥) → r ≡ 0
+
+-- a part of the document and the same part of the distances
+pub spans-part : {tr spans part rest : List ℕ} (o : ℕ) → Spans tr spans → part ≡ drop o tr → rest ≡ drop o spans → Spans part rest
+spans-part {tr} {spans} {part} {rest} o s is-part is-rest =
+    record {
+      short = omega (arith, s .short, ap length is-part, length-drop o tr);
+      whole = omega (arith, s .whole, ap length is-part, ap length is-rest, length-drop o tr, length-drop o spans);
+      span-is = λ i k a.
+          let there : At tr (o + i) k = record { rest = a .rest; stands = sym (drop-drop i o tr) ∙ ap (drop i) (sym is-part) ∙ a .stands } in
+          ap (λ (xs : List ℕ). getD xs i 0) is-rest ∙ getD-drop o spans i 0 ∙ s .span-is (o + i) k there;
+    }

@@ -274,18 +274,16 @@ pub record Loading (bs : List ℕ) (a : Arrays) (at : ℕ) : Type 0 where
   limits-left : run tableWidth limitStep (λ n. true) count-state at (tableCommands (drop at bs)) ≡ passes
   loaded : Loaded form-state count-state a (tableTail (tableCommands (drop at bs))) (tableOf bs)
 
-pub loading-starts : {bs : List ℕ} {a : Arrays} → tableForm bs ≡ passes → tableLimits bs ≡ passes → a ≡ nothing → Loading bs a 0
+pub loading-starts : {bs : List ℕ} → tableForm bs ≡ passes → tableLimits bs ≡ passes → Loading bs nothing 0
 unfolding tableForm tableLimits tableOf continued nothing
-loading-starts {bs} {a} form limits e =
-    let there : Loaded noType (record { types = 0; members = 0 }) nothing (tableTail (tableCommands bs)) (tableOf bs)
-    = record { shaped = shaped-nothing; same-types = refl; in-state = tt; whole-table = refl } in
+loading-starts {bs} form limits =
     record {
       within = omega arith;
       form-state = noType;
       count-state = record { types = 0; members = 0 };
       form-left = form;
       limits-left = limits;
-      loaded = subst (λ b. Loaded noType (record { types = 0; members = 0 }) b (tableTail (tableCommands bs)) (tableOf bs)) (sym e) there;
+      loaded = record { shaped = shaped-nothing; same-types = refl; in-state = tt; whole-table = refl };
     }
 
 -- what a turn needs and gives

@@ -9,10 +9,11 @@ use table_checks::command::TableCommand;
 use table_checks::command::command_at;
 use table_checks::command::width;
 ghost use mathlib.Core.Path.{_≡_};
+ghost use Prim.Native.Nat.{_+_, _*_, _<_};
+ghost use lib.ListN.{getD, set};
 ghost use Rattle.model.specs.Definitions.Basics.{passes};
 ghost use Rattle.model.specs.Definitions.TableChecks.{tableForm, tableLimits};
-ghost use Rattle.table_checks.specs.Read.{command};
-ghost use Rattle.table_load.specs.Loading.{nothing, begun, joined, puts, Begins, Joins, Room, LoadedAs};
+ghost use Rattle.table_load.specs.Loading.{LoadedAs};
 
 // The types loaded so far: type t has the kind kinds[t] and the counts[t] members members[t * 16 ..]; a list's one member
 // is its item type. Entries that no command wrote are 0.
@@ -23,69 +24,24 @@ pub struct Arrays {
     pub members: [u8; 1024],
 }
 
-// The arrays with no type.
-fn none() -> Arrays
-    ensures { λ r. ⌜ r ≡ nothing ⌝ }
+// One type more, of a kind and without members, behind so many: how many types there are then.
+fn begin(kinds: &mut [u8; 64], types: usize, kind: u8) -> usize
+    requires { ⌜ types < 64 ⌝ }
+    ensures { λ r. ⌜ (r ≡ types + 1) × (now (kinds .exit) ≡ set (now (kinds .entry)) types kind) ⌝ }
 {
-    let kinds = [0u8; 64];
-    let counts = [0u8; 64];
-    let members = [0u8; 1024];
-    Arrays {
-        types: 0,
-        kinds: kinds,
-        counts: counts,
-        members: members,
-    }
+    kinds[types] = kind;
+    types + 1
 }
 
-// The byte as an index.
-fn wide(b: u8) -> usize
-    ensures { λ r. ⌜ r ≡ b ⌝ }
+// One member more of a type.
+fn join(counts: &mut [u8; 64], members: &mut [u8; 1024], t: usize, member: u8)
+    requires { ⌜ (t < 64) × (getD (now counts) t 0 < 16) ⌝ }
+    ensures { λ r. ⌜ (now (counts .exit) ≡ set (now (counts .entry)) t (getD (now (counts .entry)) t 0 + 1)) × (now (members .exit) ≡ set (now (members .entry)) (t * 16 + getD (now (counts .entry)) t 0) member) ⌝ }
 {
-    b as usize
-}
-
-// The arrays with one type more, of a kind and without members.
-fn begin(a: Arrays, kind: u8) -> Arrays
-    requires { ⌜ Begins a ⌝ }
-    ensures { λ r. ⌜ r ≡ begun a kind ⌝ }
-{
-    let mut r = a;
-    let n = r.types;
-    r.kinds[n] = kind;
-    r.types = n + 1;
-    r
-}
-
-// The arrays with one member more of the last type.
-fn join(a: Arrays, member: u8) -> Arrays
-    requires { ⌜ Joins a ⌝ }
-    ensures { λ r. ⌜ r ≡ joined a member ⌝ }
-{
-    let mut r = a;
-    let last = r.types - 1;
-    let count = r.counts[last];
-    let place = last * 16 + wide(count);
-    r.members[place] = member;
-    r.counts[last] = count + 1;
-    r
-}
-
-// The arrays with what one command says.
-fn put(a: Arrays, c: TableCommand) -> Arrays
-    requires { ⌜ Room a (command c) ⌝ }
-    ensures { λ r. ⌜ r ≡ puts a (command c) ⌝ }
-{
-    match c {
-        TableCommand::Text => begin(a, TEXT),
-        TableCommand::Empty => begin(a, EMPTY),
-        TableCommand::Sequence => begin(a, SEQUENCE),
-        TableCommand::Choice => begin(a, CHOICE),
-        TableCommand::List(t) => join(begin(a, LIST), t),
-        TableCommand::Member(t) => join(a, t),
-        TableCommand::End => a,
-        TableCommand::Alien => a,
-    }
+    let count = counts[t];
+    let place = t * 16 + count as usize;
+    members[place] = member;
+    counts[t] = count + 1;
 }
 
 // The table that a document of the right form and within the limits writes. Each turn of the loop puts one command: what
@@ -95,12 +51,32 @@ pub fn load(t: &[u8]) -> Arrays
     requires { ⌜ tableLimits (now t) ≡ passes ⌝ }
     ensures { λ r. ⌜ LoadedAs (now (t .entry)) r ⌝ }
 {
-    let mut a = none();
-    let mut at = 0;
+    let mut types: usize = 0;
+    let mut kinds = [0u8; 64];
+    let mut counts = [0u8; 64];
+    let mut members = [0u8; 1024];
+    let mut at: usize = 0;
     while at < t.len() {
         let c = command_at(t, at);
-        a = put(a, c);
+        match c {
+            TableCommand::Text => types = begin(&mut kinds, types, TEXT),
+            TableCommand::Empty => types = begin(&mut kinds, types, EMPTY),
+            TableCommand::Sequence => types = begin(&mut kinds, types, SEQUENCE),
+            TableCommand::Choice => types = begin(&mut kinds, types, CHOICE),
+            TableCommand::List(m) => {
+                types = begin(&mut kinds, types, LIST);
+                join(&mut counts, &mut members, types - 1, m);
+            }
+            TableCommand::Member(m) => join(&mut counts, &mut members, types - 1, m),
+            TableCommand::End => {}
+            TableCommand::Alien => {}
+        }
         at += width(c);
     }
-    a
+    Arrays {
+        types: types,
+        kinds: kinds,
+        counts: counts,
+        members: members,
+    }
 }

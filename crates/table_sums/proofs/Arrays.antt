@@ -46,3 +46,11 @@ filled-more f z n xs v within e h =
         let here : n < length xs = omega (arith, h .long) in
         rw same (getD-set-same xs n v z here ∙ e)
     below k low false q = getD-set-other xs n k v z (eqb-false k n q) ∙ h .done k (omega (arith, eqb-false k n q))
+
+-- arrays that agree below n, and at n, agree below n + 1
+pub same-more : (xs ys : List ℕ) (n : ℕ) → getD xs n 0 ≡ getD ys n 0 → ((k : ℕ) → k < n → getD xs k 0 ≡ getD ys k 0) → (k : ℕ) → k < n + 1 → getD xs k 0 ≡ getD ys k 0
+same-more xs ys n here before k low = go (eqb k n) refl
+  where
+    go : (b : Bool) → eqb k n ≡ b → getD xs k 0 ≡ getD ys k 0
+    go true q = rw (eqb-true k n q) here
+    go false q = before k (omega (arith, eqb-false k n q))

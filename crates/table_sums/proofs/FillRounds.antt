@@ -1,12 +1,14 @@
 -- Filler lengths by rounds: sums of held values, held, are the sums held, so the arrays hold the model's lengths at
 -- 60,001 after each round.
-use mathlib.Core.Path.{_≡_, refl, sym, ap, _∙_}
+use mathlib.Core.Path.{_≡_, refl, sym, ap, _∙_, subst}
 use mathlib.Core.Bool.{Bool, true, false}
 use mathlib.Core.List.{List, [], _∷_, map}
-use Prim.Native.Nat.{ℕ, suc, _+_, _≤_, _<_, min}
+use Prim.Native.Nat.{ℕ, zero, suc, _+_, _-_, _≤_, _<_, min}
+use native.Mathlib.Nat.{zero-add}
 use native.Mathlib.Numerals.{add-one}
 use native.Mathlib.Omega.{arith}
-use lib.ListN.{length, replicate, length-map, length-replicate, List·getD-eq-default}
+use lib.ListN.{length, getD, replicate, length-map, length-replicate, List·getD-eq-default}
+use lib.Seq.{ext-getD}
 use lib.Dec.{leb}
 use borrow.Author.Tests.{leb-true, leb-false}
 use Rattle.dtd.specs.Loaded.{tableIn, kindIn, length-in}
@@ -102,6 +104,21 @@ fill-to-more T n hs fill xs heights-held holds round =
         ∙ ap (min 60001) (getD-of-map (fillOfKind hs fill) T t empty 3 here)
         ∙ kind-held (fillTo lengthOf (heights T) T n) fill (λ m. holds .fill-to-at m) hs (heights T) (heights-same T hs heights-held) (kindOf T t)
         ∙ ap (λ (k : ℕ). min 60001 (3 + k)) (sym (round-type T n t here))
+
+-- where a round changes nothing, so do all that come after it
+fill-to-stays : (T : Table) (k n : ℕ) (hs fill : List ℕ) → HoldsHeights T hs → HoldsFillTo T n fill → HoldsFillRound hs fill T fill → HoldsFillTo T (k + n) fill
+fill-to-stays T zero n hs fill heights-held holds round = rw zero-add holds
+fill-to-stays T (suc k) n hs fill heights-held holds round =
+    let more : suc k + n ≡ k + n + 1 = omega arith in
+    rw more (fill-to-more T (k + n) hs fill fill heights-held (fill-to-stays T k n hs fill heights-held holds round) round)
+
+pub fill-to-last : (T : Table) (n types : ℕ) (hs fill xs : List ℕ) → HoldsHeights T hs → n ≤ types → HoldsFillTo T n fill → HoldsFillRound hs fill T xs
+    → ((t : ℕ) → t < 64 → getD fill t 0 ≡ getD xs t 0) → HoldsFillTo T types fill
+fill-to-last T n types hs fill xs heights-held low holds round same =
+    let long : length fill ≡ length xs = holds .entries ∙ sym (round .within) in
+    let kept : fill ≡ xs = ext-getD 0 fill xs long (λ t here. same t (rw (holds .entries) at here)) in
+    let all : types - n + n ≡ types = omega arith in
+    subst (λ k. HoldsFillTo T k fill) all (fill-to-stays T (types - n) n hs fill heights-held holds (subst (HoldsFillRound hs fill T) (sym kept) round))
 
 -- after as many rounds as there are types the array holds the lengths
 pub fill-to-all : (T : Table) (types n : ℕ) (fill : List ℕ) → length T ≡ types → types ≤ 64 → n ≡ types → HoldsFillTo T n fill → HoldsFill T fill

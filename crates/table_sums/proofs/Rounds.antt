@@ -1,107 +1,217 @@
--- Heights by rounds: an array that is filled type by type holds a round, and after one round more than there are types
--- it holds the heights.
-use mathlib.Core.Path.{_≡_, refl, sym, ap, ap₂, _∙_}
+-- Heights by rounds in place: after n rounds they are at least the heights held at n, and never above the heights, so
+-- after one round more than there are types, or once a round changes nothing, they are the heights.
+use mathlib.Core.Path.{_≡_, refl, sym, ap, _∙_, subst}
 use mathlib.Core.Bool.{Bool, true, false}
 use mathlib.Core.List.{List, [], _∷_, map}
-use Prim.Native.Nat.{ℕ, suc, _+_, _≤_, _<_, min, max}
+use Prim.Native.Nat.{ℕ, zero, suc, _+_, _-_, _≤_, _<_, min}
+use native.Mathlib.Nat.{zero-add, suc-add}
 use native.Mathlib.Numerals.{add-one}
 use native.Mathlib.Omega.{arith}
-use lib.ListN.{length, getD, replicate, length-map, List·getD-eq-default}
-use lib.Dec.{leb}
-use borrow.Author.Tests.{leb-true, leb-false}
+use lib.ListN.{length, getD, set, replicate, length-set, length-replicate}
+use lib.Seq.{getD-set-same, getD-set-other, set-getD}
+use lib.Dec.{eqb}
+use borrow.Author.Tests.{eqb-true, eqb-false}
 use Rattle.dtd.specs.Loaded.{tableIn, kindIn, length-in, kind-in}
 use Rattle.model.specs.Definitions.Table.{Kind, text, empty, sequence, choice, list, Table, kindOf}
 use Rattle.model.specs.Definitions.Heights.{heightIn, highest, lowest, heightOfKind, heightsTo, heights}
-use Rattle.model.specs.Theorems.HeightLaws.{getD-of-map, held-next}
-use Rattle.table_sums.specs.Sums.{AtMost, HoldsRound, HoldsHeights}
-use Rattle.table_sums.proofs.Arrays.{Filled, filled-none}
+use Rattle.model.specs.Theorems.HeightLaws.{getD-of-map, height-round, height-beyond, held-next}
+use Rattle.model.specs.Theorems.Tools.{true-false}
+use Rattle.table_sums.specs.Sums.{AtMost, HoldsRound, HoldsHeights, nextHeight, raised}
+use Rattle.table_sums.proofs.Arrays.{filled-none}
 
--- An entry of what is made of each type of a loaded table: of the type's kind, and the other value beyond the types.
-module _ (f : Kind → ℕ) (types : ℕ) (kinds counts members : List ℕ) (z : ℕ) where
-  pub of-type : (t : ℕ) → t < types → getD (map f (tableIn types kinds counts members)) t z ≡ f (kindIn kinds counts members t)
-  unfolding kindOf
-  of-type t here =
-      let within : t < length (tableIn types kinds counts members) = rw length-in here in
-      getD-of-map f (tableIn types kinds counts members) t empty z within ∙ ap f (kind-in types kinds counts members t here)
+-- An entry of what is made of each type of a loaded table: of the type's kind.
+pub of-type : (f : Kind → ℕ) (types : ℕ) (kinds counts members : List ℕ) (z t : ℕ) → t < types → getD (map f (tableIn types kinds counts members)) t z ≡ f (kindIn kinds counts members t)
+unfolding kindOf
+of-type f types kinds counts members z t here =
+    let within : t < length (tableIn types kinds counts members) = rw length-in here in
+    getD-of-map f (tableIn types kinds counts members) t empty z within ∙ ap f (kind-in types kinds counts members t here)
 
-  pub beyond-types : (t : ℕ) → types ≤ t → getD (map f (tableIn types kinds counts members)) t z ≡ z
-  beyond-types t past =
-      let long : length (map f (tableIn types kinds counts members)) ≤ t = rw (length-map, length-in) past in
-      List·getD-eq-default (map f (tableIn types kinds counts members)) z long
+-- ---- one entry written
 
--- the next height of a type
-abbrev pub nextHeight : List ℕ → List ℕ → List ℕ → List ℕ → ℕ → ℕ
-nextHeight hs kinds counts members t = heightOfKind hs (kindIn kinds counts members t)
-
--- an array that is filled with the next heights holds the round
-pub round-done : (hs : List ℕ) (types : ℕ) (kinds counts members xs : List ℕ)
-    → Filled (nextHeight hs kinds counts members) 0 types xs → HoldsRound hs (tableIn types kinds counts members) xs
-unfolding heightIn
-round-done hs types kinds counts members xs filled = record { round-at = λ t. at t (leb types t) refl }
+-- what holds of the new entry and of the others holds of all
+at-set : (P : ℕ → ℕ → Type 0) (xs : List ℕ) (i v : ℕ) → i < length xs → P i v → ((m : ℕ) → (m ≡ i → ⊥) → P m (getD xs m 0)) → (m : ℕ) → P m (getD (set xs i v) m 0)
+at-set P xs i v within new old m = go (eqb m i) refl
   where
-    at : (t : ℕ) (b : Bool) → leb types t ≡ b → getD xs t 0 ≡ getD (map (heightOfKind hs) (tableIn types kinds counts members)) t 0
-    at t true e =
-        filled .rest t (leb-true types t e) ∙ sym (beyond-types (heightOfKind hs) types kinds counts members 0 t (leb-true types t e))
-    at t false e =
-        filled .done t (leb-false types t e) ∙ sym (of-type (heightOfKind hs) types kinds counts members 0 t (leb-false types t e))
+    go : (b : Bool) → eqb m i ≡ b → P m (getD (set xs i v) m 0)
+    go true e =
+        let there : P i (getD (set xs i v) i 0) = subst (P i) (sym (getD-set-same xs i v 0 within)) new in
+        subst (λ k. P k (getD (set xs i v) k 0)) (sym (eqb-true m i e)) there
+    go false e = subst (P m) (sym (getD-set-other xs i m v 0 (eqb-false m i e))) (old m (eqb-false m i e))
 
--- an array holds the heights of n rounds
+-- a bound stays
+pub low-set : (bound : ℕ) (xs : List ℕ) (i v : ℕ) → i < length xs → v ≤ bound → AtMost bound xs → AtMost bound (set xs i v)
+low-set bound xs i v within new old = record { low = at-set (λ m x. x ≤ bound) xs i v within new (λ m other. old .low m) }
+
+-- a higher bound holds too
+pub low-more : (bound more : ℕ) (hs : List ℕ) → bound ≤ more → AtMost bound hs → AtMost more hs
+low-more bound more hs h low = record { low = λ t. omega (arith, low .low t) }
+
+-- ---- one round
+
+-- lower heights of members give lower heights of kinds
+module _ (hs gs : List ℕ) (lower : (t : ℕ) → heightIn hs t ≤ heightIn gs t) where
+  highest-lower : (ms : List ℕ) → highest hs ms ≤ highest gs ms
+  unfolding highest
+  highest-lower [] = omega arith
+  highest-lower (m ∷ ms) = omega (arith, lower m, highest-lower ms)
+
+  lowest-lower : (ms : List ℕ) → lowest hs ms ≤ lowest gs ms
+  unfolding lowest
+  lowest-lower [] = omega arith
+  lowest-lower (m ∷ []) = lower m
+  lowest-lower (m ∷ n ∷ ms) = omega (arith, lower m, lowest-lower (n ∷ ms))
+
+  kind-lower : (κ : Kind) → heightOfKind hs κ ≤ heightOfKind gs κ
+  unfolding heightOfKind
+  kind-lower text = omega arith
+  kind-lower empty = omega arith
+  kind-lower (sequence ms) = omega (arith, highest-lower ms)
+  kind-lower (choice ms) = omega (arith, lowest-lower ms)
+  kind-lower (list m) = omega arith
+
+raised-long : (T : Table) (t : ℕ) (hs : List ℕ) → length (raised T t hs) ≡ length hs
+unfolding raised
+raised-long T zero hs = refl
+raised-long T (suc t) hs = raised-long T t (set hs t (nextHeight T hs t)) ∙ length-set hs t (nextHeight T hs t)
+
+module _ (T : Table) (few : length T ≤ 64) where
+  -- Where the heights are at least those held at n, and those from t on at least those held at n + 1, all are so after the
+  -- round, while n is not above the number of types.
+  raised-above : (n : ℕ) → n ≤ length T → (t : ℕ) (hs : List ℕ) → t ≤ length T → length hs ≡ 64
+      → ((m : ℕ) → heightIn (heightsTo T n) m ≤ getD hs m 0) → ((m : ℕ) → t ≤ m → heightIn (heightsTo T (suc n)) m ≤ getD hs m 0)
+      → (m : ℕ) → heightIn (heightsTo T (suc n)) m ≤ getD (raised T t hs) m 0
+  unfolding raised heightIn
+  raised-above n low zero hs within long old done m = done m (omega arith)
+  raised-above n low (suc t) hs within long old done m =
+      let v = nextHeight T hs t in
+      let there : t < length hs = rw long (omega arith) in
+      let new : heightIn (heightsTo T (suc n)) t ≤ v
+      = omega (arith, height-round T n t (omega arith), kind-lower (heightsTo T n) hs old (kindOf T t), held-next T (suc n) t) in
+      raised-above n low t (set hs t v) (omega arith) (length-set hs t v ∙ long)
+      (at-set (λ k x. heightIn (heightsTo T n) k ≤ x) hs t v there (omega (arith, new, held-next T n t)) (λ k other. old k))
+      (at-set (λ k x. t ≤ k → heightIn (heightsTo T (suc n)) k ≤ x) hs t v there (λ h. new) (λ k other h. done k (omega (arith, other))))
+      m
+
+  -- the heights are their own next heights
+  height-fixed : (t : ℕ) → t < length T → heightIn (heights T) t ≡ nextHeight T (heights T) t
+  unfolding heights
+  height-fixed t exists = omega (arith, held-next T (suc (length T)) t, height-round T (suc (length T)) t exists)
+
+  -- no round comes above the heights
+  raised-below : (t : ℕ) (hs : List ℕ) → t ≤ length T → length hs ≡ 64 → ((m : ℕ) → getD hs m 0 ≤ heightIn (heights T) m) → (m : ℕ) → getD (raised T t hs) m 0 ≤ heightIn (heights T) m
+  unfolding raised heightIn
+  raised-below zero hs within long old m = old m
+  raised-below (suc t) hs within long old m =
+      let v = nextHeight T hs t in
+      let there : t < length hs = rw long (omega arith) in
+      let new : v ≤ heightIn (heights T) t = omega (arith, height-fixed t (omega arith), kind-lower hs (heights T) old (kindOf T t)) in
+      raised-below t (set hs t v) (omega arith) (length-set hs t v ∙ long) (at-set (λ k x. x ≤ heightIn (heights T) k) hs t v there new (λ k other. old k)) m
+
+-- the next height of a type of a loaded table
+pub next-is : (types : ℕ) (kinds counts members hs : List ℕ) (t : ℕ) {h v : ℕ} → t < types → h ≡ heightOfKind hs (kindIn kinds counts members t) → v ≡ min (types + 1) h
+    → v ≡ nextHeight (tableIn types kinds counts members) hs t
+next-is types kinds counts members hs t here e f = rw (length-in types kinds counts members, kind-in types kinds counts members t here, ← e) f
+
+-- in a round that began with some heights, the types below t are still to do
+pub record Raising (T : Table) (before : List ℕ) (t : ℕ) (hs : List ℕ) (changed : Bool) : Type 0 where
+  pub within : t ≤ length T
+  pub entries : length hs ≡ 64
+  pub bounded : AtMost (length T + 1) hs
+  whole : raised T t hs ≡ raised T (length T) before
+  none-yet : changed ≡ false → hs ≡ before
+
+pub raising-starts : (T : Table) (hs : List ℕ) → length hs ≡ 64 → AtMost (length T + 1) hs → Raising T hs (length T) hs false
+raising-starts T hs long low = record { within = omega arith; entries = long; bounded = low; whole = refl; none-yet = λ e. refl }
+
+-- a type's height is found anew
+raising-written : (T : Table) (before : List ℕ) (t : ℕ) (hs : List ℕ) (changed later : Bool) (v : ℕ) → length T ≤ 64 → v ≡ nextHeight T hs t → Raising T before (suc t) hs changed
+    → (later ≡ false → set hs t v ≡ before) → Raising T before t (set hs t v) later
+unfolding raised
+raising-written T before t hs changed later v few e h none =
+    let below : t < length T = h .within in
+    record {
+      within = omega arith;
+      entries = length-set hs t v ∙ h .entries;
+      bounded = low-set (length T + 1) hs t v (rw (h .entries) (omega arith)) (omega arith) (h .bounded);
+      whole = ap (λ x. raised T t (set hs t x)) e ∙ h .whole;
+      none-yet = none;
+    }
+
+-- it is another
+pub raising-changed : {T : Table} {before : List ℕ} (t : ℕ) {hs : List ℕ} {changed : Bool} {v : ℕ} → length T ≤ 64 → 0 < t → v ≡ nextHeight T hs (t - 1) → Raising T before t hs changed
+    → Raising T before (t - 1) (set hs (t - 1) v) true
+raising-changed zero few some e h = absurd (omega arith)
+raising-changed {T} {before} (suc t) {hs} {changed} {v} few some e h =
+    let less : suc t - 1 ≡ t = omega arith in
+    subst (λ k. Raising T before k (set hs k v) true) (sym less) (raising-written T before t hs changed true v few (rw less at e) h (λ q. true-false refl q))
+
+-- it is the same
+pub raising-kept : {T : Table} {before : List ℕ} (t : ℕ) {hs : List ℕ} {changed : Bool} {v : ℕ} → length T ≤ 64 → 0 < t → v ≡ nextHeight T hs (t - 1) → getD hs (t - 1) 0 ≡ v
+    → Raising T before t hs changed → Raising T before (t - 1) hs changed
+raising-kept zero few some e same h = absurd (omega arith)
+raising-kept {T} {before} (suc t) {hs} {changed} {v} few some e same h =
+    let less : suc t - 1 ≡ t = omega arith in
+    let there : getD hs t 0 ≡ v = rw less at same in
+    let kept : set hs t v ≡ hs = ap (set hs t) (sym there) ∙ set-getD hs t 0 in
+    subst (λ k. Raising T before k hs changed) (sym less)
+    (subst (λ xs. Raising T before t xs changed) kept (raising-written T before t hs changed changed v few (rw less at e) h (λ q. kept ∙ h .none-yet q)))
+
+pub raising-ends : {T : Table} {before : List ℕ} {t : ℕ} {hs : List ℕ} {changed : Bool} → t ≡ 0 → Raising T before t hs changed → HoldsRound T before hs changed
+unfolding raised
+raising-ends {T} {before} {t} {hs} e h = record { round = ap (λ k. raised T k hs) (sym e) ∙ h .whole; unchanged = h .none-yet }
+
+-- ---- all rounds
+
+-- an array of heights that are at least those held at n, and not above the heights
 pub record HoldsTo (T : Table) (n : ℕ) (hs : List ℕ) : Type 0 where
-  pub to-at : (t : ℕ) → getD hs t 0 ≡ heightIn (heightsTo T n) t
+  pub entries : length hs ≡ 64
+  pub above : (t : ℕ) → heightIn (heightsTo T n) t ≤ getD hs t 0
+  pub below : (t : ℕ) → getD hs t 0 ≤ heightIn (heights T) t
 
 -- before the first round all are 0
 pub to-none : (T : Table) → HoldsTo T 0 (replicate 64 0)
-unfolding heightsTo heightIn
-to-none T = record { to-at = λ t. filled-none (λ k. 0) 0 .rest t (omega arith) }
-
--- the heights of n rounds are at most n
-pub to-low : (T : Table) (n bound : ℕ) (hs : List ℕ) → n ≤ bound → HoldsTo T n hs → AtMost bound hs
-to-low T n bound hs few holds = record { low = λ t. omega (arith, holds .to-at t, held-next T n t) }
-
--- lists with the same heights give kinds the same heights
-module _ (hs gs : List ℕ) (same : (t : ℕ) → heightIn hs t ≡ heightIn gs t) where
-  highest-same : (ms : List ℕ) → highest hs ms ≡ highest gs ms
-  unfolding highest
-  highest-same [] = refl
-  highest-same (m ∷ ms) = ap₂ max (same m) (highest-same ms)
-
-  lowest-same : (ms : List ℕ) → lowest hs ms ≡ lowest gs ms
-  unfolding lowest
-  lowest-same [] = refl
-  lowest-same (m ∷ []) = same m
-  lowest-same (m ∷ n ∷ ms) = ap₂ min (same m) (lowest-same (n ∷ ms))
-
-  kind-same : (κ : Kind) → heightOfKind hs κ ≡ heightOfKind gs κ
-  unfolding heightOfKind
-  kind-same text = refl
-  kind-same empty = refl
-  kind-same (sequence ms) = ap suc (highest-same ms)
-  kind-same (choice ms) = ap suc (lowest-same ms)
-  kind-same (list m) = refl
-
--- equal functions make equal lists
-pub map-same : (f g : Kind → ℕ) → ((κ : Kind) → f κ ≡ g κ) → (T : Table) → map f T ≡ map g T
-map-same f g same [] = refl
-map-same f g same (κ ∷ T) = ap₂ (λ (x : ℕ) (xs : List ℕ). x ∷ xs) (same κ) (map-same f g same T)
-
--- the array as a list of heights
-to-same : (T : Table) (n : ℕ) (hs : List ℕ) → HoldsTo T n hs → (t : ℕ) → heightIn hs t ≡ heightIn (heightsTo T n) t
-unfolding heightIn
-to-same T n hs holds t = holds .to-at t
-
--- a round more
-pub to-more : (T : Table) (n : ℕ) (hs xs : List ℕ) → HoldsTo T n hs → HoldsRound hs T xs → HoldsTo T (n + 1) xs
-unfolding heightsTo
-to-more T n hs xs holds round =
+to-none T =
     record {
-      to-at = λ t. round .round-at t
-          ∙ ap (λ (l : List ℕ). heightIn l t) (map-same (heightOfKind hs) (heightOfKind (heightsTo T n)) (kind-same hs (heightsTo T n) (to-same T n hs holds)) T)
-          ∙ ap (λ (k : ℕ). heightIn (heightsTo T k) t) (sym (add-one n));
+      entries = length-replicate {A = ℕ} 64 0;
+      above = λ t. omega (arith, held-next T 0 t);
+      below = λ t. omega (arith, filled-none (λ k. 0) 0 .rest t (omega arith));
     }
 
--- after one round more than there are types the array holds the heights
+-- they are at most one more than the number of types
+pub to-low : (T : Table) (n types : ℕ) (hs : List ℕ) → length T ≡ types → HoldsTo T n hs → AtMost (types + 1) hs
+unfolding heights
+to-low T n types hs long holds = record { low = λ t. omega (arith, holds .below t, held-next T (suc (length T)) t) }
+
+-- a round more
+to-next : (T : Table) (n : ℕ) (hs : List ℕ) → length T ≤ 64 → n ≤ length T → HoldsTo T n hs → HoldsTo T (suc n) (raised T (length T) hs)
+to-next T n hs few low holds =
+    record {
+      entries = raised-long T (length T) hs ∙ holds .entries;
+      above = raised-above T few n low (length T) hs (omega arith) (holds .entries) (holds .above) (λ m past. omega (arith, height-beyond T (suc n) m past));
+      below = raised-below T few (length T) hs (omega arith) (holds .entries) (holds .below);
+    }
+
+pub to-more : {T : Table} {n : ℕ} {hs xs : List ℕ} {changed : Bool} → length T ≤ 64 → n ≤ length T → HoldsTo T n hs → HoldsRound T hs xs changed → HoldsTo T (n + 1) xs
+to-more {T} {n} {hs} {xs} few low holds h = rw (add-one n, h .round) (to-next T n hs few low holds)
+
+-- where a round changes nothing, so do all that come after it
+to-stays : (T : Table) (k n : ℕ) (hs : List ℕ) → length T ≤ 64 → k + n ≤ length T + 1 → HoldsTo T n hs → raised T (length T) hs ≡ hs → HoldsTo T (k + n) hs
+to-stays T zero n hs few low holds e = rw zero-add holds
+to-stays T (suc k) n hs few low holds e =
+    let more : suc k + n ≡ suc (k + n) = suc-add k n in
+    let before = to-stays T k n hs few (omega arith) holds e in
+    subst (λ j. HoldsTo T j hs) (sym more) (subst (HoldsTo T (suc (k + n))) e (to-next T (k + n) hs few (omega arith) before))
+
+pub to-last : {T : Table} {n types : ℕ} {hs xs : List ℕ} {changed : Bool} → length T ≡ types → length T ≤ 64 → n ≤ length T → HoldsTo T n hs → HoldsRound T hs xs changed → changed ≡ false
+    → HoldsTo T (types + 1) xs
+to-last {T} {n} {types} {hs} {xs} long few low holds h e =
+    let kept : xs ≡ hs = h .unchanged e in
+    let all : length T + 1 - n + n ≡ types + 1 = omega arith in
+    rw (kept, ← all) (to-stays T (length T + 1 - n) n hs few (omega arith) holds (sym (h .round) ∙ kept))
+
+-- after one round more than there are types they are the heights
 pub to-all : (T : Table) (types n : ℕ) (hs : List ℕ) → length T ≡ types → n ≡ suc types → HoldsTo T n hs → HoldsHeights T hs
 unfolding heights
 to-all T types n hs long e holds =
     let same : n ≡ suc (length T) = omega arith in
-    record { height-at = λ t. holds .to-at t ∙ ap (λ (k : ℕ). heightIn (heightsTo T k) t) same }
+    record { height-at = λ t. omega (arith, holds .below t, subst (λ k. heightIn (heightsTo T k) t ≤ getD hs t 0) same (holds .above t)) }

@@ -2,10 +2,10 @@
 use mathlib.Core.Path.{_≡_}
 use mathlib.Core.Bool.{Bool, true, false}
 use mathlib.Core.List.{List, [], _∷_, map}
-use Prim.Native.Nat.{ℕ, _+_, _*_, _≤_, _<_, min}
-use lib.ListN.{length, getD}
+use Prim.Native.Nat.{ℕ, zero, suc, _+_, _*_, _≤_, _<_, min}
+use lib.ListN.{length, getD, set}
 use lib.Dec.{leb}
-use Rattle.model.specs.Definitions.Table.{Kind, text, empty, sequence, choice, list, Table}
+use Rattle.model.specs.Definitions.Table.{Kind, text, empty, sequence, choice, list, Table, kindOf}
 use Rattle.model.specs.Definitions.Heights.{heightIn, heightOfKind, heights, leastMember}
 use Rattle.model.specs.Definitions.Filler.{fillerLength}
 
@@ -19,9 +19,19 @@ pub record HoldsHeights (T : Table) (hs : List ℕ) : Type 0 where
 pub record AtMost (bound : ℕ) (hs : List ℕ) : Type 0 where
   pub low : (t : ℕ) → getD hs t 0 ≤ bound
 
--- an array holds a round of heights: those of the kinds of T by the heights of the round before
-pub record HoldsRound (before : List ℕ) (T : Table) (hs : List ℕ) : Type 0 where
-  pub round-at : (t : ℕ) → getD hs t 0 ≡ heightIn (map (heightOfKind before) T) t
+-- the next height of a type, held at one more than the number of types
+abbrev pub nextHeight : Table → List ℕ → ℕ → ℕ
+nextHeight T hs t = min (length T + 1) (heightOfKind hs (kindOf T t))
+
+-- the heights after those of the types below a number are found anew, from the last to the first
+unfoldable pub raised : Table → ℕ → List ℕ → List ℕ
+raised T zero hs = hs
+raised T (suc t) hs = raised T t (set hs t (nextHeight T hs t))
+
+-- after a round of heights in place; where none is said to have changed, none has
+pub record HoldsRound (T : Table) (before hs : List ℕ) (changed : Bool) : Type 0 where
+  pub round : hs ≡ raised T (length T) before
+  pub unchanged : changed ≡ false → hs ≡ before
 
 -- ---- sets of types as bits
 

@@ -1,12 +1,13 @@
 // What is kept with each type of a loaded table: its height, whether it has a finite instance, and the byte length of a
-// filler element of it. Heights and lengths are found by rounds, each from the round before; specs/Sums.antt says what
-// the arrays hold.
+// filler element of it. They are found by rounds until one changes nothing: heights in place, lengths each from the round
+// before. specs/Sums.antt says what the arrays hold.
 //
 // In all functions, `kinds`, `counts` and `members` are a loaded table's arrays (crate dtd).
 
 use answers::Verdict;
 ghost use mathlib.Core.Path.{_≡_};
-ghost use Prim.Native.Nat.{_+_, _≤_, _<_, min};
+ghost use mathlib.Core.Bool.{true};
+ghost use Prim.Native.Nat.{ℕ, _+_, _≤_, _<_, min};
 ghost use lib.ListN.{length, take, drop, getD};
 ghost use Rattle.answers.specs.Answers.{verdict};
 ghost use Rattle.dtd.specs.Loaded.{tableIn, kindIn, Bounded};
@@ -83,7 +84,7 @@ fn height_of<'a>(
     heights: &[u8; 64],
     t: usize,
 ) -> u8
-    requires { ⌜ (t < 64) × (getD (now counts) t 0 ≤ 16) × AtMost 64 (now heights) ⌝ }
+    requires { ⌜ (t < 64) × (getD (now counts) t 0 ≤ 16) × AtMost 65 (now heights) ⌝ }
     ensures { λ r. ⌜ r ≡ model.heightOfKind (now (heights .entry)) (kindIn (now (kinds .entry)) (now (counts .entry)) (now (members .entry)) t) ⌝ }
 {
     let count = counts[t] as usize;
@@ -94,27 +95,45 @@ fn height_of<'a>(
     }
 }
 
-// The next round of heights. The loop has stored those of the types below t.
+// A height, held at one more than the number of types.
+fn held_height(types: usize, h: u8) -> u8
+    requires { ⌜ types ≤ 64 ⌝ }
+    ensures { λ r. ⌜ r ≡ min (types + 1) h ⌝ }
+{
+    if h as usize <= types {
+        h
+    } else {
+        types as u8 + 1
+    }
+}
+
+// A round of heights in place, from the last type to the first, and whether it changed one. Most types come before their
+// members, and then one round finds all heights. The loop has still to do the types below t.
 fn height_round<'a>(
     types: usize,
     kinds: &'a [u8; 64],
     counts: &'a [u8; 64],
     members: &'a [u8; 1024],
-    heights: &[u8; 64],
-) -> [u8; 64]
-    requires { ⌜ Bounded types (now counts) × AtMost 64 (now heights) ⌝ }
-    ensures { λ r. ⌜ HoldsRound (now (heights .entry)) (tableIn types (now (kinds .entry)) (now (counts .entry)) (now (members .entry))) r ⌝ }
+    heights: &mut [u8; 64],
+) -> bool
+    requires { ⌜ Bounded types (now counts) × (length (now heights) ≡ 64) × AtMost (types + 1) (now heights) ⌝ }
+    ensures { λ r. ⌜ HoldsRound (tableIn types (now (kinds .entry)) (now (counts .entry)) (now (members .entry))) (now (heights .entry)) (now (heights .exit)) r ⌝ }
 {
-    let mut next = [0u8; 64];
-    let mut t = 0;
-    while t < types {
-        next[t] = height_of(kinds, counts, members, heights, t);
-        t += 1;
+    let mut changed = false;
+    let mut t = types;
+    while 0 < t {
+        t -= 1;
+        let h = held_height(types, height_of(kinds, counts, members, heights, t));
+        if heights[t] != h {
+            heights[t] = h;
+            changed = true;
+        }
     }
-    next
+    changed
 }
 
-// The heights of all types of a table. The loop holds the heights of n rounds.
+// The heights of all types of a table, by rounds until one changes nothing. After n rounds they are at least the heights
+// held at n.
 pub fn heights<'a>(
     types: usize,
     kinds: &'a [u8; 64],
@@ -127,8 +146,11 @@ pub fn heights<'a>(
     let mut found = [0u8; 64];
     let mut n = 0;
     while n <= types {
-        found = height_round(types, kinds, counts, members, &found);
-        n += 1;
+        if height_round(types, kinds, counts, members, &mut found) {
+            n += 1;
+        } else {
+            n = types + 1;
+        }
     }
     found
 }
@@ -245,7 +267,22 @@ fn fill_round<'a>(
     next
 }
 
-// The byte lengths of filler elements of all types, held at 60,001. The loop holds the lengths of n rounds.
+// Whether two arrays of filler lengths are the same. The loop has compared those of the types below t.
+fn same_lengths(a: &[u16; 64], b: &[u16; 64]) -> bool
+    ensures { λ r. ⌜ (r ≡ true → (t : ℕ) → t < 64 → getD (now (a .entry)) t 0 ≡ getD (now (b .entry)) t 0) ⌝ }
+{
+    let mut t = 0;
+    while t < 64 {
+        if a[t] != b[t] {
+            return false;
+        }
+        t += 1;
+    }
+    true
+}
+
+// The byte lengths of filler elements of all types, held at 60,001, by rounds until one changes nothing. The loop holds
+// the lengths of n rounds.
 pub fn fill_lengths<'a>(
     types: usize,
     kinds: &'a [u8; 64],
@@ -259,8 +296,13 @@ pub fn fill_lengths<'a>(
     let mut found = [3u16; 64];
     let mut n = 0;
     while n < types {
-        found = fill_round(types, kinds, counts, members, heights, &found);
-        n += 1;
+        let next = fill_round(types, kinds, counts, members, heights, &found);
+        if same_lengths(&found, &next) {
+            n = types;
+        } else {
+            found = next;
+            n += 1;
+        }
     }
     found
 }

@@ -1,4 +1,5 @@
 -- `bring_back` meets its contract: the buffers of either size are at least as long as the document.
+use native.Mathlib.Omega.{arith}
 use borrow.Author.Needs.{needs}
 use Rattle.bringing.proofs.bring_back.Statement.{statement}
 use Rattle.bringing.proofs.bring_back.Tie as tie
@@ -20,7 +21,7 @@ slice-aggregate-bring-through-3 c = search needs
 
 -- src/lib.rt:264:9
 bring-through-requires : tie.Need-bring-through-requires
-bring-through-requires c κs = (c .before .before .before .before .before .before .before .before .pre .0, (c .before .before .before .before .before .before .before .before .pre .1 .0, (c .before .before .before .before .before .before .before .before .pre .1 .1, (c .before .before .before .before .if1 .taken, c .before .before .before .before .if1 .taken, c .before .before .before .before .if1 .taken))))
+bring-through-requires c κs = (c .before .before .before .before .before .before .before .before .pre .0, (c .before .before .before .before .before .before .before .before .pre .1 .0, (c .before .before .before .before .before .before .before .before .pre .1 .1, (c .before .before .before .before .if1 .taken, c .before .before .before .before .if1 .taken, omega arith, c .before .before .before .before .if1 .taken))))
 
 -- src/lib.rt:264:9
 same-length : tie.Need-same-length
@@ -44,7 +45,7 @@ slice-aggregate-bring-through-6 c = search needs
 
 -- src/lib.rt:289:5
 bring-through-requires-2 : tie.Need-bring-through-requires-2
-bring-through-requires-2 c κs = (c .before .before .before .before .before .before .before .before .pre .0, (c .before .before .before .before .before .before .before .before .pre .1 .0, (c .before .before .before .before .before .before .before .before .pre .1 .1, (c .before .before .before .before .before .before .before .before .pre .1 .1 .short, c .before .before .before .before .before .before .before .before .pre .1 .1 .short, c .before .before .before .before .before .before .before .before .pre .1 .1 .short))))
+bring-through-requires-2 c κs = (c .before .before .before .before .before .before .before .before .pre .0, (c .before .before .before .before .before .before .before .before .pre .1 .0, (c .before .before .before .before .before .before .before .before .pre .1 .1, (c .before .before .before .before .before .before .before .before .pre .1 .1 .short, c .before .before .before .before .before .before .before .before .pre .1 .1 .short, omega arith, c .before .before .before .before .before .before .before .before .pre .1 .1 .short))))
 
 -- src/lib.rt:237:1
 same-length-2 : tie.Need-same-length-2

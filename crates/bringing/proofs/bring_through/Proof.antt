@@ -39,7 +39,7 @@ slice-aggregate-give c = sym (length-take-le _ _ (slice-reshare-prefix-give (c .
 give-requires : tie.Need-give-requires
 give-requires c κs =
     let given = c .before .before .before .before .before .before .before .before .before .before .before .before .before .before .before .before .before .before .before .before .before .pre in
-    (given .0, (given .1 .0, (given .1 .1 .0, (read-front (rw (c .before .before .before .before .read .given .1) at (c .before .before .before .before .before .before .before .before .read-back .ensures _ (given .1 .1 .0 .form))), given .1 .1 .1 .2))))
+    (given .0, (given .1 .0, (given .1 .1 .0, (read-front (given .1 .1 .1 .2) (rw (c .before .before .before .before .read .given .1) at (c .before .before .before .before .before .before .before .before .read-back .ensures _ (given .1 .1 .0 .form))), given .1 .1 .1 .3))))
 
 -- src/lib.rt:165:1
 same-length : tie.Need-same-length

@@ -1,9 +1,10 @@
+use Rattle.scanning.specs.Spanning.{spans-part}
 -- The cycle of calls {element, grow, items, placed, row}. The measure is what is left of the source from the current element on, and
 -- within one element the number of steps that are left; contracts ask for some placements, and promise for all.
 use Rattle.scanning.specs.Laws.{content-within}
 use Rattle.model.specs.Theorems.Measures.{unmarked}
-use Rattle.images.proofs.Reaching.{letters-of, inner-of, copy-room, letters-made, element-of, source-small, prepared-below, lists-of}
-use Rattle.images.proofs.Listing.{ListGoes, list-starts, list-within, list-done, item-there, item-task, item-room, item-left, list-further, usable-with}
+use Rattle.images.proofs.Reaching.{letters-of, inner-of, carried-within, copy-room, letters-made, element-of, source-small, prepared-below, lists-of}
+use Rattle.images.proofs.Listing.{ListGoes, list-starts, list-within, list-done, item-there, item-task, item-room, item-left, list-further, usable-part}
 use borrow.Rule.Slice.PartAt.{part-to-end}
 use Rattle.images.proofs.Turns.{RowGoes, row-starts, row-done, member-place, member-below, member-room, member-left}
 use Rattle.images.specs.Setting.{world}
@@ -11,6 +12,7 @@ use mathlib.Core.Path.{sym, _∙_}
 use Rattle.images.proofs.Rows.{small, selected-readable, usable-ready, filler-room, filler-made, first-reads, ends-below, goes-on, rows-sequence, rows-step}
 use Rattle.images.proofs.Growing.{makes-same, room-same, makes-length, open-room, inside-room, close-room, element-made, numbered-none, numbered-some}
 use Rattle.images.specs.Growing.{grown}
+use Rattle.images.specs.Laws.{selects-counted}
 use Rattle.model.specs.Definitions.Image.{isPlaced}
 use mathlib.Core.Logic.{⊎-elim}
 use Prim.Native.Nat.{ℕ, _+_, _-_, _*_, _<_}
@@ -38,7 +40,7 @@ use Rattle.images.proofs.first_active.Reads as first-active-reads
 use Rattle.images.proofs.narrowed.Reads as narrowed-reads
 use Rattle.images.proofs.one_edge.Reads as one-edge-reads
 use Rattle.images.proofs.step.Reads as step-reads
-use Rattle.scanning.proofs.skip.Reads as skip-reads
+use Rattle.scanning.proofs.spans.close_of.Reads as close-of-reads
 use Rattle.writing.proofs.copy.Reads as copy-reads
 use Rattle.writing.proofs.filler.Reads as filler-reads
 use Rattle.writing.proofs.put_close.Reads as put-close-reads
@@ -47,19 +49,19 @@ use Rattle.images.proofs.+element+grow+items+placed+row.{statement}
 use Rattle.images.proofs.+element+grow+items+placed+row.Tie.{close}
 
 abbrev μ-element : Measures 2 element-kinds.ps ℕ
-μ-element κs a = (length (a .1 .1 .1 .1 .1 .1 .1 .1 .1 .1 .1 .1 .1 .0 .now) - a .1 .1 .1 .1 .1 .1 .1 .1 .1 .1 .1 .1 .1 .1 .0 .from) * 64 + 4 * (13 - a .1 .1 .1 .1 .1 .1 .1 .1 .1 .1 .1 .1 .1 .1 .1 .1 .0) + 3
+μ-element κs a = (length (a .1 .1 .1 .1 .1 .1 .1 .1 .1 .1 .1 .1 .1 .0 .now) - a .1 .1 .1 .1 .1 .1 .1 .1 .1 .1 .1 .1 .1 .1 .1 .0 .from) * 64 + 4 * (13 - a .1 .1 .1 .1 .1 .1 .1 .1 .1 .1 .1 .1 .1 .1 .1 .1 .1 .0) + 3
 
 abbrev μ-grow : Measures 2 grow-kinds.ps ℕ
-μ-grow κs a = (length (a .1 .1 .1 .1 .1 .1 .1 .1 .1 .1 .1 .1 .1 .0 .now) - a .1 .1 .1 .1 .1 .1 .1 .1 .1 .1 .1 .1 .1 .1 .0 .from) * 64 + 4 * (13 - a .1 .1 .1 .1 .1 .1 .1 .1 .1 .1 .1 .1 .1 .1 .1 .1 .0) + 2
+μ-grow κs a = (length (a .1 .1 .1 .1 .1 .1 .1 .1 .1 .1 .1 .1 .1 .0 .now) - a .1 .1 .1 .1 .1 .1 .1 .1 .1 .1 .1 .1 .1 .1 .1 .0 .from) * 64 + 4 * (13 - a .1 .1 .1 .1 .1 .1 .1 .1 .1 .1 .1 .1 .1 .1 .1 .1 .1 .0) + 2
 
 abbrev μ-items : Measures 2 items-kinds.ps ℕ
-μ-items κs a = (length (a .1 .1 .1 .1 .1 .1 .1 .1 .1 .1 .1 .1 .1 .0 .now) - a .1 .1 .1 .1 .1 .1 .1 .1 .1 .1 .1 .1 .1 .1 .0 .from) * 64 + 4 * (13 - a .1 .1 .1 .1 .1 .1 .1 .1 .1 .1 .1 .1 .1 .1 .1 .1 .0) + 0
+μ-items κs a = (length (a .1 .1 .1 .1 .1 .1 .1 .1 .1 .1 .1 .1 .1 .0 .now) - a .1 .1 .1 .1 .1 .1 .1 .1 .1 .1 .1 .1 .1 .1 .1 .0 .from) * 64 + 4 * (13 - a .1 .1 .1 .1 .1 .1 .1 .1 .1 .1 .1 .1 .1 .1 .1 .1 .1 .0) + 0
 
 abbrev μ-placed : Measures 2 placed-kinds.ps ℕ
-μ-placed κs a = (length (a .1 .1 .1 .1 .1 .1 .1 .1 .1 .1 .1 .1 .1 .0 .now) - a .1 .1 .1 .1 .1 .1 .1 .1 .1 .1 .1 .1 .1 .1 .0 .from) * 64 + 4 * (13 - a .1 .1 .1 .1 .1 .1 .1 .1 .1 .1 .1 .1 .1 .1 .1 .1 .0) + 1
+μ-placed κs a = (length (a .1 .1 .1 .1 .1 .1 .1 .1 .1 .1 .1 .1 .1 .0 .now) - a .1 .1 .1 .1 .1 .1 .1 .1 .1 .1 .1 .1 .1 .1 .1 .0 .from) * 64 + 4 * (13 - a .1 .1 .1 .1 .1 .1 .1 .1 .1 .1 .1 .1 .1 .1 .1 .1 .1 .0) + 1
 
 abbrev μ-row : Measures 2 row-kinds.ps ℕ
-μ-row κs a = (length (a .1 .1 .1 .1 .1 .1 .1 .1 .1 .1 .1 .1 .1 .0 .now) - a .1 .1 .1 .1 .1 .1 .1 .1 .1 .1 .1 .1 .1 .1 .0 .from) * 64 + 4 * (13 - a .1 .1 .1 .1 .1 .1 .1 .1 .1 .1 .1 .1 .1 .1 .1 .1 .0) + 1
+μ-row κs a = (length (a .1 .1 .1 .1 .1 .1 .1 .1 .1 .1 .1 .1 .1 .0 .now) - a .1 .1 .1 .1 .1 .1 .1 .1 .1 .1 .1 .1 .1 .1 .1 .0 .from) * 64 + 4 * (13 - a .1 .1 .1 .1 .1 .1 .1 .1 .1 .1 .1 .1 .1 .1 .1 .1 .1 .0) + 1
 
 abbrev element-at : ℕ → In 2 element-kinds.ps
 element-at t = and 2 element-kinds.ps (is 2 element-kinds.ps μ-element t) element.Pre
@@ -102,9 +104,9 @@ element-put-open-requires : (t : ℕ) → element-lts.Need-put-open-requires (
   put-close-reads.Learnt,
 ) (element-at t) element.Post
 element-put-open-requires t c κs =
-    let start = c .before .before .before .before in
-    let g = start .pre .1 .1 .0 in
-    open-room (isPlaced (g .ps)) (start .args .t) (grown g) (start .pre .1 .1 .1)
+    let start = c .before .before .before .before .before in
+    let g = start .pre .1 .1 .1 .0 in
+    open-room (isPlaced (g .ps)) (start .args .t) (grown g) (start .pre .1 .1 .1 .1)
 
 element-first-active-requires : (t : ℕ) → element-lts.Need-first-active-requires (
   put-open-reads.Asked,
@@ -117,7 +119,9 @@ element-first-active-requires : (t : ℕ) → element-lts.Need-first-active-requ
   put-close-reads.Learnt,
 ) (element-at t) element.Post
 element-first-active-requires t c κs =
-    tt
+    let start = c .before .before .before .before .before .before .before .before in
+    let g = start .pre .1 .1 .1 .0 in
+    selects-counted (g .few-edges) (g .selected)
 
 element-add-number : (t : ℕ) → element-lts.Need-add-number (
   put-open-reads.Asked,
@@ -130,9 +134,9 @@ element-add-number : (t : ℕ) → element-lts.Need-add-number (
   put-close-reads.Learnt,
 ) (element-at t) element.Post
 element-add-number t c =
-    let start = c .before .before .before .before .before .before .before .before .before in
-    let g = start .pre .1 .1 .0 in
-    omega (arith, open-room (isPlaced (g .ps)) (start .args .t) (grown g) (start .pre .1 .1 .1), start .pre .1 .1 .1 .few)
+    let start = c .before .before .before .before .before .before .before .before .before .before in
+    let g = start .pre .1 .1 .1 .0 in
+    omega (arith, open-room (isPlaced (g .ps)) (start .args .t) (grown g) (start .pre .1 .1 .1 .1), start .pre .1 .1 .1 .1 .few)
 
 element-grow-requires : (t : ℕ) → element-lts.Need-grow-requires (
   put-open-reads.Asked,
@@ -145,9 +149,9 @@ element-grow-requires : (t : ℕ) → element-lts.Need-grow-requires (
   put-close-reads.Learnt,
 ) (element-at t) element.Post
 element-grow-requires t c κs =
-    let start = c .before .before .before .before .before .before .before .before .before .before in
-    let g = start .pre .1 .1 .0 in
-    (omega (arith, start .pre .0), (start .pre .1 .0, (g, inside-room (isPlaced (g .ps)) (start .args .t) (grown g) (start .pre .1 .1 .1) (⊎-elim (λ w. numbered-none g (c .before .before .first-active .ensures) (w .0 .taken) (w .1)) (λ w. numbered-some g (c .before .before .first-active .ensures) (w .0 .left) (w .1)) (c .before .if1 .came)) (c .before .before .before .before .before .put-open .ensures))))
+    let start = c .before .before .before .before .before .before .before .before .before .before .before in
+    let g = start .pre .1 .1 .1 .0 in
+    (omega (arith, start .pre .0), (start .pre .1 .0, (start .pre .1 .1 .0, (g, inside-room (isPlaced (g .ps)) (start .args .t) (grown g) (start .pre .1 .1 .1 .1) (⊎-elim (λ w. numbered-none g (c .before .before .first-active .ensures) (w .0 .taken) (w .1)) (λ w. numbered-some g (c .before .before .first-active .ensures) (w .0 .left) (w .1)) (c .before .if1 .came)) (c .before .before .before .before .before .put-open .ensures)))))
 
 element-put-close-requires : (t : ℕ) → element-lts.Need-put-close-requires (
   put-open-reads.Asked,
@@ -160,9 +164,9 @@ element-put-close-requires : (t : ℕ) → element-lts.Need-put-close-requires (
   put-close-reads.Learnt,
 ) (element-at t) element.Post
 element-put-close-requires t c κs =
-    let start = c .before .before .before .before .before .before .before .before .before .before .before .before .before .before in
-    let g = start .pre .1 .1 .0 in
-    close-room (isPlaced (g .ps)) (start .args .t) (grown g) (start .pre .1 .1 .1) (c .before .before .before .before .before .before .before .before .before .put-open .ensures) (c .before .before .before .grow .ensures g)
+    let start = c .before .before .before .before .before .before .before .before .before .before .before .before .before .before .before in
+    let g = start .pre .1 .1 .1 .0 in
+    close-room (isPlaced (g .ps)) (start .args .t) (grown g) (start .pre .1 .1 .1 .1) (c .before .before .before .before .before .before .before .before .before .put-open .ensures) (c .before .before .before .grow .ensures g)
 
 element-same-length : (t : ℕ) → element-lts.Need-same-length (
   put-open-reads.Asked,
@@ -175,8 +179,8 @@ element-same-length : (t : ℕ) → element-lts.Need-same-length (
   put-close-reads.Learnt,
 ) (element-at t) element.Post
 element-same-length t c =
-    let start = c .before .before .before .before .before .before .before .before .before .before .before .before .before .before .before .before .before in
-    let g = start .pre .1 .1 .0 in
+    let start = c .before .before .before .before .before .before .before .before .before .before .before .before .before .before .before .before .before .before in
+    let g = start .pre .1 .1 .1 .0 in
     makes-length (element-made (isPlaced (g .ps)) (start .args .t) (grown g) (⊎-elim (λ w. numbered-none g (c .before .before .before .before .before .before .before .before .before .first-active .ensures) (w .0 .taken) (w .1)) (λ w. numbered-some g (c .before .before .before .before .before .before .before .before .before .first-active .ensures) (w .0 .left) (w .1)) (c .before .before .before .before .before .before .before .before .if1 .came)) (c .before .before .before .before .before .before .before .before .before .before .before .before .put-open .ensures) (c .before .before .before .before .before .before .grow .ensures g) (c .before .before .put-close .ensures))
 
 element-returns : (t : ℕ) → element-lts.Need-returns (
@@ -190,7 +194,7 @@ element-returns : (t : ℕ) → element-lts.Need-returns (
   put-close-reads.Learnt,
 ) (element-at t) element.Post
 element-returns t c =
-    let start = c .before .before .before .before .before .before .before .before .before .before .before .before .before .before .before .before .before in
+    let start = c .before .before .before .before .before .before .before .before .before .before .before .before .before .before .before .before .before .before in
     λ g. element-made (isPlaced (g .ps)) (start .args .t) (grown g) (⊎-elim (λ w. numbered-none g (c .before .before .before .before .before .before .before .before .before .first-active .ensures) (w .0 .taken) (w .1)) (λ w. numbered-some g (c .before .before .before .before .before .before .before .before .before .first-active .ensures) (w .0 .left) (w .1)) (c .before .before .before .before .before .before .before .before .if1 .came)) (c .before .before .before .before .before .before .before .before .before .before .before .before .put-open .ensures) (c .before .before .before .before .before .before .grow .ensures g) (c .before .before .put-close .ensures)
 
 grow-first-active-requires : (t : ℕ) → grow-lts.Need-first-active-requires (
@@ -206,7 +210,9 @@ grow-first-active-requires : (t : ℕ) → grow-lts.Need-first-active-requires (
   step-reads.Learnt,
 ) (grow-at t) grow.Post
 grow-first-active-requires t c κs =
-    tt
+    let start = c .before .before .before .before in
+    let g = start .pre .1 .1 .1 .0 in
+    selects-counted (g .few-edges) (g .selected)
 
 grow-filler-requires : (t : ℕ) → grow-lts.Need-filler-requires (
   first-active-reads.Asked,
@@ -221,11 +227,11 @@ grow-filler-requires : (t : ℕ) → grow-lts.Need-filler-requires (
   step-reads.Learnt,
 ) (grow-at t) grow.Post
 grow-filler-requires t c κs =
-    let start = c .before .before .before .before .before .before in
-    let u = start .pre .1 .0 in
+    let start = c .before .before .before .before .before .before .before in
+    let u = start .pre .1 .1 .0 in
     let f = c .before .before .first-active .ensures in
-    let g = start .pre .1 .1 .0 in
-    (usable-ready u, filler-room u g f (c .before .if1 .taken) (start .pre .1 .1 .1))
+    let g = start .pre .1 .1 .1 .0 in
+    (usable-ready u, filler-room u g f (c .before .if1 .taken) (start .pre .1 .1 .1 .1))
 
 grow-same-length : (t : ℕ) → grow-lts.Need-same-length (
   first-active-reads.Asked,
@@ -240,10 +246,10 @@ grow-same-length : (t : ℕ) → grow-lts.Need-same-length (
   step-reads.Learnt,
 ) (grow-at t) grow.Post
 grow-same-length t c =
-    let start = c .before .before .before .before .before .before .before .before .before in
-    let u = start .pre .1 .0 in
+    let start = c .before .before .before .before .before .before .before .before .before .before in
+    let u = start .pre .1 .1 .0 in
     let f = c .before .before .before .before .before .first-active .ensures in
-    let g = start .pre .1 .1 .0 in
+    let g = start .pre .1 .1 .1 .0 in
     makes-length (filler-made u g f (c .before .before .before .before .if1 .taken) (c .before .before .filler .ensures))
 
 grow-returns : (t : ℕ) → grow-lts.Need-returns (
@@ -259,8 +265,8 @@ grow-returns : (t : ℕ) → grow-lts.Need-returns (
   step-reads.Learnt,
 ) (grow-at t) grow.Post
 grow-returns t c =
-    let start = c .before .before .before .before .before .before .before .before .before in
-    let u = start .pre .1 .0 in
+    let start = c .before .before .before .before .before .before .before .before .before .before in
+    let u = start .pre .1 .1 .0 in
     let f = c .before .before .before .before .before .first-active .ensures in
     λ g. filler-made u g f (c .before .before .before .before .if1 .taken) (c .before .before .filler .ensures)
 
@@ -292,10 +298,10 @@ grow-cast-s : (t : ℕ) → grow-lts.Need-cast-s (
   step-reads.Learnt,
 ) (grow-at t) grow.Post
 grow-cast-s t c =
-    let start = c .before .before .before .before .before .before in
-    let u = start .pre .1 .0 in
+    let start = c .before .before .before .before .before .before .before in
+    let u = start .pre .1 .1 .0 in
     let f = c .before .before .first-active .ensures in
-    let g = start .pre .1 .1 .0 in
+    let g = start .pre .1 .1 .1 .0 in
     omega (arith, first-reads u g f (c .before .if1 .left) .few-steps)
 
 grow-placed-requires : (t : ℕ) → grow-lts.Need-placed-requires (
@@ -311,12 +317,12 @@ grow-placed-requires : (t : ℕ) → grow-lts.Need-placed-requires (
   step-reads.Learnt,
 ) (grow-at t) grow.Post
 grow-placed-requires t c κs =
-    let start = c .before .before .before .before .before .before .before .before in
-    let u = start .pre .1 .0 in
+    let start = c .before .before .before .before .before .before .before .before .before in
+    let u = start .pre .1 .1 .0 in
     let f = c .before .before .before .before .first-active .ensures in
-    let g = start .pre .1 .1 .0 in
+    let g = start .pre .1 .1 .1 .0 in
     let h = ends-below u g f (c .before .before .before .if1 .left) (c .before .if2 .taken) in
-    (omega (arith, start .pre .0), (u, (h .0, room-same (sym (h .1)) (start .pre .1 .1 .1))))
+    (omega (arith, start .pre .0), (start .pre .1 .0, (u, (h .0, room-same (sym (h .1)) (start .pre .1 .1 .1 .1)))))
 
 grow-same-length-2 : (t : ℕ) → grow-lts.Need-same-length-2 (
   first-active-reads.Asked,
@@ -331,10 +337,10 @@ grow-same-length-2 : (t : ℕ) → grow-lts.Need-same-length-2 (
   step-reads.Learnt,
 ) (grow-at t) grow.Post
 grow-same-length-2 t c =
-    let start = c .before .before .before .before .before .before .before .before .before .before .before in
-    let u = start .pre .1 .0 in
+    let start = c .before .before .before .before .before .before .before .before .before .before .before .before in
+    let u = start .pre .1 .1 .0 in
     let f = c .before .before .before .before .before .before .before .first-active .ensures in
-    let g = start .pre .1 .1 .0 in
+    let g = start .pre .1 .1 .1 .0 in
     let h = ends-below u g f (c .before .before .before .before .before .before .if1 .left) (c .before .before .before .before .if2 .taken) in
     makes-length (c .before .before .placed .ensures (h .0))
 
@@ -351,8 +357,8 @@ grow-returns-2 : (t : ℕ) → grow-lts.Need-returns-2 (
   step-reads.Learnt,
 ) (grow-at t) grow.Post
 grow-returns-2 t c =
-    let start = c .before .before .before .before .before .before .before .before .before .before .before in
-    let u = start .pre .1 .0 in
+    let start = c .before .before .before .before .before .before .before .before .before .before .before .before in
+    let u = start .pre .1 .1 .0 in
     let f = c .before .before .before .before .before .before .before .first-active .ensures in
     λ g. let h = ends-below u g f (c .before .before .before .before .before .before .if1 .left) (c .before .before .before .before .if2 .taken) in makes-same (h .1) (c .before .before .placed .ensures (h .0))
 
@@ -369,8 +375,8 @@ grow-element-copy-out-if3 : (t : ℕ) → grow-lts.Need-element-copy-out-if3 (
   step-reads.Learnt,
 ) (grow-at t) grow.Post
 grow-element-copy-out-if3 t c =
-    let start = c .before .before .before .before .before .before .before in
-    omega (arith, small (start .pre .1 .0) (start .args .t) (start .pre .1 .1 .0 .is-type))
+    let start = c .before .before .before .before .before .before .before .before in
+    omega (arith, small (start .pre .1 .1 .0) (start .args .t) (start .pre .1 .1 .1 .0 .is-type))
 
 grow-element-copy-out-all : (t : ℕ) → grow-lts.Need-element-copy-out-all (
   first-active-reads.Asked,
@@ -385,8 +391,8 @@ grow-element-copy-out-all : (t : ℕ) → grow-lts.Need-element-copy-out-all (
   step-reads.Learnt,
 ) (grow-at t) grow.Post
 grow-element-copy-out-all t c =
-    let start = c .before .before .before .before .before .before .before .before .before in
-    omega (arith, small (start .pre .1 .0) (start .args .t) (start .pre .1 .1 .0 .is-type))
+    let start = c .before .before .before .before .before .before .before .before .before .before in
+    omega (arith, small (start .pre .1 .1 .0) (start .args .t) (start .pre .1 .1 .1 .0 .is-type))
 
 grow-cast-all : (t : ℕ) → grow-lts.Need-cast-all (
   first-active-reads.Asked,
@@ -401,8 +407,8 @@ grow-cast-all : (t : ℕ) → grow-lts.Need-cast-all (
   step-reads.Learnt,
 ) (grow-at t) grow.Post
 grow-cast-all t c =
-    let start = c .before .before .before .before .before .before .before .before .before .before in
-    omega (arith, start .pre .1 .0 .ready .target-bounded .few-members (start .args .t))
+    let start = c .before .before .before .before .before .before .before .before .before .before .before in
+    omega (arith, start .pre .1 .1 .0 .ready .target-bounded .few-members (start .args .t))
 
 grow-add-row : (t : ℕ) → grow-lts.Need-add-row (
   first-active-reads.Asked,
@@ -417,8 +423,8 @@ grow-add-row : (t : ℕ) → grow-lts.Need-add-row (
   step-reads.Learnt,
 ) (grow-at t) grow.Post
 grow-add-row t c =
-    let start = c .before .before .before .before .before .before .before .before .before .before in
-    omega (arith, start .pre .1 .0 .ready .target-bounded .few-members (start .args .t))
+    let start = c .before .before .before .before .before .before .before .before .before .before .before in
+    omega (arith, start .pre .1 .1 .0 .ready .target-bounded .few-members (start .args .t))
 
 grow-row-requires : (t : ℕ) → grow-lts.Need-row-requires (
   first-active-reads.Asked,
@@ -433,12 +439,12 @@ grow-row-requires : (t : ℕ) → grow-lts.Need-row-requires (
   step-reads.Learnt,
 ) (grow-at t) grow.Post
 grow-row-requires t c κs =
-    let start = c .before .before .before .before .before .before .before .before .before .before .before in
-    let u = start .pre .1 .0 in
+    let start = c .before .before .before .before .before .before .before .before .before .before .before .before in
+    let u = start .pre .1 .1 .0 in
     let f = c .before .before .before .before .before .before .before .first-active .ensures in
-    let g = start .pre .1 .1 .0 in
+    let g = start .pre .1 .1 .1 .0 in
     let h = rows-sequence u g f (c .before .before .before .before .before .before .if1 .left) (c .before .before .before .before .if2 .left) (c .before .before .if3 .taken) in
-    (omega (arith, start .pre .0), (u, (h .0, room-same (sym (h .1)) (start .pre .1 .1 .1))))
+    (omega (arith, start .pre .0), (start .pre .1 .0, (u, (h .0, room-same (sym (h .1)) (start .pre .1 .1 .1 .1)))))
 
 grow-same-length-3 : (t : ℕ) → grow-lts.Need-same-length-3 (
   first-active-reads.Asked,
@@ -453,10 +459,10 @@ grow-same-length-3 : (t : ℕ) → grow-lts.Need-same-length-3 (
   step-reads.Learnt,
 ) (grow-at t) grow.Post
 grow-same-length-3 t c =
-    let start = c .before .before .before .before .before .before .before .before .before .before .before .before .before .before in
-    let u = start .pre .1 .0 in
+    let start = c .before .before .before .before .before .before .before .before .before .before .before .before .before .before .before in
+    let u = start .pre .1 .1 .0 in
     let f = c .before .before .before .before .before .before .before .before .before .before .first-active .ensures in
-    let g = start .pre .1 .1 .0 in
+    let g = start .pre .1 .1 .1 .0 in
     let h = rows-sequence u g f (c .before .before .before .before .before .before .before .before .before .if1 .left) (c .before .before .before .before .before .before .before .if2 .left) (c .before .before .before .before .before .if3 .taken) in
     makes-length (c .before .before .row .ensures (h .0))
 
@@ -473,8 +479,8 @@ grow-returns-3 : (t : ℕ) → grow-lts.Need-returns-3 (
   step-reads.Learnt,
 ) (grow-at t) grow.Post
 grow-returns-3 t c =
-    let start = c .before .before .before .before .before .before .before .before .before .before .before .before .before .before in
-    let u = start .pre .1 .0 in
+    let start = c .before .before .before .before .before .before .before .before .before .before .before .before .before .before .before in
+    let u = start .pre .1 .1 .0 in
     let f = c .before .before .before .before .before .before .before .before .before .before .first-active .ensures in
     λ g. let h = rows-sequence u g f (c .before .before .before .before .before .before .before .before .before .if1 .left) (c .before .before .before .before .before .before .before .if2 .left) (c .before .before .before .before .before .if3 .taken) in makes-same (h .1) (c .before .before .row .ensures (h .0))
 
@@ -491,10 +497,10 @@ grow-step-requires : (t : ℕ) → grow-lts.Need-step-requires (
   step-reads.Learnt,
 ) (grow-at t) grow.Post
 grow-step-requires t c κs =
-    let start = c .before .before .before .before .before .before .before .before .before in
-    let u = start .pre .1 .0 in
+    let start = c .before .before .before .before .before .before .before .before .before .before in
+    let u = start .pre .1 .1 .0 in
     let f = c .before .before .before .before .before .first-active .ensures in
-    let g = start .pre .1 .1 .0 in
+    let g = start .pre .1 .1 .1 .0 in
     (first-reads u g f (c .before .before .before .before .if1 .left), goes-on u g f (c .before .before .before .before .if1 .left) (c .before .before .if2 .left))
 
 grow-add-row-2 : (t : ℕ) → grow-lts.Need-add-row-2 (
@@ -525,12 +531,12 @@ grow-row-requires-2 : (t : ℕ) → grow-lts.Need-row-requires-2 (
   step-reads.Learnt,
 ) (grow-at t) grow.Post
 grow-row-requires-2 t c κs =
-    let start = c .before .before .before .before .before .before .before .before .before .before .before in
-    let u = start .pre .1 .0 in
+    let start = c .before .before .before .before .before .before .before .before .before .before .before .before in
+    let u = start .pre .1 .1 .0 in
     let f = c .before .before .before .before .before .before .before .first-active .ensures in
-    let g = start .pre .1 .1 .0 in
+    let g = start .pre .1 .1 .1 .0 in
     let h = rows-step u g f (c .before .before .before .before .before .before .if1 .left) (c .before .before .before .before .if2 .left) (c .before .before .if3 .left) (c .before .step .result) (c .before .step .ensures .0) in
-    (omega (arith, start .pre .0), (u, (h .0, room-same (sym (h .1)) (start .pre .1 .1 .1))))
+    (omega (arith, start .pre .0), (start .pre .1 .0, (u, (h .0, room-same (sym (h .1)) (start .pre .1 .1 .1 .1)))))
 
 grow-same-length-4 : (t : ℕ) → grow-lts.Need-same-length-4 (
   first-active-reads.Asked,
@@ -545,10 +551,10 @@ grow-same-length-4 : (t : ℕ) → grow-lts.Need-same-length-4 (
   step-reads.Learnt,
 ) (grow-at t) grow.Post
 grow-same-length-4 t c =
-    let start = c .before .before .before .before .before .before .before .before .before .before .before .before .before .before in
-    let u = start .pre .1 .0 in
+    let start = c .before .before .before .before .before .before .before .before .before .before .before .before .before .before .before in
+    let u = start .pre .1 .1 .0 in
     let f = c .before .before .before .before .before .before .before .before .before .before .first-active .ensures in
-    let g = start .pre .1 .1 .0 in
+    let g = start .pre .1 .1 .1 .0 in
     let h = rows-step u g f (c .before .before .before .before .before .before .before .before .before .if1 .left) (c .before .before .before .before .before .before .before .if2 .left) (c .before .before .before .before .before .if3 .left) (c .before .before .before .before .step .result) (c .before .before .before .before .step .ensures .0) in
     makes-length (c .before .before .row2 .ensures (h .0))
 
@@ -565,17 +571,17 @@ grow-returns-4 : (t : ℕ) → grow-lts.Need-returns-4 (
   step-reads.Learnt,
 ) (grow-at t) grow.Post
 grow-returns-4 t c =
-    let start = c .before .before .before .before .before .before .before .before .before .before .before .before .before .before in
-    let u = start .pre .1 .0 in
+    let start = c .before .before .before .before .before .before .before .before .before .before .before .before .before .before .before in
+    let u = start .pre .1 .1 .0 in
     let f = c .before .before .before .before .before .before .before .before .before .before .first-active .ensures in
     λ g. let h = rows-step u g f (c .before .before .before .before .before .before .before .before .before .if1 .left) (c .before .before .before .before .before .before .before .if2 .left) (c .before .before .before .before .before .if3 .left) (c .before .before .before .before .step .result) (c .before .before .before .before .step .ensures .0) in makes-same (h .1) (c .before .before .row2 .ensures (h .0))
 
 abbrev items-Inv-loop : items-lts.InvT-loop
-items-Inv-loop types1 k1 c1 m1 types2 k2 c2 m2 h2 tg st ln em tr kid d t out₀ at count base m deeper first all o₀ next₀ number₀ out o next number =
+items-Inv-loop types1 k1 c1 m1 types2 k2 c2 m2 h2 tg st ln em tr sp kid d t out₀ at count base m deeper first all o₀ next₀ number₀ out o next number =
     ListGoes (world types1 k1 c1 m1 types2 k2 c2 m2 h2 tg st ln em tr) first kid d t out₀ at count out o next number
 
 abbrev items-μ-loop : items-lts.MeasureT-loop
-items-μ-loop types1 k1 c1 m1 types2 k2 c2 m2 h2 tg st ln em tr kid d t out₀ at count base m deeper first all o₀ next₀ number₀ out o next number =
+items-μ-loop types1 k1 c1 m1 types2 k2 c2 m2 h2 tg st ln em tr sp kid d t out₀ at count base m deeper first all o₀ next₀ number₀ out o next number =
     length tr - o
 
 items-mul-base : (t : ℕ) → items-lts.Need-mul-base (
@@ -583,13 +589,13 @@ items-mul-base : (t : ℕ) → items-lts.Need-mul-base (
   one-edge-reads.Learnt,
   element-below t,
   element.Post,
-  skip-reads.Asked,
-  skip-reads.Learnt,
+  close-of-reads.Asked,
+  close-of-reads.Learnt,
 ) (items-at t) items.Post items-Inv-loop items-μ-loop
 items-mul-base t c =
-    let start = c .before .before .before in
-    let u = start .pre .1 .0 in
-    let g = start .pre .1 .1 .0 in
+    let start = c .before .before .before .before in
+    let u = start .pre .1 .1 .0 in
+    let g = start .pre .1 .1 .1 .0 in
     omega (arith, small u (start .args .t) (g .is-type))
 
 items-element-copy-out-m : (t : ℕ) → items-lts.Need-element-copy-out-m (
@@ -597,13 +603,13 @@ items-element-copy-out-m : (t : ℕ) → items-lts.Need-element-copy-out-m (
   one-edge-reads.Learnt,
   element-below t,
   element.Post,
-  skip-reads.Asked,
-  skip-reads.Learnt,
+  close-of-reads.Asked,
+  close-of-reads.Learnt,
 ) (items-at t) items.Post items-Inv-loop items-μ-loop
 items-element-copy-out-m t c =
-    let start = c .before .before .before in
-    let u = start .pre .1 .0 in
-    let g = start .pre .1 .1 .0 in
+    let start = c .before .before .before .before in
+    let u = start .pre .1 .1 .0 in
+    let g = start .pre .1 .1 .1 .0 in
     omega (arith, small u (start .args .t) (g .is-type))
 
 items-add-deeper : (t : ℕ) → items-lts.Need-add-deeper (
@@ -611,13 +617,13 @@ items-add-deeper : (t : ℕ) → items-lts.Need-add-deeper (
   one-edge-reads.Learnt,
   element-below t,
   element.Post,
-  skip-reads.Asked,
-  skip-reads.Learnt,
+  close-of-reads.Asked,
+  close-of-reads.Learnt,
 ) (items-at t) items.Post items-Inv-loop items-μ-loop
 items-add-deeper t c =
-    let start = c .before .before .before .before in
-    let u = start .pre .1 .0 in
-    let g = start .pre .1 .1 .0 in
+    let start = c .before .before .before .before .before in
+    let u = start .pre .1 .1 .0 in
+    let g = start .pre .1 .1 .1 .0 in
     omega (arith, g .few-steps)
 
 items-element-copy-out-all : (t : ℕ) → items-lts.Need-element-copy-out-all (
@@ -625,13 +631,13 @@ items-element-copy-out-all : (t : ℕ) → items-lts.Need-element-copy-out-all (
   one-edge-reads.Learnt,
   element-below t,
   element.Post,
-  skip-reads.Asked,
-  skip-reads.Learnt,
+  close-of-reads.Asked,
+  close-of-reads.Learnt,
 ) (items-at t) items.Post items-Inv-loop items-μ-loop
 items-element-copy-out-all t c =
-    let start = c .before .before .before .before in
-    let u = start .pre .1 .0 in
-    let g = start .pre .1 .1 .0 in
+    let start = c .before .before .before .before .before in
+    let u = start .pre .1 .1 .0 in
+    let g = start .pre .1 .1 .1 .0 in
     g .list .near
 
 items-loop-holds : (t : ℕ) → items-lts.Need-loop-holds (
@@ -639,27 +645,27 @@ items-loop-holds : (t : ℕ) → items-lts.Need-loop-holds (
   one-edge-reads.Learnt,
   element-below t,
   element.Post,
-  skip-reads.Asked,
-  skip-reads.Learnt,
+  close-of-reads.Asked,
+  close-of-reads.Learnt,
 ) (items-at t) items.Post items-Inv-loop items-μ-loop
 items-loop-holds t c =
-    let start = c .before .before .before .before .before in
-    let u = start .pre .1 .0 in
-    let g = start .pre .1 .1 .0 in
-    list-starts g (start .pre .1 .1 .1)
+    let start = c .before .before .before .before .before .before in
+    let u = start .pre .1 .1 .0 in
+    let g = start .pre .1 .1 .1 .0 in
+    list-starts g (start .pre .1 .1 .1 .1)
 
 items-shared-slice-read-if1 : (t : ℕ) → items-lts.Need-shared-slice-read-if1 (
   one-edge-reads.Asked,
   one-edge-reads.Learnt,
   element-below t,
   element.Post,
-  skip-reads.Asked,
-  skip-reads.Learnt,
+  close-of-reads.Asked,
+  close-of-reads.Learnt,
 ) (items-at t) items.Post items-Inv-loop items-μ-loop
 items-shared-slice-read-if1 t c =
-    let start = c .before .before .before .before .before .before .before in
-    let u = start .pre .1 .0 in
-    let g = start .pre .1 .1 .0 in
+    let start = c .before .before .before .before .before .before .before .before in
+    let u = start .pre .1 .1 .0 in
+    let g = start .pre .1 .1 .1 .0 in
     list-within u g (c .before .loop .inv)
 
 items-sub-item : (t : ℕ) → items-lts.Need-sub-item (
@@ -667,13 +673,13 @@ items-sub-item : (t : ℕ) → items-lts.Need-sub-item (
   one-edge-reads.Learnt,
   element-below t,
   element.Post,
-  skip-reads.Asked,
-  skip-reads.Learnt,
+  close-of-reads.Asked,
+  close-of-reads.Learnt,
 ) (items-at t) items.Post items-Inv-loop items-μ-loop
 items-sub-item t c =
-    let start = c .before .before .before .before .before .before .before .before in
-    let u = start .pre .1 .0 in
-    let g = start .pre .1 .1 .0 in
+    let start = c .before .before .before .before .before .before .before .before .before in
+    let u = start .pre .1 .1 .0 in
+    let g = start .pre .1 .1 .1 .0 in
     let within : c .before .before .loop .o < length (start .args .tr .now) = list-within u g (c .before .before .loop .inv) in
     omega (arith, within)
 
@@ -682,13 +688,13 @@ items-part-item-start : (t : ℕ) → items-lts.Need-part-item-start (
   one-edge-reads.Learnt,
   element-below t,
   element.Post,
-  skip-reads.Asked,
-  skip-reads.Learnt,
+  close-of-reads.Asked,
+  close-of-reads.Learnt,
 ) (items-at t) items.Post items-Inv-loop items-μ-loop
 items-part-item-start t c =
-    let start = c .before .before .before .before .before .before .before .before in
-    let u = start .pre .1 .0 in
-    let g = start .pre .1 .1 .0 in
+    let start = c .before .before .before .before .before .before .before .before .before in
+    let u = start .pre .1 .1 .0 in
+    let g = start .pre .1 .1 .1 .0 in
     let within : c .before .before .loop .o < length (start .args .tr .now) = list-within u g (c .before .before .loop .inv) in
     omega (arith, within)
 
@@ -697,10 +703,66 @@ items-part-item-end : (t : ℕ) → items-lts.Need-part-item-end (
   one-edge-reads.Learnt,
   element-below t,
   element.Post,
-  skip-reads.Asked,
-  skip-reads.Learnt,
+  close-of-reads.Asked,
+  close-of-reads.Learnt,
 ) (items-at t) items.Post items-Inv-loop items-μ-loop
 items-part-item-end t c =
+    omega arith
+
+items-mul-item-spans : (t : ℕ) → items-lts.Need-mul-item-spans (
+  one-edge-reads.Asked,
+  one-edge-reads.Learnt,
+  element-below t,
+  element.Post,
+  close-of-reads.Asked,
+  close-of-reads.Learnt,
+) (items-at t) items.Post items-Inv-loop items-μ-loop
+items-mul-item-spans t c =
+    let start = c .before .before .before .before .before .before .before .before .before .before in
+    let u = start .pre .1 .1 .0 in
+    let g = start .pre .1 .1 .1 .0 in
+    let within : c .before .before .before .loop .o < length (start .args .tr .now) = list-within u g (c .before .before .before .loop .inv) in
+    omega (arith, within, u .short)
+
+items-sub-item-spans : (t : ℕ) → items-lts.Need-sub-item-spans (
+  one-edge-reads.Asked,
+  one-edge-reads.Learnt,
+  element-below t,
+  element.Post,
+  close-of-reads.Asked,
+  close-of-reads.Learnt,
+) (items-at t) items.Post items-Inv-loop items-μ-loop
+items-sub-item-spans t c =
+    let start = c .before .before .before .before .before .before .before .before .before .before in
+    let u = start .pre .1 .1 .0 in
+    let g = start .pre .1 .1 .1 .0 in
+    let within : c .before .before .before .loop .o < length (start .args .tr .now) = list-within u g (c .before .before .before .loop .inv) in
+    omega (arith, within, start .pre .1 .0 .whole)
+
+items-part-item-spans-start : (t : ℕ) → items-lts.Need-part-item-spans-start (
+  one-edge-reads.Asked,
+  one-edge-reads.Learnt,
+  element-below t,
+  element.Post,
+  close-of-reads.Asked,
+  close-of-reads.Learnt,
+) (items-at t) items.Post items-Inv-loop items-μ-loop
+items-part-item-spans-start t c =
+    let start = c .before .before .before .before .before .before .before .before .before .before in
+    let u = start .pre .1 .1 .0 in
+    let g = start .pre .1 .1 .1 .0 in
+    let within : c .before .before .before .loop .o < length (start .args .tr .now) = list-within u g (c .before .before .before .loop .inv) in
+    omega (arith, within, start .pre .1 .0 .whole)
+
+items-part-item-spans-end : (t : ℕ) → items-lts.Need-part-item-spans-end (
+  one-edge-reads.Asked,
+  one-edge-reads.Learnt,
+  element-below t,
+  element.Post,
+  close-of-reads.Asked,
+  close-of-reads.Learnt,
+) (items-at t) items.Post items-Inv-loop items-μ-loop
+items-part-item-spans-end t c =
     omega arith
 
 items-one-edge-requires : (t : ℕ) → items-lts.Need-one-edge-requires (
@@ -708,64 +770,64 @@ items-one-edge-requires : (t : ℕ) → items-lts.Need-one-edge-requires (
   one-edge-reads.Learnt,
   element-below t,
   element.Post,
-  skip-reads.Asked,
-  skip-reads.Learnt,
+  close-of-reads.Asked,
+  close-of-reads.Learnt,
 ) (items-at t) items.Post items-Inv-loop items-μ-loop
 items-one-edge-requires t c κs =
-    tt
+    omega arith
 
 items-element-requires : (t : ℕ) → items-lts.Need-element-requires (
   one-edge-reads.Asked,
   one-edge-reads.Learnt,
   element-below t,
   element.Post,
-  skip-reads.Asked,
-  skip-reads.Learnt,
+  close-of-reads.Asked,
+  close-of-reads.Learnt,
 ) (items-at t) items.Post items-Inv-loop items-μ-loop
 items-element-requires t c κs =
-    let start = c .before .before .before .before .before .before .before .before .before .before .before .before in
-    let u = start .pre .1 .0 in
-    let g = start .pre .1 .1 .0 in
-    let inv = c .before .before .before .before .before .before .loop .inv in
-    let is-item = c .before .before .before .before .if1 .taken in
-    let is-part = part-to-end (start .args .tr .now) (c .before .before .before .before .before .before .loop .o) in
+    let start = c .before .before .before .before .before .before .before .before .before .before .before .before .before .before in
+    let u = start .pre .1 .1 .0 in
+    let g = start .pre .1 .1 .1 .0 in
+    let inv = c .before .before .before .before .before .before .before .loop .inv in
+    let is-item = c .before .before .before .before .before .if1 .taken in
+    let is-part = part-to-end (start .args .tr .now) (c .before .before .before .before .before .before .before .loop .o) in
     let one = c .before .before .one-edge .ensures in
-    (omega (arith, start .pre .0, g .few-steps, g .list .later, inv .low, one .is-from, c .before .before .before .item .given .2), (usable-with u _, (item-task u g inv is-item is-part one .0, item-room u g inv is-item is-part one (start .pre .1 .1 .1))))
+    (omega (arith, start .pre .0, g .few-steps, g .list .later, inv .low, one .is-from, c .before .before .before .before .item .given .2), (spans-part (c .before .before .before .before .before .before .before .loop .o) (start .pre .1 .0) is-part (part-to-end (start .args .sp .now) (c .before .before .before .before .before .before .before .loop .o)), (usable-part u (c .before .before .before .before .before .before .before .loop .o) is-part, (item-task u g inv is-item is-part one .0, item-room u g inv is-item is-part one (start .pre .1 .1 .1 .1)))))
 
-items-skip-requires : (t : ℕ) → items-lts.Need-skip-requires (
+items-close-of-requires : (t : ℕ) → items-lts.Need-close-of-requires (
   one-edge-reads.Asked,
   one-edge-reads.Learnt,
   element-below t,
   element.Post,
-  skip-reads.Asked,
-  skip-reads.Learnt,
+  close-of-reads.Asked,
+  close-of-reads.Learnt,
 ) (items-at t) items.Post items-Inv-loop items-μ-loop
-items-skip-requires t c κs =
-    let start = c .before .before .before .before .before .before .before .before .before .before .before .before .before .before .before in
-    let u = start .pre .1 .0 in
-    let g = start .pre .1 .1 .0 in
-    let inv = c .before .before .before .before .before .before .before .before .before .loop .inv in
-    let is-item = c .before .before .before .before .before .before .before .if1 .taken in
-    let is-part = part-to-end (start .args .tr .now) (c .before .before .before .before .before .before .before .before .before .loop .o) in
-    item-there u g inv is-item is-part
+items-close-of-requires t c κs =
+    let start = c .before .before .before .before .before .before .before .before .before .before .before .before .before .before .before .before .before in
+    let u = start .pre .1 .1 .0 in
+    let g = start .pre .1 .1 .1 .0 in
+    let inv = c .before .before .before .before .before .before .before .before .before .before .loop .inv in
+    let is-item = c .before .before .before .before .before .before .before .before .if1 .taken in
+    let is-part = part-to-end (start .args .tr .now) (c .before .before .before .before .before .before .before .before .before .before .loop .o) in
+    (spans-part (c .before .before .before .before .before .before .before .before .before .before .loop .o) (start .pre .1 .0) is-part (part-to-end (start .args .sp .now) (c .before .before .before .before .before .before .before .before .before .before .loop .o)), item-there u g inv is-item is-part)
 
 items-add-o : (t : ℕ) → items-lts.Need-add-o (
   one-edge-reads.Asked,
   one-edge-reads.Learnt,
   element-below t,
   element.Post,
-  skip-reads.Asked,
-  skip-reads.Learnt,
+  close-of-reads.Asked,
+  close-of-reads.Learnt,
 ) (items-at t) items.Post items-Inv-loop items-μ-loop
 items-add-o t c =
-    let start = c .before .before .before .before .before .before .before .before .before .before .before .before .before .before .before .before in
-    let u = start .pre .1 .0 in
-    let g = start .pre .1 .1 .0 in
-    let inv = c .before .before .before .before .before .before .before .before .before .before .loop .inv in
-    let is-item = c .before .before .before .before .before .before .before .before .if1 .taken in
-    let is-part = part-to-end (start .args .tr .now) (c .before .before .before .before .before .before .before .before .before .before .loop .o) in
-    let far = list-further u g inv is-item is-part (c .skip .ensures) in
-    let within : c .before .before .before .before .before .before .before .before .before .before .loop .o + c .skip .result < length (start .args .tr .now) = far .1 in
+    let start = c .before .before .before .before .before .before .before .before .before .before .before .before .before .before .before .before .before .before in
+    let u = start .pre .1 .1 .0 in
+    let g = start .pre .1 .1 .1 .0 in
+    let inv = c .before .before .before .before .before .before .before .before .before .before .before .loop .inv in
+    let is-item = c .before .before .before .before .before .before .before .before .before .if1 .taken in
+    let is-part = part-to-end (start .args .tr .now) (c .before .before .before .before .before .before .before .before .before .before .before .loop .o) in
+    let far = list-further u g inv is-item is-part (c .close-of .ensures) in
+    let within : c .before .before .before .before .before .before .before .before .before .before .before .loop .o + c .close-of .result < length (start .args .tr .now) = far .1 in
     omega (arith, within, start .good .1 .1 .1 .1 .1 .1 .1 .1 .1 .1 .1 .1 .1 .0 .0)
 
 items-add-o-2 : (t : ℕ) → items-lts.Need-add-o-2 (
@@ -773,18 +835,18 @@ items-add-o-2 : (t : ℕ) → items-lts.Need-add-o-2 (
   one-edge-reads.Learnt,
   element-below t,
   element.Post,
-  skip-reads.Asked,
-  skip-reads.Learnt,
+  close-of-reads.Asked,
+  close-of-reads.Learnt,
 ) (items-at t) items.Post items-Inv-loop items-μ-loop
 items-add-o-2 t c =
-    let start = c .before .before .before .before .before .before .before .before .before .before .before .before .before .before .before .before in
-    let u = start .pre .1 .0 in
-    let g = start .pre .1 .1 .0 in
-    let inv = c .before .before .before .before .before .before .before .before .before .before .loop .inv in
-    let is-item = c .before .before .before .before .before .before .before .before .if1 .taken in
-    let is-part = part-to-end (start .args .tr .now) (c .before .before .before .before .before .before .before .before .before .before .loop .o) in
-    let far = list-further u g inv is-item is-part (c .skip .ensures) in
-    let within : c .before .before .before .before .before .before .before .before .before .before .loop .o + c .skip .result < length (start .args .tr .now) = far .1 in
+    let start = c .before .before .before .before .before .before .before .before .before .before .before .before .before .before .before .before .before .before in
+    let u = start .pre .1 .1 .0 in
+    let g = start .pre .1 .1 .1 .0 in
+    let inv = c .before .before .before .before .before .before .before .before .before .before .before .loop .inv in
+    let is-item = c .before .before .before .before .before .before .before .before .before .if1 .taken in
+    let is-part = part-to-end (start .args .tr .now) (c .before .before .before .before .before .before .before .before .before .before .before .loop .o) in
+    let far = list-further u g inv is-item is-part (c .close-of .ensures) in
+    let within : c .before .before .before .before .before .before .before .before .before .before .before .loop .o + c .close-of .result < length (start .args .tr .now) = far .1 in
     omega (arith, within, start .good .1 .1 .1 .1 .1 .1 .1 .1 .1 .1 .1 .1 .1 .0 .0)
 
 items-loop-less : (t : ℕ) → items-lts.Need-loop-less (
@@ -792,17 +854,17 @@ items-loop-less : (t : ℕ) → items-lts.Need-loop-less (
   one-edge-reads.Learnt,
   element-below t,
   element.Post,
-  skip-reads.Asked,
-  skip-reads.Learnt,
+  close-of-reads.Asked,
+  close-of-reads.Learnt,
 ) (items-at t) items.Post items-Inv-loop items-μ-loop
 items-loop-less t c =
-    let start = c .before .before .before .before .before .before .before .before .before .before .before .before .before .before .before .before in
-    let u = start .pre .1 .0 in
-    let g = start .pre .1 .1 .0 in
-    let inv = c .before .before .before .before .before .before .before .before .before .before .loop .inv in
-    let is-item = c .before .before .before .before .before .before .before .before .if1 .taken in
-    let is-part = part-to-end (start .args .tr .now) (c .before .before .before .before .before .before .before .before .before .before .loop .o) in
-    let far = list-further u g inv is-item is-part (c .skip .ensures) in
+    let start = c .before .before .before .before .before .before .before .before .before .before .before .before .before .before .before .before .before .before in
+    let u = start .pre .1 .1 .0 in
+    let g = start .pre .1 .1 .1 .0 in
+    let inv = c .before .before .before .before .before .before .before .before .before .before .before .loop .inv in
+    let is-item = c .before .before .before .before .before .before .before .before .before .if1 .taken in
+    let is-part = part-to-end (start .args .tr .now) (c .before .before .before .before .before .before .before .before .before .before .before .loop .o) in
+    let far = list-further u g inv is-item is-part (c .close-of .ensures) in
     omega (arith, far .0, far .1)
 
 items-loop-again : (t : ℕ) → items-lts.Need-loop-again (
@@ -810,19 +872,19 @@ items-loop-again : (t : ℕ) → items-lts.Need-loop-again (
   one-edge-reads.Learnt,
   element-below t,
   element.Post,
-  skip-reads.Asked,
-  skip-reads.Learnt,
+  close-of-reads.Asked,
+  close-of-reads.Learnt,
 ) (items-at t) items.Post items-Inv-loop items-μ-loop
 items-loop-again t c =
-    let start = c .before .before .before .before .before .before .before .before .before .before .before .before .before .before .before .before in
-    let u = start .pre .1 .0 in
-    let g = start .pre .1 .1 .0 in
-    let inv = c .before .before .before .before .before .before .before .before .before .before .loop .inv in
-    let is-item = c .before .before .before .before .before .before .before .before .if1 .taken in
-    let is-part = part-to-end (start .args .tr .now) (c .before .before .before .before .before .before .before .before .before .before .loop .o) in
+    let start = c .before .before .before .before .before .before .before .before .before .before .before .before .before .before .before .before .before .before in
+    let u = start .pre .1 .1 .0 in
+    let g = start .pre .1 .1 .1 .0 in
+    let inv = c .before .before .before .before .before .before .before .before .before .before .before .loop .inv in
+    let is-item = c .before .before .before .before .before .before .before .before .before .if1 .taken in
+    let is-part = part-to-end (start .args .tr .now) (c .before .before .before .before .before .before .before .before .before .before .before .loop .o) in
     let one = c .before .before .before .before .before .before .one-edge .ensures in
     let made = c .before .before .before .element .ensures in
-    let skipped = c .skip .ensures in
+    let skipped = c .close-of .ensures in
     let b = item-task u g inv is-item is-part one .0 in
     record { low = omega (arith, inv .low); long = makes-length (made b) ∙ inv .long; few = made b .few; left = λ h. item-left u h inv is-item is-part one (made (item-task u h inv is-item is-part one .0)) skipped }
 
@@ -831,8 +893,8 @@ items-same-length : (t : ℕ) → items-lts.Need-same-length (
   one-edge-reads.Learnt,
   element-below t,
   element.Post,
-  skip-reads.Asked,
-  skip-reads.Learnt,
+  close-of-reads.Asked,
+  close-of-reads.Learnt,
 ) (items-at t) items.Post items-Inv-loop items-μ-loop
 items-same-length t c =
     c .before .before .loop .inv .long
@@ -842,16 +904,16 @@ items-returns : (t : ℕ) → items-lts.Need-returns (
   one-edge-reads.Learnt,
   element-below t,
   element.Post,
-  skip-reads.Asked,
-  skip-reads.Learnt,
+  close-of-reads.Asked,
+  close-of-reads.Learnt,
 ) (items-at t) items.Post items-Inv-loop items-μ-loop
 items-returns t c =
-    let start = c .before .before .before .before .before .before .before .before in
-    λ g. list-done (start .pre .1 .0) g (c .before .before .loop .inv) (c .if1 .left)
+    let start = c .before .before .before .before .before .before .before .before .before in
+    λ g. list-done (start .pre .1 .1 .0) g (c .before .before .loop .inv) (c .if1 .left)
 
 placed-mul-kid : (t : ℕ) → placed-lts.Need-mul-kid (
-  skip-reads.Asked,
-  skip-reads.Learnt,
+  close-of-reads.Asked,
+  close-of-reads.Learnt,
   copy-reads.Asked,
   copy-reads.Learnt,
   edges-of-reads.Asked,
@@ -862,14 +924,14 @@ placed-mul-kid : (t : ℕ) → placed-lts.Need-mul-kid (
   items.Post,
 ) (placed-at t) placed.Post
 placed-mul-kid t c =
-    let start = c .before .before .before .before in
-    let u = start .pre .1 .0 in
-    let g = start .pre .1 .1 .0 in
+    let start = c .before .before .before .before .before in
+    let u = start .pre .1 .1 .0 in
+    let g = start .pre .1 .1 .1 .0 in
     omega (arith, g .index)
 
 placed-array-read-kid : (t : ℕ) → placed-lts.Need-array-read-kid (
-  skip-reads.Asked,
-  skip-reads.Learnt,
+  close-of-reads.Asked,
+  close-of-reads.Learnt,
   copy-reads.Asked,
   copy-reads.Learnt,
   edges-of-reads.Asked,
@@ -880,14 +942,14 @@ placed-array-read-kid : (t : ℕ) → placed-lts.Need-array-read-kid (
   items.Post,
 ) (placed-at t) placed.Post
 placed-array-read-kid t c =
-    let start = c .before .before .before .before in
-    let u = start .pre .1 .0 in
-    let g = start .pre .1 .1 .0 in
+    let start = c .before .before .before .before .before in
+    let u = start .pre .1 .1 .0 in
+    let g = start .pre .1 .1 .1 .0 in
     g .index
 
-placed-skip-requires : (t : ℕ) → placed-lts.Need-skip-requires (
-  skip-reads.Asked,
-  skip-reads.Learnt,
+placed-cast-kid : (t : ℕ) → placed-lts.Need-cast-kid (
+  close-of-reads.Asked,
+  close-of-reads.Learnt,
   copy-reads.Asked,
   copy-reads.Learnt,
   edges-of-reads.Asked,
@@ -897,15 +959,33 @@ placed-skip-requires : (t : ℕ) → placed-lts.Need-skip-requires (
   items-below t,
   items.Post,
 ) (placed-at t) placed.Post
-placed-skip-requires t c κs =
+placed-cast-kid t c =
     let start = c .before .before .before .before .before in
-    let u = start .pre .1 .0 in
-    let g = start .pre .1 .1 .0 in
-    (unmarked (g .content), letters-of (g .active .carried) (c .match .keys1) .there)
+    let u = start .pre .1 .1 .0 in
+    let g = start .pre .1 .1 .1 .0 in
+    omega (arith, carried-within (g .active .carried), u .short)
+
+placed-close-of-requires : (t : ℕ) → placed-lts.Need-close-of-requires (
+  close-of-reads.Asked,
+  close-of-reads.Learnt,
+  copy-reads.Asked,
+  copy-reads.Learnt,
+  edges-of-reads.Asked,
+  edges-of-reads.Learnt,
+  grow-below t,
+  grow.Post,
+  items-below t,
+  items.Post,
+) (placed-at t) placed.Post
+placed-close-of-requires t c κs =
+    let start = c .before .before .before .before .before .before in
+    let u = start .pre .1 .1 .0 in
+    let g = start .pre .1 .1 .1 .0 in
+    (start .pre .1 .0, (unmarked (g .content), letters-of (g .active .carried) (c .match .keys1) .there))
 
 placed-copy-requires : (t : ℕ) → placed-lts.Need-copy-requires (
-  skip-reads.Asked,
-  skip-reads.Learnt,
+  close-of-reads.Asked,
+  close-of-reads.Learnt,
   copy-reads.Asked,
   copy-reads.Learnt,
   edges-of-reads.Asked,
@@ -916,14 +996,14 @@ placed-copy-requires : (t : ℕ) → placed-lts.Need-copy-requires (
   items.Post,
 ) (placed-at t) placed.Post
 placed-copy-requires t c κs =
-    let start = c .before .before .before .before .before .before .before in
-    let u = start .pre .1 .0 in
-    let g = start .pre .1 .1 .0 in
-    copy-room (letters-of (g .active .carried) (c .before .before .match .keys1)) (c .before .skip .ensures) (start .pre .1 .1 .1)
+    let start = c .before .before .before .before .before .before .before .before in
+    let u = start .pre .1 .1 .0 in
+    let g = start .pre .1 .1 .1 .0 in
+    copy-room (letters-of (g .active .carried) (c .before .before .match .keys1)) (c .before .close-of .ensures) (start .pre .1 .1 .1 .1)
 
 placed-sub-o : (t : ℕ) → placed-lts.Need-sub-o (
-  skip-reads.Asked,
-  skip-reads.Learnt,
+  close-of-reads.Asked,
+  close-of-reads.Learnt,
   copy-reads.Asked,
   copy-reads.Learnt,
   edges-of-reads.Asked,
@@ -934,14 +1014,14 @@ placed-sub-o : (t : ℕ) → placed-lts.Need-sub-o (
   items.Post,
 ) (placed-at t) placed.Post
 placed-sub-o t c =
-    let start = c .before .before .before .before .before in
-    let u = start .pre .1 .0 in
-    let g = start .pre .1 .1 .0 in
+    let start = c .before .before .before .before .before .before in
+    let u = start .pre .1 .1 .0 in
+    let g = start .pre .1 .1 .1 .0 in
     let is = inner-of (g .active .carried) (c .match .keys2) in omega (arith, is .later)
 
 placed-shared-slice-read-s : (t : ℕ) → placed-lts.Need-shared-slice-read-s (
-  skip-reads.Asked,
-  skip-reads.Learnt,
+  close-of-reads.Asked,
+  close-of-reads.Learnt,
   copy-reads.Asked,
   copy-reads.Learnt,
   edges-of-reads.Asked,
@@ -952,14 +1032,14 @@ placed-shared-slice-read-s : (t : ℕ) → placed-lts.Need-shared-slice-read-s (
   items.Post,
 ) (placed-at t) placed.Post
 placed-shared-slice-read-s t c =
-    let start = c .before .before .before .before .before .before in
-    let u = start .pre .1 .0 in
-    let g = start .pre .1 .1 .0 in
+    let start = c .before .before .before .before .before .before .before in
+    let u = start .pre .1 .1 .0 in
+    let g = start .pre .1 .1 .1 .0 in
     let is = inner-of (g .active .carried) (c .before .match .keys2) in omega (arith, is .later, content-within (is .there))
 
 placed-edges-of-requires : (t : ℕ) → placed-lts.Need-edges-of-requires (
-  skip-reads.Asked,
-  skip-reads.Learnt,
+  close-of-reads.Asked,
+  close-of-reads.Learnt,
   copy-reads.Asked,
   copy-reads.Learnt,
   edges-of-reads.Asked,
@@ -970,14 +1050,14 @@ placed-edges-of-requires : (t : ℕ) → placed-lts.Need-edges-of-requires (
   items.Post,
 ) (placed-at t) placed.Post
 placed-edges-of-requires t c κs =
-    let start = c .before .before .before .before .before .before in
-    let u = start .pre .1 .0 in
-    let g = start .pre .1 .1 .0 in
-    let is = inner-of (g .active .carried) (c .before .match .keys2) in (u, element-of is)
+    let start = c .before .before .before .before .before .before .before in
+    let u = start .pre .1 .1 .0 in
+    let g = start .pre .1 .1 .1 .0 in
+    (start .pre .1 .0, let is = inner-of (g .active .carried) (c .before .match .keys2) in (u, element-of is))
 
 placed-cast-place : (t : ℕ) → placed-lts.Need-cast-place (
-  skip-reads.Asked,
-  skip-reads.Learnt,
+  close-of-reads.Asked,
+  close-of-reads.Learnt,
   copy-reads.Asked,
   copy-reads.Learnt,
   edges-of-reads.Asked,
@@ -988,14 +1068,14 @@ placed-cast-place : (t : ℕ) → placed-lts.Need-cast-place (
   items.Post,
 ) (placed-at t) placed.Post
 placed-cast-place t c =
-    let start = c .before .before .before .before .before .before .before .before in
-    let u = start .pre .1 .0 in
-    let g = start .pre .1 .1 .0 in
+    let start = c .before .before .before .before .before .before .before .before .before in
+    let u = start .pre .1 .1 .0 in
+    let g = start .pre .1 .1 .1 .0 in
     let is = inner-of (g .active .carried) (c .before .before .before .match .keys2) in omega (arith, source-small u _ (is .is-type))
 
 placed-element-copy-out-target : (t : ℕ) → placed-lts.Need-element-copy-out-target (
-  skip-reads.Asked,
-  skip-reads.Learnt,
+  close-of-reads.Asked,
+  close-of-reads.Learnt,
   copy-reads.Asked,
   copy-reads.Learnt,
   edges-of-reads.Asked,
@@ -1006,14 +1086,14 @@ placed-element-copy-out-target : (t : ℕ) → placed-lts.Need-element-copy-out-
   items.Post,
 ) (placed-at t) placed.Post
 placed-element-copy-out-target t c =
-    let start = c .before .before .before .before .before .before .before .before in
-    let u = start .pre .1 .0 in
-    let g = start .pre .1 .1 .0 in
+    let start = c .before .before .before .before .before .before .before .before .before in
+    let u = start .pre .1 .1 .0 in
+    let g = start .pre .1 .1 .1 .0 in
     let is = inner-of (g .active .carried) (c .before .before .before .match .keys2) in source-small u _ (is .is-type)
 
 placed-grow-requires : (t : ℕ) → placed-lts.Need-grow-requires (
-  skip-reads.Asked,
-  skip-reads.Learnt,
+  close-of-reads.Asked,
+  close-of-reads.Learnt,
   copy-reads.Asked,
   copy-reads.Learnt,
   edges-of-reads.Asked,
@@ -1024,17 +1104,17 @@ placed-grow-requires : (t : ℕ) → placed-lts.Need-grow-requires (
   items.Post,
 ) (placed-at t) placed.Post
 placed-grow-requires t c κs =
-    let start = c .before .before .before .before .before .before .before .before .before .before in
-    let u = start .pre .1 .0 in
-    let g = start .pre .1 .1 .0 in
+    let start = c .before .before .before .before .before .before .before .before .before .before .before in
+    let u = start .pre .1 .1 .0 in
+    let g = start .pre .1 .1 .1 .0 in
     let is = inner-of (g .active .carried) (c .before .before .before .before .before .match .keys2) in
     let p = c .before .before .before .edges-of .ensures (element-of is) in
     let b = prepared-below u (is .is-type) p in
-    (omega (arith, start .pre .0, p .same-from, is .later, content-within (is .there), g .few-steps), (u, (b .0, room-same (is .is ∙ sym (b .1)) (start .pre .1 .1 .1))))
+    (omega (arith, start .pre .0, p .same-from, is .later, content-within (is .there), g .few-steps), (start .pre .1 .0, (u, (b .0, room-same (is .is ∙ sym (b .1)) (start .pre .1 .1 .1 .1)))))
 
 placed-items-requires : (t : ℕ) → placed-lts.Need-items-requires (
-  skip-reads.Asked,
-  skip-reads.Learnt,
+  close-of-reads.Asked,
+  close-of-reads.Learnt,
   copy-reads.Asked,
   copy-reads.Learnt,
   edges-of-reads.Asked,
@@ -1045,15 +1125,15 @@ placed-items-requires : (t : ℕ) → placed-lts.Need-items-requires (
   items.Post,
 ) (placed-at t) placed.Post
 placed-items-requires t c κs =
-    let start = c .before .before .before .before .before .before in
-    let u = start .pre .1 .0 in
-    let g = start .pre .1 .1 .0 in
+    let start = c .before .before .before .before .before .before .before in
+    let u = start .pre .1 .1 .0 in
+    let g = start .pre .1 .1 .1 .0 in
     let h = lists-of u g (c .before .match .rest .0 .1) (c .before .match .rest .1) in
-    (omega (arith, start .pre .0), (u, (h .0, room-same (sym (h .1)) (start .pre .1 .1 .1))))
+    (omega (arith, start .pre .0), (start .pre .1 .0, (u, (h .0, room-same (sym (h .1)) (start .pre .1 .1 .1 .1)))))
 
 placed-same-length : (t : ℕ) → placed-lts.Need-same-length (
-  skip-reads.Asked,
-  skip-reads.Learnt,
+  close-of-reads.Asked,
+  close-of-reads.Learnt,
   copy-reads.Asked,
   copy-reads.Learnt,
   edges-of-reads.Asked,
@@ -1064,14 +1144,14 @@ placed-same-length : (t : ℕ) → placed-lts.Need-same-length (
   items.Post,
 ) (placed-at t) placed.Post
 placed-same-length t c =
-    let start = c .before .before .before .before .before .before .before .before .before .before in
-    let u = start .pre .1 .0 in
-    let g = start .pre .1 .1 .0 in
-    makes-length (letters-made (letters-of (g .active .carried) (c .before .before .before .before .before .match .keys1)) (c .before .before .before .before .skip .ensures) (start .pre .1 .1 .1 .few) (c .before .before .copy .ensures))
+    let start = c .before .before .before .before .before .before .before .before .before .before .before in
+    let u = start .pre .1 .1 .0 in
+    let g = start .pre .1 .1 .1 .0 in
+    makes-length (letters-made (letters-of (g .active .carried) (c .before .before .before .before .before .match .keys1)) (c .before .before .before .before .close-of .ensures) (start .pre .1 .1 .1 .1 .few) (c .before .before .copy .ensures))
 
 placed-returns : (t : ℕ) → placed-lts.Need-returns (
-  skip-reads.Asked,
-  skip-reads.Learnt,
+  close-of-reads.Asked,
+  close-of-reads.Learnt,
   copy-reads.Asked,
   copy-reads.Learnt,
   edges-of-reads.Asked,
@@ -1082,13 +1162,13 @@ placed-returns : (t : ℕ) → placed-lts.Need-returns (
   items.Post,
 ) (placed-at t) placed.Post
 placed-returns t c =
-    let start = c .before .before .before .before .before .before .before .before .before .before in
-    let u = start .pre .1 .0 in
-    λ g. letters-made (letters-of (g .active .carried) (c .before .before .before .before .before .match .keys1)) (c .before .before .before .before .skip .ensures) (start .pre .1 .1 .1 .few) (c .before .before .copy .ensures)
+    let start = c .before .before .before .before .before .before .before .before .before .before .before in
+    let u = start .pre .1 .1 .0 in
+    λ g. letters-made (letters-of (g .active .carried) (c .before .before .before .before .before .match .keys1)) (c .before .before .before .before .close-of .ensures) (start .pre .1 .1 .1 .1 .few) (c .before .before .copy .ensures)
 
 placed-same-length-2 : (t : ℕ) → placed-lts.Need-same-length-2 (
-  skip-reads.Asked,
-  skip-reads.Learnt,
+  close-of-reads.Asked,
+  close-of-reads.Learnt,
   copy-reads.Asked,
   copy-reads.Learnt,
   edges-of-reads.Asked,
@@ -1099,14 +1179,14 @@ placed-same-length-2 : (t : ℕ) → placed-lts.Need-same-length-2 (
   items.Post,
 ) (placed-at t) placed.Post
 placed-same-length-2 t c =
-    let start = c .before .before .before .before .before .before .before .before .before .before .before .before .before in
-    let u = start .pre .1 .0 in
-    let g = start .pre .1 .1 .0 in
+    let start = c .before .before .before .before .before .before .before .before .before .before .before .before .before .before in
+    let u = start .pre .1 .1 .0 in
+    let g = start .pre .1 .1 .1 .0 in
     let is = inner-of (g .active .carried) (c .before .before .before .before .before .before .before .before .match .keys2) in makes-length (let p = c .before .before .before .before .before .before .edges-of .ensures (element-of is) in let b = prepared-below u (is .is-type) p in makes-same (b .1 ∙ sym (is .is)) (c .before .before .grow .ensures (b .0)))
 
 placed-returns-2 : (t : ℕ) → placed-lts.Need-returns-2 (
-  skip-reads.Asked,
-  skip-reads.Learnt,
+  close-of-reads.Asked,
+  close-of-reads.Learnt,
   copy-reads.Asked,
   copy-reads.Learnt,
   edges-of-reads.Asked,
@@ -1117,13 +1197,13 @@ placed-returns-2 : (t : ℕ) → placed-lts.Need-returns-2 (
   items.Post,
 ) (placed-at t) placed.Post
 placed-returns-2 t c =
-    let start = c .before .before .before .before .before .before .before .before .before .before .before .before .before in
-    let u = start .pre .1 .0 in
+    let start = c .before .before .before .before .before .before .before .before .before .before .before .before .before .before in
+    let u = start .pre .1 .1 .0 in
     λ g. let is = inner-of (g .active .carried) (c .before .before .before .before .before .before .before .before .match .keys2) in let p = c .before .before .before .before .before .before .edges-of .ensures (element-of is) in let b = prepared-below u (is .is-type) p in makes-same (b .1 ∙ sym (is .is)) (c .before .before .grow .ensures (b .0))
 
 placed-same-length-3 : (t : ℕ) → placed-lts.Need-same-length-3 (
-  skip-reads.Asked,
-  skip-reads.Learnt,
+  close-of-reads.Asked,
+  close-of-reads.Learnt,
   copy-reads.Asked,
   copy-reads.Learnt,
   edges-of-reads.Asked,
@@ -1134,14 +1214,14 @@ placed-same-length-3 : (t : ℕ) → placed-lts.Need-same-length-3 (
   items.Post,
 ) (placed-at t) placed.Post
 placed-same-length-3 t c =
-    let start = c .before .before .before .before .before .before .before .before .before in
-    let u = start .pre .1 .0 in
-    let g = start .pre .1 .1 .0 in
+    let start = c .before .before .before .before .before .before .before .before .before .before in
+    let u = start .pre .1 .1 .0 in
+    let g = start .pre .1 .1 .1 .0 in
     let h = lists-of u g (c .before .before .before .before .match .rest .0 .1) (c .before .before .before .before .match .rest .1) in makes-length (c .before .before .items .ensures (h .0))
 
 placed-returns-3 : (t : ℕ) → placed-lts.Need-returns-3 (
-  skip-reads.Asked,
-  skip-reads.Learnt,
+  close-of-reads.Asked,
+  close-of-reads.Learnt,
   copy-reads.Asked,
   copy-reads.Learnt,
   edges-of-reads.Asked,
@@ -1152,16 +1232,16 @@ placed-returns-3 : (t : ℕ) → placed-lts.Need-returns-3 (
   items.Post,
 ) (placed-at t) placed.Post
 placed-returns-3 t c =
-    let start = c .before .before .before .before .before .before .before .before .before in
-    let u = start .pre .1 .0 in
+    let start = c .before .before .before .before .before .before .before .before .before .before in
+    let u = start .pre .1 .1 .0 in
     λ g. let h = lists-of u g (c .before .before .before .before .match .rest .0 .1) (c .before .before .before .before .match .rest .1) in makes-same (h .1) (c .before .before .items .ensures (h .0))
 
 abbrev row-Inv-loop : row-lts.InvT-loop
-row-Inv-loop types1 k1 c1 m1 types2 k2 c2 m2 h2 tg st ln em tr e act d t from to out₀ at count base deeper j₀ next₀ number₀ out j next number =
+row-Inv-loop types1 k1 c1 m1 types2 k2 c2 m2 h2 tg st ln em tr sp e act d t from to out₀ at count base deeper j₀ next₀ number₀ out j next number =
     RowGoes (world types1 k1 c1 m1 types2 k2 c2 m2 h2 tg st ln em tr) e act d t from to out₀ at count out j next number
 
 abbrev row-μ-loop : row-lts.MeasureT-loop
-row-μ-loop types1 k1 c1 m1 types2 k2 c2 m2 h2 tg st ln em tr e act d t from to out₀ at count base deeper j₀ next₀ number₀ out j next number =
+row-μ-loop types1 k1 c1 m1 types2 k2 c2 m2 h2 tg st ln em tr sp e act d t from to out₀ at count base deeper j₀ next₀ number₀ out j next number =
     to - j
 
 row-mul-base : (t : ℕ) → row-lts.Need-mul-base (
@@ -1171,9 +1251,9 @@ row-mul-base : (t : ℕ) → row-lts.Need-mul-base (
   element.Post,
 ) (row-at t) row.Post row-Inv-loop row-μ-loop
 row-mul-base t c =
-    let start = c .before .before .before in
-    let u = start .pre .1 .0 in
-    let g = start .pre .1 .1 .0 in
+    let start = c .before .before .before .before in
+    let u = start .pre .1 .1 .0 in
+    let g = start .pre .1 .1 .1 .0 in
     omega (arith, small u (start .args .t) (g .is-type))
 
 row-add-deeper : (t : ℕ) → row-lts.Need-add-deeper (
@@ -1183,9 +1263,9 @@ row-add-deeper : (t : ℕ) → row-lts.Need-add-deeper (
   element.Post,
 ) (row-at t) row.Post row-Inv-loop row-μ-loop
 row-add-deeper t c =
-    let start = c .before .before .before in
-    let u = start .pre .1 .0 in
-    let g = start .pre .1 .1 .0 in
+    let start = c .before .before .before .before in
+    let u = start .pre .1 .1 .0 in
+    let g = start .pre .1 .1 .1 .0 in
     omega (arith, g .few-steps)
 
 row-loop-holds : (t : ℕ) → row-lts.Need-loop-holds (
@@ -1195,10 +1275,10 @@ row-loop-holds : (t : ℕ) → row-lts.Need-loop-holds (
   element.Post,
 ) (row-at t) row.Post row-Inv-loop row-μ-loop
 row-loop-holds t c =
-    let start = c .before .before .before in
-    let u = start .pre .1 .0 in
-    let g = start .pre .1 .1 .0 in
-    row-starts g (start .pre .1 .1 .1)
+    let start = c .before .before .before .before in
+    let u = start .pre .1 .1 .0 in
+    let g = start .pre .1 .1 .1 .0 in
+    row-starts g (start .pre .1 .1 .1 .1)
 
 row-sub-o : (t : ℕ) → row-lts.Need-sub-o (
   narrowed-reads.Asked,
@@ -1207,9 +1287,9 @@ row-sub-o : (t : ℕ) → row-lts.Need-sub-o (
   element.Post,
 ) (row-at t) row.Post row-Inv-loop row-μ-loop
 row-sub-o t c =
-    let start = c .before .before .before .before .before in
-    let u = start .pre .1 .0 in
-    let g = start .pre .1 .1 .0 in
+    let start = c .before .before .before .before .before .before in
+    let u = start .pre .1 .1 .0 in
+    let g = start .pre .1 .1 .1 .0 in
     omega (arith, g .low, c .before .loop .inv .low)
 
 row-add-o : (t : ℕ) → row-lts.Need-add-o (
@@ -1219,9 +1299,9 @@ row-add-o : (t : ℕ) → row-lts.Need-add-o (
   element.Post,
 ) (row-at t) row.Post row-Inv-loop row-μ-loop
 row-add-o t c =
-    let start = c .before .before .before .before .before in
-    let u = start .pre .1 .0 in
-    let g = start .pre .1 .1 .0 in
+    let start = c .before .before .before .before .before .before in
+    let u = start .pre .1 .1 .0 in
+    let g = start .pre .1 .1 .1 .0 in
     omega (arith, member-place u g (c .before .loop .inv) (c .loop-test .taken))
 
 row-element-copy-out-m : (t : ℕ) → row-lts.Need-element-copy-out-m (
@@ -1231,9 +1311,9 @@ row-element-copy-out-m : (t : ℕ) → row-lts.Need-element-copy-out-m (
   element.Post,
 ) (row-at t) row.Post row-Inv-loop row-μ-loop
 row-element-copy-out-m t c =
-    let start = c .before .before .before .before .before in
-    let u = start .pre .1 .0 in
-    let g = start .pre .1 .1 .0 in
+    let start = c .before .before .before .before .before .before in
+    let u = start .pre .1 .1 .0 in
+    let g = start .pre .1 .1 .1 .0 in
     member-place u g (c .before .loop .inv) (c .loop-test .taken)
 
 row-narrowed-requires : (t : ℕ) → row-lts.Need-narrowed-requires (
@@ -1243,10 +1323,10 @@ row-narrowed-requires : (t : ℕ) → row-lts.Need-narrowed-requires (
   element.Post,
 ) (row-at t) row.Post row-Inv-loop row-μ-loop
 row-narrowed-requires t c κs =
-    let start = c .before .before .before .before .before .before in
-    let u = start .pre .1 .0 in
-    let g = start .pre .1 .1 .0 in
-    selected-readable u (g .selected)
+    let start = c .before .before .before .before .before .before .before in
+    let u = start .pre .1 .1 .0 in
+    let g = start .pre .1 .1 .1 .0 in
+    selected-readable u (g .few-edges) (g .selected)
 
 row-element-requires : (t : ℕ) → row-lts.Need-element-requires (
   narrowed-reads.Asked,
@@ -1255,13 +1335,13 @@ row-element-requires : (t : ℕ) → row-lts.Need-element-requires (
   element.Post,
 ) (row-at t) row.Post row-Inv-loop row-μ-loop
 row-element-requires t c κs =
-    let start = c .before .before .before .before .before .before .before .before in
-    let u = start .pre .1 .0 in
-    let g = start .pre .1 .1 .0 in
+    let start = c .before .before .before .before .before .before .before .before .before in
+    let u = start .pre .1 .1 .0 in
+    let g = start .pre .1 .1 .1 .0 in
     let inv = c .before .before .before .before .loop .inv in
     let less = c .before .before .before .loop-test .taken in
     let n = c .before .narrowed .ensures in
-    (omega (arith, start .pre .0, g .few-steps), (u, (member-below u g inv less n, member-room u g inv less n (start .pre .1 .1 .1))))
+    (omega (arith, start .pre .0, g .few-steps), (start .pre .1 .0, (u, (member-below u g inv less n, member-room u g inv less n (start .pre .1 .1 .1 .1)))))
 
 row-add-j : (t : ℕ) → row-lts.Need-add-j (
   narrowed-reads.Asked,
@@ -1270,9 +1350,9 @@ row-add-j : (t : ℕ) → row-lts.Need-add-j (
   element.Post,
 ) (row-at t) row.Post row-Inv-loop row-μ-loop
 row-add-j t c =
-    let start = c .before .before .before .before .before .before .before .before .before .before .before in
-    let u = start .pre .1 .0 in
-    let g = start .pre .1 .1 .0 in
+    let start = c .before .before .before .before .before .before .before .before .before .before .before .before in
+    let u = start .pre .1 .1 .0 in
+    let g = start .pre .1 .1 .1 .0 in
     omega (arith, g .high, c .before .before .before .before .before .before .loop-test .taken)
 
 row-loop-less : (t : ℕ) → row-lts.Need-loop-less (
@@ -1291,9 +1371,9 @@ row-loop-again : (t : ℕ) → row-lts.Need-loop-again (
   element.Post,
 ) (row-at t) row.Post row-Inv-loop row-μ-loop
 row-loop-again t c =
-    let start = c .before .before .before .before .before .before .before .before .before .before .before in
-    let u = start .pre .1 .0 in
-    let g = start .pre .1 .1 .0 in
+    let start = c .before .before .before .before .before .before .before .before .before .before .before .before in
+    let u = start .pre .1 .1 .0 in
+    let g = start .pre .1 .1 .1 .0 in
     let inv = c .before .before .before .before .before .before .before .loop .inv in
     let less = c .before .before .before .before .before .before .loop-test .taken in
     let n = c .before .before .before .before .narrowed .ensures in
@@ -1316,8 +1396,8 @@ row-returns : (t : ℕ) → row-lts.Need-returns (
   element.Post,
 ) (row-at t) row.Post row-Inv-loop row-μ-loop
 row-returns t c =
-    let start = c .before .before .before .before .before in
-    λ g. row-done (start .pre .1 .0) g (c .before .loop .inv) (c .loop-test .left)
+    let start = c .before .before .before .before .before .before in
+    λ g. row-done (start .pre .1 .1 .0) g (c .before .loop .inv) (c .loop-test .left)
 
 pub +element+grow+items+placed+row-spec : {M : Type 1} → statement M
 +element+grow+items+placed+row-spec =
@@ -1380,8 +1460,8 @@ pub +element+grow+items+placed+row-spec : {M : Type 1} → statement M
       one-edge-reads.Learnt,
       element-below t,
       element.Post,
-      skip-reads.Asked,
-      skip-reads.Learnt,
+      close-of-reads.Asked,
+      close-of-reads.Learnt,
     )
     (items-at t)
     items.Post
@@ -1396,9 +1476,13 @@ pub +element+grow+items+placed+row-spec : {M : Type 1} → statement M
     (items-sub-item t)
     (items-part-item-start t)
     (items-part-item-end t)
+    (items-mul-item-spans t)
+    (items-sub-item-spans t)
+    (items-part-item-spans-start t)
+    (items-part-item-spans-end t)
     (items-one-edge-requires t)
     (items-element-requires t)
-    (items-skip-requires t)
+    (items-close-of-requires t)
     (items-add-o t)
     (items-add-o-2 t)
     (items-loop-less t)
@@ -1406,8 +1490,8 @@ pub +element+grow+items+placed+row-spec : {M : Type 1} → statement M
     (items-same-length t)
     (items-returns t))
     (λ t. placed-lts.spec (
-      skip-reads.Asked,
-      skip-reads.Learnt,
+      close-of-reads.Asked,
+      close-of-reads.Learnt,
       copy-reads.Asked,
       copy-reads.Learnt,
       edges-of-reads.Asked,
@@ -1421,7 +1505,8 @@ pub +element+grow+items+placed+row-spec : {M : Type 1} → statement M
     placed.Post
     (placed-mul-kid t)
     (placed-array-read-kid t)
-    (placed-skip-requires t)
+    (placed-cast-kid t)
+    (placed-close-of-requires t)
     (placed-copy-requires t)
     (placed-sub-o t)
     (placed-shared-slice-read-s t)

@@ -9,10 +9,10 @@ use Rattle.images.proofs.first_active.Statement.{statement}
 use Rattle.images.proofs.first_active.Tie as tie
 
 abbrev Inv-loop : tie.InvT-loop
-Inv-loop act i₀ i = (i ≤ 16) × ((j : ℕ) → j < i → getD act j 0 ≡ 1 → ⊥)
+Inv-loop count act i₀ i = (i ≤ count) × ((j : ℕ) → j < i → getD act j 0 ≡ 1 → ⊥)
 
 abbrev μ-loop : tie.MeasureT-loop
-μ-loop act i₀ i = 16 - i
+μ-loop count act i₀ i = count - i
 
 loop-holds : tie.Need-loop-holds Inv-loop μ-loop
 loop-holds c = search needs
@@ -33,7 +33,8 @@ loop-again : tie.Need-loop-again Inv-loop μ-loop
 loop-again c = (search needs, below-more _ _ (c .before .before .loop .inv .1) (c .if1 .left))
 
 returns-2 : tie.Need-returns-2 Inv-loop μ-loop
-returns-2 c = record { high = omega arith; none-before = c .before .loop .inv .1; active = λ less. absurd (omega (arith, c .loop-test .left)) }
+returns-2 c =
+    record { high = omega arith; none-before = λ j h on. c .before .loop .inv .1 j (omega (arith, c .loop-test .left, c .before .before .pre .counted j h on)) on; active = λ less. absurd (omega arith) }
 
 pub first-active-spec : {M : Type 1} → statement M
 first-active-spec =

@@ -5,7 +5,7 @@ use Rattle.images.proofs.no_edges.Statement.{statement}
 use Rattle.images.proofs.no_edges.Tie as tie
 
 returns : tie.Need-returns
-returns c = record { is-from = refl; no-one = none-marked }
+returns c = record { is-from = refl; is-count = refl; no-one = none-marked }
 
 pub no-edges-spec : {M : Type 1} → statement M
 no-edges-spec = tie.close (tie.spec returns)

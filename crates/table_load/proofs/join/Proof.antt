@@ -1,11 +1,8 @@
--- `table_load::join` meets its contract; the place of the new member lies in the last type's row.
+-- `table_load::join` meets its contract: the place of the new member lies in the type's row.
+use mathlib.Core.Path.{refl}
 use borrow.Author.Needs.{needs}
-use Rattle.table_load.proofs.Rooms.{joined-at}
 use Rattle.table_load.proofs.join.Statement.{statement}
 use Rattle.table_load.proofs.join.Tie as tie
-
-sub-last : tie.Need-sub-last
-sub-last c = search needs
 
 element-copy-out-count : tie.Need-element-copy-out-count
 element-copy-out-count c = search needs
@@ -13,34 +10,33 @@ element-copy-out-count c = search needs
 mul-place : tie.Need-mul-place
 mul-place c = search needs
 
-wide-requires : tie.Need-wide-requires
-wide-requires c κs = search needs
+cast-place : tie.Need-cast-place
+cast-place c = search needs
 
 add-place : tie.Need-add-place
 add-place c = search needs
 
-element-write-r : tie.Need-element-write-r
-element-write-r c = search needs
+element-write-members : tie.Need-element-write-members
+element-write-members c = search needs
 
-add-r : tie.Need-add-r
-add-r c = search needs
+add-counts : tie.Need-add-counts
+add-counts c = search needs
 
-element-write-r-2 : tie.Need-element-write-r-2
-element-write-r-2 c = search needs
+element-write-counts : tie.Need-element-write-counts
+element-write-counts c = search needs
 
 returns : tie.Need-returns
-returns c = joined-at (c .before .before .args .a) (c .before .before .args .member) (c .wide .ensures)
+returns c = (refl, refl)
 
 pub join-spec : {M : Type 1} → statement M
 join-spec =
     tie.close
     (tie.spec
-    sub-last
     element-copy-out-count
     mul-place
-    wide-requires
+    cast-place
     add-place
-    element-write-r
-    add-r
-    element-write-r-2
+    element-write-members
+    add-counts
+    element-write-counts
     returns)

@@ -25,7 +25,7 @@ highest-requires c κs = search needs
 add-result : tie.Need-add-result
 add-result c =
     let s = c .before .before .before .before .before .before in
-    omega (arith, c .highest .ensures, highest-low 64 (s .args .heights .now) (s .pre .2) (take (getD (s .args .counts .now) (s .args .t) 0) (drop (s .args .t * 16) (s .args .members .now))))
+    omega (arith, c .highest .ensures, highest-low 65 (s .args .heights .now) (s .pre .2) (take (getD (s .args .counts .now) (s .args .t) 0) (drop (s .args .t * 16) (s .args .members .now))))
 
 mul-lowest : tie.Need-mul-lowest
 mul-lowest c = search needs
@@ -36,7 +36,7 @@ lowest-requires c κs = search needs
 add-result-2 : tie.Need-add-result-2
 add-result-2 c =
     let s = c .before .before .before .before .before .before in
-    omega (arith, c .lowest .ensures, lowest-low 64 (s .args .heights .now) (s .pre .2) (take (getD (s .args .counts .now) (s .args .t) 0) (drop (s .args .t * 16) (s .args .members .now))))
+    omega (arith, c .lowest .ensures, lowest-low 65 (s .args .heights .now) (s .pre .2) (take (getD (s .args .counts .now) (s .args .t) 0) (drop (s .args .t * 16) (s .args .members .now))))
 
 returns : tie.Need-returns
 returns c =
