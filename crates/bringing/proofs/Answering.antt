@@ -23,19 +23,16 @@ use Rattle.inverse.specs.Reading.{BringsTo}
 use Rattle.images.specs.Setting.{World, settingOf, Usable}
 use Rattle.images.specs.Image.{Source, imageDocument}
 use Rattle.bringing.specs.declared.Brought.{Brought}
-use Rattle.bringing.specs.Bringing.{FillHeld, Target, ReadFrom, Brings, broughtResult}
+use Rattle.bringing.specs.Bringing.{Target, ReadFrom, Brings, broughtResult}
 use Rattle.bringing.proofs.Imaging.{front}
 
 -- the same arrays with another document
 abbrev pub withTree : World → List ℕ → World
 withTree w tree = record { source = w .source; target = w .target; paths = w .paths; high = w .high; tree = tree }
 
--- are as usable if it is short, and hold the same filler lengths
+-- are as usable if it is short
 pub usable-with : {w : World} → Usable w → (tree : List ℕ) → length tree ≤ 60000 → Usable (withTree w tree)
 usable-with u tree short = record { ready = u .ready; source-places = u .source-places; target-places = u .target-places; short = short }
-
-pub fill-with : {w : World} {fill : List ℕ} → FillHeld w fill → (tree : List ℕ) → FillHeld (withTree w tree) fill
-fill-with f tree = record { fill-at = f .fill-at }
 
 -- what was read lies within the buffer
 pub read-within : {old new : List ℕ} {n : ℕ} {sought : Option Content} → BringsTo old new n sought → n ≤ length new

@@ -2,22 +2,17 @@
 use mathlib.Core.Path.{_≡_}
 use mathlib.Core.List.{List}
 use mathlib.Core.Option.{some}
-use Prim.Native.Nat.{ℕ, _<_, _≤_, min}
-use lib.ListN.{length, getD}
+use Prim.Native.Nat.{ℕ, _≤_}
+use lib.ListN.{length}
 use Rattle.bringing.specs.declared.Brought.{Brought}
 use Rattle.bringing.specs.declared.Brought.the-variants as brought
 use Rattle.images.specs.Setting.{World, settingOf, targetTable}
 use Rattle.model.specs.Definitions.Table.{kindOf}
 use Rattle.model.specs.Definitions.Content.{Content, contentOf, document}
 use Rattle.model.specs.Definitions.Conformance.{Holds}
-use Rattle.model.specs.Definitions.Filler.{fillerLength}
 use Rattle.model.specs.Definitions.Inverse.{readBack, bringBackContent}
 use Rattle.model.specs.Definitions.Refusals.{no-image, output-too-short}
 use Rattle.model.specs.Definitions.Entries.{Result, refused, accepted, bringContent}
-
--- the array holds the byte lengths of the target's filler elements, held at 60,001
-pub record FillHeld (w : World) (fill : List ℕ) : Type 0 where
-  pub fill-at : (t : ℕ) → t < length (targetTable w) → getD fill t 0 ≡ min 60001 (fillerLength (targetTable w) t)
 
 -- the given document conforms to the target table, and is not longer than 60,000 bytes
 pub record Target (w : World) : Type 0 where

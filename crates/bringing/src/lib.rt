@@ -5,9 +5,11 @@ ghost use mathlib.Core.Bool.{true};
 ghost use mathlib.Core.Logic.{_↔_};
 ghost use Prim.Native.Nat.{_≤_};
 ghost use lib.ListN.{length};
+ghost use Rattle.dtd.specs.Loaded.{tableIn};
+ghost use Rattle.setting.specs.Ready.{FillHeld};
 ghost use Rattle.images.specs.Setting.{world, Usable};
 ghost use Rattle.images.specs.Image.{Source, imageDocument};
-ghost use Rattle.bringing.specs.Bringing.{FillHeld, Target, ReadFrom, Brings};
+ghost use Rattle.bringing.specs.Bringing.{Target, ReadFrom, Brings};
 use inverse::reading::Read;
 use scanning::spans::fill_spans;
 
@@ -56,7 +58,7 @@ fn is_image<'a>(
     room: &mut [u8],
 ) -> bool
     requires setting { ⌜ Usable (world types1 (now k1) (now c1) (now m1) types2 (now k2) (now c2) (now m2) (now h2) (now tg) (now st) (now ln) (now em) (now source)) ⌝ }
-    requires fill { ⌜ FillHeld (world types1 (now k1) (now c1) (now m1) types2 (now k2) (now c2) (now m2) (now h2) (now tg) (now st) (now ln) (now em) (now source)) (now f2) ⌝ }
+    requires fill { ⌜ FillHeld (tableIn types2 (now k2) (now c2) (now m2)) (now f2) ⌝ }
     requires conforming { ⌜ Source (world types1 (now k1) (now c1) (now m1) types2 (now k2) (now c2) (now m2) (now h2) (now tg) (now st) (now ln) (now em) (now source)) ⌝ }
     requires within { ⌜ (length (now tr) ≤ 60000) × (length (now tr) ≤ length (now room)) ⌝ }
     ensures { λ r. ⌜ (r ≡ true) ↔ (imageDocument (world types1 (now (k1 .entry)) (now (c1 .entry)) (now (m1 .entry)) types2 (now (k2 .entry)) (now (c2 .entry)) (now (m2 .entry)) (now (h2 .entry)) (now (tg .entry)) (now (st .entry)) (now (ln .entry)) (now (em .entry)) (now (source .entry))) ≡ now (tr .entry)) ⌝ }
@@ -124,7 +126,7 @@ fn give<'a>(
     out: &mut [u8],
 ) -> Brought
     requires setting { ⌜ Usable (world types1 (now k1) (now c1) (now m1) types2 (now k2) (now c2) (now m2) (now h2) (now tg) (now st) (now ln) (now em) (now tr)) ⌝ }
-    requires fill { ⌜ FillHeld (world types1 (now k1) (now c1) (now m1) types2 (now k2) (now c2) (now m2) (now h2) (now tg) (now st) (now ln) (now em) (now tr)) (now f2) ⌝ }
+    requires fill { ⌜ FillHeld (tableIn types2 (now k2) (now c2) (now m2)) (now f2) ⌝ }
     requires target { ⌜ Target (world types1 (now k1) (now c1) (now m1) types2 (now k2) (now c2) (now m2) (now h2) (now tg) (now st) (now ln) (now em) (now tr)) ⌝ }
     requires reading { ⌜ ReadFrom (world types1 (now k1) (now c1) (now m1) types2 (now k2) (now c2) (now m2) (now h2) (now tg) (now st) (now ln) (now em) (now tr)) (now source) ⌝ }
     requires within { ⌜ length (now tr) ≤ length (now room) ⌝ }
@@ -184,7 +186,7 @@ fn bring_through<'a>(
     out: &mut [u8],
 ) -> Brought
     requires setting { ⌜ Usable (world types1 (now k1) (now c1) (now m1) types2 (now k2) (now c2) (now m2) (now h2) (now tg) (now st) (now ln) (now em) (now tr)) ⌝ }
-    requires fill { ⌜ FillHeld (world types1 (now k1) (now c1) (now m1) types2 (now k2) (now c2) (now m2) (now h2) (now tg) (now st) (now ln) (now em) (now tr)) (now f2) ⌝ }
+    requires fill { ⌜ FillHeld (tableIn types2 (now k2) (now c2) (now m2)) (now f2) ⌝ }
     requires target { ⌜ Target (world types1 (now k1) (now c1) (now m1) types2 (now k2) (now c2) (now m2) (now h2) (now tg) (now st) (now ln) (now em) (now tr)) ⌝ }
     requires within { ⌜ (length (now tr) ≤ length (now spans)) × (length (now tr) ≤ length (now buffer)) × (length (now buffer) ≤ 60000) × (length (now tr) ≤ length (now room)) ⌝ }
     ensures { λ r. ⌜ Brings (world types1 (now (k1 .entry)) (now (c1 .entry)) (now (m1 .entry)) types2 (now (k2 .entry)) (now (c2 .entry)) (now (m2 .entry)) (now (h2 .entry)) (now (tg .entry)) (now (st .entry)) (now (ln .entry)) (now (em .entry)) (now (tr .entry))) (now (out .entry)) (now (out .exit)) r ⌝ }
@@ -253,7 +255,7 @@ pub fn bring_back<'a>(
     out: &mut [u8],
 ) -> Brought
     requires setting { ⌜ Usable (world types1 (now k1) (now c1) (now m1) types2 (now k2) (now c2) (now m2) (now h2) (now tg) (now st) (now ln) (now em) (now tr)) ⌝ }
-    requires fill { ⌜ FillHeld (world types1 (now k1) (now c1) (now m1) types2 (now k2) (now c2) (now m2) (now h2) (now tg) (now st) (now ln) (now em) (now tr)) (now f2) ⌝ }
+    requires fill { ⌜ FillHeld (tableIn types2 (now k2) (now c2) (now m2)) (now f2) ⌝ }
     requires target { ⌜ Target (world types1 (now k1) (now c1) (now m1) types2 (now k2) (now c2) (now m2) (now h2) (now tg) (now st) (now ln) (now em) (now tr)) ⌝ }
     ensures { λ r. ⌜ Brings (world types1 (now (k1 .entry)) (now (c1 .entry)) (now (m1 .entry)) types2 (now (k2 .entry)) (now (c2 .entry)) (now (m2 .entry)) (now (h2 .entry)) (now (tg .entry)) (now (st .entry)) (now (ln .entry)) (now (em .entry)) (now (tr .entry))) (now (out .entry)) (now (out .exit)) r ⌝ }
 {

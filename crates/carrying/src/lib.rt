@@ -1,9 +1,11 @@
 // Carrying a source document by loaded tables and a loaded embedding: its image is measured, refused where it is beyond the
 // limits or has no room, and only then written, straight into the lent output.
 ghost use mathlib.Core.Path.{_≡_};
+ghost use Rattle.dtd.specs.Loaded.{tableIn};
+ghost use Rattle.setting.specs.Ready.{FillHeld};
 ghost use Rattle.images.specs.Setting.{world, Usable};
 ghost use Rattle.images.specs.Image.{Source};
-ghost use Rattle.carrying.specs.Carrying.{FillHeld, Carries};
+ghost use Rattle.carrying.specs.Carrying.{Carries};
 
 // The image has a 129th level; it is longer than 60,000 bytes; it doesn't fit the output; or it is written, with this length
 // and this number of filler elements.
@@ -34,7 +36,7 @@ pub fn carry<'a>(
     out: &mut [u8],
 ) -> Carried
     requires setting { ⌜ Usable (world types1 (now k1) (now c1) (now m1) types2 (now k2) (now c2) (now m2) (now h2) (now tg) (now st) (now ln) (now em) (now tr)) ⌝ }
-    requires fill { ⌜ FillHeld (world types1 (now k1) (now c1) (now m1) types2 (now k2) (now c2) (now m2) (now h2) (now tg) (now st) (now ln) (now em) (now tr)) (now f2) ⌝ }
+    requires fill { ⌜ FillHeld (tableIn types2 (now k2) (now c2) (now m2)) (now f2) ⌝ }
     requires source { ⌜ Source (world types1 (now k1) (now c1) (now m1) types2 (now k2) (now c2) (now m2) (now h2) (now tg) (now st) (now ln) (now em) (now tr)) ⌝ }
     ensures { λ r. ⌜ Carries (world types1 (now (k1 .entry)) (now (c1 .entry)) (now (m1 .entry)) types2 (now (k2 .entry)) (now (c2 .entry)) (now (m2 .entry)) (now (h2 .entry)) (now (tg .entry)) (now (st .entry)) (now (ln .entry)) (now (em .entry)) (now (tr .entry))) (now (out .entry)) (now (out .exit)) r ⌝ }
 {

@@ -11,12 +11,12 @@ use Rattle.answers.specs.declared.Fault.{Fault}
 use Rattle.answers.specs.declared.Judged.{Judged}
 use Rattle.settings.specs.declared.Setting.{Setting}
 use Rattle.settings.specs.Judging.{Refusing, Standing}
-use Rattle.settings.specs.Laws.{loadedSetting, standing-fill}
+use Rattle.settings.specs.Laws.{loadedSetting}
 use Rattle.trees.specs.declared.judge.JudgedTree.{JudgedTree}
 use Rattle.trees.specs.Judging.{TreeJudged}
 use Rattle.dtd.specs.Loaded.{tableIn}
 use Rattle.bringing.specs.declared.Brought.{Brought}
-use Rattle.bringing.specs.Bringing.{FillHeld, Target, broughtResult, Brings}
+use Rattle.bringing.specs.Bringing.{Target, broughtResult, Brings}
 use Rattle.model.specs.Definitions.Table.{Table}
 use Rattle.model.specs.Definitions.Content.{contentOf}
 use Rattle.model.specs.Definitions.Refusals.{numbersOf, documentNumber}
@@ -45,9 +45,6 @@ module _ (x : Setting) (e tr : List ℕ) where
   bring-tree-refused out r f a j found answer s t h = entry s t out out a h (tree-refused T tr out _ r f a j found answer)
 
   -- what bringing back needs
-  pub bring-fill : {s t : List ℕ} → Standing s t e x → FillHeld (worldOf x e tr) (x .target .fill)
-  bring-fill h = record { fill-at = standing-fill h }
-
   pub bring-target : (r : JudgedTree) → TreeJudged T tr r → r .judged ≡ Judged.Sound → {s t : List ℕ} → Standing s t e x → Target (worldOf x e tr)
   bring-target r j found {t = t} h =
       let accepted = tree-sound (x .target) t tr r (h .judges .target-sound) (h .target-stands) j found in

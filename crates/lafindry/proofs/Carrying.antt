@@ -12,13 +12,13 @@ use Rattle.answers.specs.declared.Fault.{Fault}
 use Rattle.answers.specs.declared.Judged.{Judged}
 use Rattle.settings.specs.declared.Setting.{Setting}
 use Rattle.settings.specs.Judging.{Refusing, Standing}
-use Rattle.settings.specs.Laws.{loadedSetting, standing-fill}
+use Rattle.settings.specs.Laws.{loadedSetting}
 use Rattle.trees.specs.declared.judge.JudgedTree.{JudgedTree}
 use Rattle.trees.specs.Judging.{TreeJudged}
 use Rattle.dtd.specs.Loaded.{tableIn}
 use Rattle.images.specs.Image.{Source}
 use Rattle.carrying.specs.declared.Carried.{Carried}
-use Rattle.carrying.specs.Carrying.{FillHeld, carriedResult, Carries}
+use Rattle.carrying.specs.Carrying.{carriedResult, Carries}
 use Rattle.model.specs.Definitions.Table.{Table}
 use Rattle.model.specs.Definitions.Content.{contentOf}
 use Rattle.model.specs.Definitions.Refusals.{numbersOf, documentNumber}
@@ -46,9 +46,6 @@ module _ (x : Setting) (e tr : List ℕ) where
   carry-tree-refused out r f a j found answer s t h = entry s t out out a h (tree-refused S tr out _ r f a j found answer)
 
   -- what carrying needs
-  pub carry-fill : {s t : List ℕ} → Standing s t e x → FillHeld (worldOf x e tr) (x .target .fill)
-  carry-fill h = record { fill-at = standing-fill h }
-
   pub carry-source : (r : JudgedTree) → TreeJudged S tr r → r .judged ≡ Judged.Sound → {s t : List ℕ} → Standing s t e x → Source (worldOf x e tr)
   carry-source r j found {s} h =
       let accepted = tree-sound (x .source) s tr r (h .judges .source-sound) (h .source-stands) j found in

@@ -2,8 +2,9 @@
 -- it. Functions that carry and bring back take the arrays and require this of them.
 use mathlib.Core.Path.{_≡_}
 use mathlib.Core.List.{List}
-use Prim.Native.Nat.{ℕ, suc, _<_, _≤_, min}
+use Prim.Native.Nat.{ℕ, _<_, min}
 use lib.ListN.{length, getD}
+use Rattle.model.specs.Definitions.Table.{Table}
 use Rattle.model.specs.Definitions.Heights.{heightIn, heights}
 use Rattle.model.specs.Definitions.Filler.{fillerLength}
 use Rattle.model.specs.Definitions.Image.{Setting}
@@ -43,3 +44,7 @@ pub record Ready (s t : Arrays) (p : Paths) (targetHeights : List ℕ) : Type 0 
   pub target-bounded : dtd.Bounded (t .types) (t .counts)
   pub paths-bounded : maps.Bounded (p .text) (p .lengths) (p .starts)
   pub heights-held : (τ : ℕ) → τ < t .types → getD targetHeights τ 0 ≡ heightIn (heights (settingIn s t p .target)) τ
+
+-- an array holds the byte lengths of a table's filler elements, held at 60,001
+pub record FillHeld (T : Table) (fill : List ℕ) : Type 0 where
+  pub fill-at : (t : ℕ) → t < length T → getD fill t 0 ≡ min 60001 (fillerLength T t)

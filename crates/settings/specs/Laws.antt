@@ -1,7 +1,7 @@
 -- What holds of a setting that stands for three accepted documents.
 use mathlib.Core.Path.{_≡_, refl, sym, ap, ap₂, _∙_, subst}
 use mathlib.Core.List.{List}
-use Prim.Native.Nat.{ℕ, _<_, min}
+use Prim.Native.Nat.{ℕ, _<_}
 use native.Mathlib.Omega.{arith}
 use lib.ListN.{length, getD}
 use Rattle.settings.specs.declared.Setting.{Setting}
@@ -10,11 +10,10 @@ use Rattle.dtd.specs.declared.Table as dtd
 use Rattle.dtd.specs.Loaded.{tableIn, length-in}
 use Rattle.maps.specs.declared.Embedding as maps
 use Rattle.maps.specs.Loaded.{embeddingIn}
-use Rattle.setting.specs.Ready.{Arrays, Paths, settingIn, Ready}
+use Rattle.setting.specs.Ready.{Arrays, Paths, settingIn, Ready, FillHeld}
 use Rattle.model.specs.Definitions.Table.{Table, tableOf}
 use Rattle.model.specs.Definitions.Embedding.{embeddingOf}
 use Rattle.model.specs.Definitions.Heights.{heightOf}
-use Rattle.model.specs.Definitions.Filler.{fillerLength}
 use Rattle.model.specs.Definitions.Image as image
 use Rattle.model.specs.Definitions.Entries.{settingOf}
 use Rattle.model.specs.Theorems.Facts.{Valid}
@@ -60,7 +59,5 @@ module _ {s t e : List ℕ} {x : Setting} (h : Standing s t e x) where
           omega arith
 
   -- the kept filler lengths are the target's
-  pub standing-fill : (τ : ℕ) → τ < length (loadedSetting x e .target) → getD (x .target .fill) τ 0 ≡ min 60001 (fillerLength (loadedSetting x e .target) τ)
-  standing-fill =
-      subst (λ (T : Table). (τ : ℕ) → τ < length T → getD (x .target .fill) τ 0 ≡ min 60001 (fillerLength T τ)) (sym (h .target-stands .same-table))
-      (h .target-stands .kept .fill-at)
+  pub standing-fill : FillHeld (loadedSetting x e .target) (x .target .fill)
+  standing-fill = subst (λ (T : Table). FillHeld T (x .target .fill)) (sym (h .target-stands .same-table)) (record { fill-at = h .target-stands .kept .fill-at })

@@ -12,9 +12,9 @@ use lib.Seq.{getD-set-same, getD-set-other, set-getD}
 use lib.Dec.{eqb}
 use borrow.Author.Tests.{eqb-true, eqb-false}
 use Rattle.dtd.specs.Loaded.{tableIn, kindIn, length-in, kind-in}
-use Rattle.model.specs.Definitions.Table.{Kind, text, empty, sequence, choice, list, Table, kindOf}
-use Rattle.model.specs.Definitions.Heights.{heightIn, highest, lowest, heightOfKind, heightsTo, heights}
-use Rattle.model.specs.Theorems.HeightLaws.{getD-of-map, height-round, height-beyond, held-next}
+use Rattle.model.specs.Definitions.Table.{Kind, empty, Table, kindOf}
+use Rattle.model.specs.Definitions.Heights.{heightIn, heightOfKind, heightsTo, heights}
+use Rattle.model.specs.Theorems.HeightLaws.{getD-of-map, height-round, height-beyond, held-next, kind-lower}
 use Rattle.model.specs.Theorems.Tools.{true-false}
 use Rattle.table_sums.specs.Sums.{AtMost, HoldsRound, HoldsHeights, nextHeight, raised}
 use Rattle.table_sums.proofs.Arrays.{filled-none}
@@ -47,27 +47,6 @@ pub low-more : (bound more : ℕ) (hs : List ℕ) → bound ≤ more → AtMost 
 low-more bound more hs h low = record { low = λ t. omega (arith, low .low t) }
 
 -- ---- one round
-
--- lower heights of members give lower heights of kinds
-module _ (hs gs : List ℕ) (lower : (t : ℕ) → heightIn hs t ≤ heightIn gs t) where
-  highest-lower : (ms : List ℕ) → highest hs ms ≤ highest gs ms
-  unfolding highest
-  highest-lower [] = omega arith
-  highest-lower (m ∷ ms) = omega (arith, lower m, highest-lower ms)
-
-  lowest-lower : (ms : List ℕ) → lowest hs ms ≤ lowest gs ms
-  unfolding lowest
-  lowest-lower [] = omega arith
-  lowest-lower (m ∷ []) = lower m
-  lowest-lower (m ∷ n ∷ ms) = omega (arith, lower m, lowest-lower (n ∷ ms))
-
-  kind-lower : (κ : Kind) → heightOfKind hs κ ≤ heightOfKind gs κ
-  unfolding heightOfKind
-  kind-lower text = omega arith
-  kind-lower empty = omega arith
-  kind-lower (sequence ms) = omega (arith, highest-lower ms)
-  kind-lower (choice ms) = omega (arith, lowest-lower ms)
-  kind-lower (list m) = omega arith
 
 raised-long : (T : Table) (t : ℕ) (hs : List ℕ) → length (raised T t hs) ≡ length hs
 unfolding raised

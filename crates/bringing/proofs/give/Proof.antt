@@ -1,6 +1,6 @@
 -- `give` meets its contract: the document that was read is the source exactly where the given document is its image.
 use Rattle.bringing.proofs.Comparing.{denied, confirmed}
-use Rattle.bringing.proofs.Answering.{usable-with, fill-with, source-read, other-image, source-no-room, source-copied}
+use Rattle.bringing.proofs.Answering.{usable-with, source-read, other-image, source-no-room, source-copied}
 use borrow.Author.Needs.{needs}
 use Rattle.bringing.proofs.give.Statement.{statement}
 use Rattle.bringing.proofs.give.Tie as tie
@@ -8,7 +8,7 @@ use Rattle.bringing.proofs.give.Tie as tie
 is-image-requires : tie.Need-is-image-requires
 is-image-requires c κs =
     let given = c .before .before .before .before .before .before .pre in
-    (usable-with (given .0) _ (given .1 .1 .1 .0 .short), (fill-with (given .1 .0) _, (source-read (given .0) (given .1 .1 .0) (given .1 .1 .1 .0), (given .1 .1 .0 .short, given .1 .1 .1 .1))))
+    (usable-with (given .0) _ (given .1 .1 .1 .0 .short), (given .1 .0, (source-read (given .0) (given .1 .1 .0) (given .1 .1 .1 .0), (given .1 .1 .0 .short, given .1 .1 .1 .1))))
 
 same-length : tie.Need-same-length
 same-length c = search needs

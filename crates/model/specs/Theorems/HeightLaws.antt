@@ -177,7 +177,7 @@ module _ (hs gs : List ℕ) (lower : (t : ℕ) → heightIn hs t ≤ heightIn gs
   lowest-lower (m ∷ []) = lower m
   lowest-lower (m ∷ n ∷ ms) = omega (arith, lower m, lowest-lower (n ∷ ms))
 
-  kind-lower : (κ : Kind) → heightOfKind hs κ ≤ heightOfKind gs κ
+  pub kind-lower : (κ : Kind) → heightOfKind hs κ ≤ heightOfKind gs κ
   unfolding heightOfKind
   kind-lower text = omega arith
   kind-lower empty = omega arith
