@@ -9,7 +9,7 @@ use counts::Counts;
 use lafindry_entries::{compare, ensure, Failure, Setting};
 use lafindry_reference::generate::trees::{pad, random_tree};
 use lafindry_reference::generate::{Rng, Shape, TableSize, World};
-use lafindry_reference::tree::{commands, Command};
+use lafindry_reference::tree::levels;
 use lafindry_reference::vectors::{Answer, Entry};
 use lafindry_reference::{Refusal, MOST_BYTES, MOST_LEVELS, OUTPUT};
 use seed::seed;
@@ -19,20 +19,6 @@ use traits::Traits;
 /// The refusal of an output, which has mark 0.
 fn refused_output(number: u64) -> Answer {
     Answer::Refused(Refusal { number, document: OUTPUT, mark: 0 })
-}
-
-/// The number of levels of a tree document.
-fn levels(document: &[u8]) -> usize {
-    let (mut level, mut most) = (0, 0);
-    for (_, command) in commands(document) {
-        match command {
-            Command::Open(_) => level += 1,
-            Command::Close => level -= 1,
-            _ => {}
-        }
-        most = most.max(level);
-    }
-    most
 }
 
 /// Fails unless an entry writes a document into outputs that are long enough,

@@ -44,6 +44,20 @@ pub enum Command {
     End,
 }
 
+/// The number of levels of a tree document of the right form.
+pub fn levels(document: &[u8]) -> usize {
+    let (mut level, mut most) = (0, 0);
+    for (_, command) in commands(document) {
+        match command {
+            Command::Open(_) => level += 1,
+            Command::Close => level -= 1,
+            _ => {}
+        }
+        most = most.max(level);
+    }
+    most
+}
+
 /// The commands of a tree of right form, with their offsets.
 pub fn commands(bytes: &[u8]) -> impl Iterator<Item = (usize, Command)> + '_ {
     let mut offset = 0;

@@ -4,7 +4,7 @@ use lafindry_reference::generate::damage::{alter, damage_bytes, damage_commands,
 use lafindry_reference::generate::{random_case, random_small_case, Rng, Shape, TableSize, World};
 use lafindry_reference::image::fillers;
 use lafindry_reference::table::{ContentModel, Table};
-use lafindry_reference::tree::{self, commands, Command, Element};
+use lafindry_reference::tree::{self, commands, levels, Command, Element};
 use lafindry_reference::vectors::{Answer, Case, Entry};
 use lafindry_reference::{bring_back, carry, judge_embedding, judge_table, judge_tree};
 use lafindry_reference::{Carried, Refusal, MOST_BYTES, MOST_LEVELS, OUTPUT, TREE};
@@ -38,20 +38,6 @@ fn carried(world: &World) -> Result<(Vec<u8>, Carried), Refusal> {
     let answer = carry(&s, &t, &e, &tree, &mut output)?;
     output.truncate(answer.length as usize);
     Ok((output, answer))
-}
-
-/// The number of levels of a tree document.
-fn levels(document: &[u8]) -> usize {
-    let (mut level, mut most) = (0, 0);
-    for (_, command) in commands(document) {
-        match command {
-            Command::Open(_) => level += 1,
-            Command::Close => level -= 1,
-            _ => {}
-        }
-        most = most.max(level);
-    }
-    most
 }
 
 #[test]
