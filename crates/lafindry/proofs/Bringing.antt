@@ -2,16 +2,19 @@
 use mathlib.Core.Path.{_≡_, refl, ap, _∙_}
 use mathlib.Core.List.{List}
 use Prim.Native.Nat.{ℕ}
+use lib.ListN.{length}
 use Rattle.lafindry.specs.declared.answer.Answer.{Answer}
 use Rattle.lafindry.specs.Numbers.{numbers, ForFault}
 use Rattle.lafindry.specs.Writing.{Answers}
 use Rattle.lafindry.proofs.Numbering.{refusalNumbers}
-use Rattle.lafindry.proofs.Settings.{setting-refused, afterTree, after-setting, tree-refused, tree-accepted, tree-sound, worldOf}
+use Rattle.lafindry.proofs.Settings.{setting-refused, afterTree, after-setting, tree-refused, tree-accepted, tree-sound, worldOf, usable}
 use Rattle.answers.specs.declared.Fault.{Fault}
 use Rattle.answers.specs.declared.Judged.{Judged}
 use Rattle.settings.specs.declared.Setting.{Setting}
 use Rattle.settings.specs.Judging.{Refusing, Standing}
-use Rattle.settings.specs.Laws.{loadedSetting}
+use Rattle.settings.specs.Laws.{loadedSetting, standing-fill}
+use Rattle.setting.specs.Ready.{FillHeld}
+use Rattle.images.specs.Setting.{Usable}
 use Rattle.trees.specs.declared.judge.JudgedTree.{JudgedTree}
 use Rattle.trees.specs.Judging.{TreeJudged}
 use Rattle.dtd.specs.Loaded.{tableIn}
@@ -45,10 +48,15 @@ module _ (x : Setting) (e tr : List ℕ) where
   bring-tree-refused out r f a j found answer s t h = entry s t out out a h (tree-refused T tr out _ r f a j found answer)
 
   -- what bringing back needs
-  pub bring-target : (r : JudgedTree) → TreeJudged T tr r → r .judged ≡ Judged.Sound → {s t : List ℕ} → Standing s t e x → Target (worldOf x e tr)
+  bring-target : (r : JudgedTree) → TreeJudged T tr r → r .judged ≡ Judged.Sound → {s t : List ℕ} → Standing s t e x → Target (worldOf x e tr)
   bring-target r j found {t = t} h =
       let accepted = tree-sound (x .target) t tr r (h .judges .target-sound) (h .target-stands) j found in
       record { form = accepted .form; holds = accepted .holds; short = accepted .short }
+
+  -- all of it, from the judged setting and the judged tree
+  pub bring-ready : (r : JudgedTree) {s t : List ℕ} → Standing s t e x → length (x .source .members) ≡ 1024 → length (x .target .members) ≡ 1024 → TreeJudged T tr r → r .judged ≡ Judged.Sound
+      → Usable (worldOf x e tr) × (FillHeld (loadedSetting x e .target) (x .target .fill) × Target (worldOf x e tr))
+  bring-ready r h first second j found = (usable x tr h first second (bring-target r j found h .short), (standing-fill h, bring-target r j found h))
 
   -- what it gives is the entry's answer
   pub bring-answers : (old new : List ℕ) (r : JudgedTree) (c : Brought) (a : Answer) → TreeJudged T tr r → r .judged ≡ Judged.Sound

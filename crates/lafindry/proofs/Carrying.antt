@@ -7,12 +7,14 @@ use Rattle.lafindry.specs.declared.answer.Answer.{Answer}
 use Rattle.lafindry.specs.Numbers.{numbers, ForFault}
 use Rattle.lafindry.specs.Writing.{Answers}
 use Rattle.lafindry.proofs.Numbering.{refusalNumbers}
-use Rattle.lafindry.proofs.Settings.{setting-refused, afterTree, after-setting, tree-refused, tree-accepted, tree-sound, worldOf}
+use Rattle.lafindry.proofs.Settings.{setting-refused, afterTree, after-setting, tree-refused, tree-accepted, tree-sound, worldOf, usable}
 use Rattle.answers.specs.declared.Fault.{Fault}
 use Rattle.answers.specs.declared.Judged.{Judged}
 use Rattle.settings.specs.declared.Setting.{Setting}
 use Rattle.settings.specs.Judging.{Refusing, Standing}
-use Rattle.settings.specs.Laws.{loadedSetting}
+use Rattle.settings.specs.Laws.{loadedSetting, standing-fill}
+use Rattle.setting.specs.Ready.{FillHeld}
+use Rattle.images.specs.Setting.{Usable}
 use Rattle.trees.specs.declared.judge.JudgedTree.{JudgedTree}
 use Rattle.trees.specs.Judging.{TreeJudged}
 use Rattle.dtd.specs.Loaded.{tableIn}
@@ -46,13 +48,18 @@ module _ (x : Setting) (e tr : List ℕ) where
   carry-tree-refused out r f a j found answer s t h = entry s t out out a h (tree-refused S tr out _ r f a j found answer)
 
   -- what carrying needs
-  pub carry-source : (r : JudgedTree) → TreeJudged S tr r → r .judged ≡ Judged.Sound → {s t : List ℕ} → Standing s t e x → Source (worldOf x e tr)
+  carry-source : (r : JudgedTree) → TreeJudged S tr r → r .judged ≡ Judged.Sound → {s t : List ℕ} → Standing s t e x → Source (worldOf x e tr)
   carry-source r j found {s} h =
       let accepted = tree-sound (x .source) s tr r (h .judges .source-sound) (h .source-stands) j found in
       record { form = accepted .form; holds = accepted .holds }
 
-  pub carry-short : (r : JudgedTree) → TreeJudged S tr r → r .judged ≡ Judged.Sound → {s t : List ℕ} → Standing s t e x → length tr ≤ 60000
+  carry-short : (r : JudgedTree) → TreeJudged S tr r → r .judged ≡ Judged.Sound → {s t : List ℕ} → Standing s t e x → length tr ≤ 60000
   carry-short r j found {s} h = tree-sound (x .source) s tr r (h .judges .source-sound) (h .source-stands) j found .short
+
+  -- all of it, from the judged setting and the judged tree
+  pub carry-ready : (r : JudgedTree) {s t : List ℕ} → Standing s t e x → length (x .source .members) ≡ 1024 → length (x .target .members) ≡ 1024 → TreeJudged S tr r → r .judged ≡ Judged.Sound
+      → Usable (worldOf x e tr) × (FillHeld (loadedSetting x e .target) (x .target .fill) × Source (worldOf x e tr))
+  carry-ready r h first second j found = (usable x tr h first second (carry-short r j found h), (standing-fill h, carry-source r j found h))
 
   -- what it gives is the entry's answer
   pub carry-answers : (old new : List ℕ) (r : JudgedTree) (c : Carried) (a : Answer) → TreeJudged S tr r → r .judged ≡ Judged.Sound

@@ -1,7 +1,5 @@
-use Rattle.settings.specs.Laws.{standing-fill}
 use borrow.Author.Needs.{needs}
-use Rattle.lafindry.proofs.Settings.{usable}
-use Rattle.lafindry.proofs.Bringing.{bring-tree-refused, bring-target, bring-answers}
+use Rattle.lafindry.proofs.Bringing.{bring-tree-refused, bring-ready, bring-answers}
 use Rattle.lafindry.proofs.bring_back.bring_by.Statement.{statement}
 use Rattle.lafindry.proofs.bring_back.bring_by.Tie as tie
 use Rattle.lafindry.proofs.bring_back.bring_by.Reads as reads
@@ -32,7 +30,10 @@ enum-told c = search needs
 
 -- src/bring_back.rt:53:9
 bring-back-requires : tie.Need-bring-back-requires
-bring-back-requires c κs = (usable _ _ (c .before .before .before .before .before .before .before .before .before .before .before .before .before .before .before .before .before .before .before .before .before .before .before .before .before .before .before .before .before .before .before .before .before .before .before .pre .2) (search (needs, c .before .before .before .before .before .before .before .before .before .before .before .before .before .before .before .before .before .before .before .before .before .before .before .before .before .before .before .before .before .before .before .before .before .before .before .good .0)) (search (needs, c .before .before .before .before .before .before .before .before .before .before .before .before .before .before .before .before .before .before .before .before .before .before .before .before .before .before .before .before .before .before .before .before .before .before .before .good .0)) (bring-target _ _ _ _ (c .before .before .before .before .before .before .before .before .before .before .before .before .before .before .judge .ensures) (c .before .before .before .before .before .before .before .before .before .before .before .before .enum-told .given .1) (c .before .before .before .before .before .before .before .before .before .before .before .before .before .before .before .before .before .before .before .before .before .before .before .before .before .before .before .before .before .before .before .before .before .before .before .pre .2) .short), (standing-fill (c .before .before .before .before .before .before .before .before .before .before .before .before .before .before .before .before .before .before .before .before .before .before .before .before .before .before .before .before .before .before .before .before .before .before .before .pre .2), bring-target _ _ _ _ (c .before .before .before .before .before .before .before .before .before .before .before .before .before .before .judge .ensures) (c .before .before .before .before .before .before .before .before .before .before .before .before .enum-told .given .1) (c .before .before .before .before .before .before .before .before .before .before .before .before .before .before .before .before .before .before .before .before .before .before .before .before .before .before .before .before .before .before .before .before .before .before .before .pre .2)))
+bring-back-requires c κs =
+    bring-ready _ _ _ _ (c .before .before .before .before .before .before .before .before .before .before .before .before .before .before .before .before .before .before .before .before .before .before .before .before .before .before .before .before .before .before .before .before .before .before .before .pre .2) (search (needs, c .before .before .before .before .before .before .before .before .before .before .before .before .before .before .before .before .before .before .before .before .before .before .before .before .before .before .before .before .before .before .before .before .before .before .before .good .0))
+    (search (needs, c .before .before .before .before .before .before .before .before .before .before .before .before .before .before .before .before .before .before .before .before .before .before .before .before .before .before .before .before .before .before .before .before .before .before .before .good .0))
+    (c .before .before .before .before .before .before .before .before .before .before .before .before .before .before .judge .ensures) (c .before .before .before .before .before .before .before .before .before .before .before .before .enum-told .given .1)
 
 -- src/bring_back.rt:71:5
 brought-requires : tie.Need-brought-requires
