@@ -12,6 +12,7 @@ pub mod Embedding
 pub mod EmbeddingChecks
 pub mod Filler
 pub mod Image
+pub mod Templates
 pub mod Inverse
 pub mod Refusals
 pub mod Entries

@@ -3,23 +3,24 @@
 --
 -- Documents here have any length and any number of levels, unless limits are named. `Theorems.Terms` has the few terms
 -- used: accepted by an entry, the image of a document given by its bytes, its levels.
-use mathlib.Core.Path.{_≡_, sym}
+use mathlib.Core.Path.{_≡_, sym, _∙_}
 use mathlib.Core.Bool.{true}
-use mathlib.Core.List.{List, _++_}
+use mathlib.Core.List.{List, [], _∷_, _++_}
 use mathlib.Core.Logic.{_↔_, _⊎_}
-use mathlib.Core.Option.{none, some}
-use Prim.Native.Nat.{ℕ, suc, _≤_, _<_}
+use mathlib.Core.Option.{some}
+use Prim.Native.Nat.{ℕ, suc, _+_, _*_, _≤_, _<_, max}
 use lib.ListN.{length, drop}
 use lib.Dec.{leb}
 use Rattle.model.specs.Definitions.Basics.{passes, fails}
 use Rattle.model.specs.Definitions.Table.{Kind, Table, kindOf, tableOf}
 use Rattle.model.specs.Definitions.Heights.{heights, heightIn, heightOf, hasInstance, endlessType}
 use Rattle.model.specs.Definitions.TableChecks.{tableForm, tableOperands, tableRepeats}
-use Rattle.model.specs.Definitions.Content.{Content, document, contentOf, levels}
+use Rattle.model.specs.Definitions.Content.{Content, bytes, document, contentOf, levels}
 use Rattle.model.specs.Definitions.Conformance.{Holds, Conforming, Instance, conforms}
 use Rattle.model.specs.Definitions.TreeChecks.{treeForm, treeOperands, treeExpected, maxLevels}
 use Rattle.model.specs.Definitions.Filler.{content, known, fillers}
 use Rattle.model.specs.Definitions.Image.{Setting, image, imageBy, imageLevels, imageLength, imageFiller}
+use Rattle.model.specs.Definitions.Templates.{Hole, template, fillerRow, fillerBytes, filledRow, writes, firstIn, heldBy, ownLength, ownFiller, ownLevels, sumLength, sumFiller, deepest}
 use Rattle.model.specs.Definitions.Inverse.{readBack}
 use Rattle.model.specs.Definitions.Refusals.{Refusal, output-too-short, no-image, maxLength}
 use Rattle.model.specs.Definitions.Entries.{accepted, refused, settingOf, carry, bringWithin, bringBack}
@@ -31,9 +32,11 @@ use Rattle.model.specs.Theorems.Conforms.{holds-conforms, conforms-holds
 use Rattle.model.specs.Theorems.Documents.{document-injective, checks-conforming, conforming-checks}
 use Rattle.model.specs.Theorems.Expected.{UnexpectedCommand, unexpected-command}
 use Rattle.model.specs.Theorems.Measures.{image-levels, image-length, marked, unmarked, countFiller, marked-is-image, marked-filler}
+use Rattle.model.specs.Theorems.Templates.{filler-written, write-image, writes-again}
+use Rattle.model.specs.Theorems.TemplateSizes.{image-length-rows, image-filler-rows, image-levels-rows}
 use Rattle.model.specs.Theorems.BringingBack.{read-conforms}
 use Rattle.model.specs.Theorems.EntryLaws.{judges-accept, judge-accepts, judges-valid}
-use Rattle.model.specs.Theorems.OnBytes.{conform, equal-exactly, read-gives-back, shorter, refused-15, brought, brought-only, carried, not-carried, brought-back, not-brought-back, carry-beyond}
+use Rattle.model.specs.Theorems.OnBytes.{conforming-content, conform, equal-exactly, read-gives-back, shorter, refused-15, brought, brought-only, carried, not-carried, brought-back, not-brought-back, carry-beyond}
 use Rattle.model.specs.Theorems.RulesNeeded.{PrefixRuleTooWeak, prefix-rule-too-weak, FirstMemberEndless, first-member-endless}
 
 -- ---- 1. conforming and bytes
@@ -200,3 +203,32 @@ choices-must-part-at-choices = prefix-rule-too-weak
 -- Filler that takes a choice's first member has no end on an accepted table.
 pub filler-goes-by-height : FirstMemberEndless
 filler-goes-by-height = first-member-endless
+
+-- ---- 12. templates
+
+-- The image of a document is its root's template, filled; what stands in a hole for a child is the child's template, filled,
+-- down to the characters; what stands for filler is a row of filler, filled. The image's length and its filler, at 3 bytes
+-- an element, are sums over the rows of the source elements, and its levels are those of the deepest row.
+pub record FromTemplates (X : Setting) (k : Content) : Type 0 where
+  pub image-filled : bytes (image X k) ≡ filledRow (X .target) (heldBy X 0 k) (template X 0 (firstIn k))
+  pub child-filled : (s : ℕ) (l : Content) → writes X s l ≡ filledRow (X .target) (heldBy X s l) (template X s (firstIn l))
+  pub filler-filled : (t : ℕ) → t < length (X .target) → (held : Hole → List ℕ)
+      → fillerBytes (X .target) t ≡ 0x30 ∷ t ∷ (filledRow (X .target) held (fillerRow (X .target) t) ++ 0x32 ∷ [])
+  pub length-of-rows : imageLength X k ≡ ownLength X 0 (firstIn k) + sumLength X 0 k + 4
+  pub filler-of-rows : 3 * imageFiller X k ≡ ownFiller X 0 (firstIn k) + sumFiller X 0 k
+  pub levels-of-rows : imageLevels X k ≡ suc (max (ownLevels X 0 (firstIn k)) (deepest X 0 0 k))
+
+pub image-from-templates : (s t e : List ℕ) → AcceptedEmbedding s t e → (d : List ℕ) → Conforming (tableOf s) d → FromTemplates (settingOf s t e) (contentOf d)
+image-from-templates s t e a d c =
+    let X = settingOf s t e in
+    let k = contentOf d in
+    let valid = judges-valid s t e (judges-accept s t e (a .1)) in
+    let held = conforming-content c .1 in
+    record {
+      image-filled = sym (write-image X valid k held) ∙ writes-again X 0 k;
+      child-filled = writes-again X;
+      filler-filled = filler-written (X .target) (valid .target-sound);
+      length-of-rows = image-length-rows X valid k held;
+      filler-of-rows = image-filler-rows X valid k held;
+      levels-of-rows = image-levels-rows X valid k held;
+    }

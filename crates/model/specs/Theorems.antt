@@ -18,6 +18,10 @@ pub mod ReadBack
 pub mod ReadConforms
 pub mod Measures
 pub mod NeverLonger
+pub mod TemplateShapes
+pub mod Templates
+pub mod TemplateMeasures
+pub mod TemplateSizes
 pub mod BringingBack
 pub mod EntryLaws
 pub mod DemandThree

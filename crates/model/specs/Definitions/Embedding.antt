@@ -1,9 +1,8 @@
 -- 01 "Three kinds of document", Embedding; 000 section 4.1: a schema embedding, the map of element types and a path for
 -- each edge, and what a path does in the target table.
-use mathlib.Core.Bool.{Bool, true, false}
 use mathlib.Core.List.{List, [], _∷_, map}
 use mathlib.Core.Option.{Option, none, some}
-use Prim.Native.Nat.{ℕ, zero, suc, _+_}
+use Prim.Native.Nat.{ℕ, _+_}
 use lib.ListN.{getD}
 use lib.Dec.{eqb}
 use Rattle.model.specs.Definitions.Basics.{pick}

@@ -7,17 +7,16 @@ use Prim.Native.Nat.{ℕ, _+_}
 use lib.ListN.{length}
 use lib.Seq.{sets}
 use lib.Dec.{leb}
-use Rattle.model.specs.Definitions.Basics.{pick}
-use Rattle.model.specs.Definitions.Table.{Table, tableOf, edgesOf, kindOf}
+use Rattle.model.specs.Definitions.Table.{Table, tableOf, edgesOf}
 use Rattle.model.specs.Definitions.Heights.{endlessType}
 use Rattle.model.specs.Definitions.TableChecks.{tableForm, tableLimits, tableOperands, tableRepeats}
 use Rattle.model.specs.Definitions.Content.{Content, contentOf, document, elements}
 use Rattle.model.specs.Definitions.TreeChecks.{treeForm, treeLevels, treeOperands, treeExpected, maxLevels}
-use Rattle.model.specs.Definitions.Embedding.{Embedding, embeddingOf}
+use Rattle.model.specs.Definitions.Embedding.{embeddingOf}
 use Rattle.model.specs.Definitions.EmbeddingChecks.{embeddingForm, embeddingLimits, embeddingOperands, rootToRoot, wrongEnd, wrongSteps, pathClash}
 use Rattle.model.specs.Definitions.Image.{Setting, image, imageLevels, imageLength, imageFiller}
 use Rattle.model.specs.Definitions.Inverse.{bringBackContent}
-use Rattle.model.specs.Definitions.Refusals.{Fault, too-long, bad-form, over-limit, bad-operand, repeated-member, no-finite-instance, root-moved, wrong-end, wrong-steps, path-clash, unexpected, Document, source-table, target-table, embedding, tree, Refusal, faulty, no-image, image-too-deep, image-too-long, output-too-short, Judged, sound, has, faultAt, faultUnless, fits, maxLength, numbersOf}
+use Rattle.model.specs.Definitions.Refusals.{too-long, bad-form, over-limit, bad-operand, repeated-member, no-finite-instance, root-moved, wrong-end, wrong-steps, path-clash, unexpected, Document, source-table, target-table, embedding, tree, Refusal, faulty, no-image, image-too-deep, image-too-long, output-too-short, Judged, sound, has, faultAt, faultUnless, fits, maxLength, numbersOf}
 
 -- ---- each document by all its checks, in order
 

@@ -4,7 +4,7 @@
 -- Images can have 16^63 elements, so what is made of an image is left open: its content itself, or only its levels,
 -- its length or its number of filler elements. A `Builder` says how each is made from its parts, and filler and
 -- images are defined once, for every builder.
-use mathlib.Core.Bool.{Bool, true, false, not}
+use mathlib.Core.Bool.{Bool, false}
 use mathlib.Core.List.{List, [], _∷_, map}
 use Prim.Native.Nat.{ℕ, zero, suc, _+_, max}
 use lib.ListN.{length, getD}

@@ -3,7 +3,7 @@
 -- Reading follows only the paths. Where a path goes through a list that stands for one item, the first item is
 -- followed; a choice reads as the first member whose path is there. So it also reads documents that are no images;
 -- bringing back then asks that the given document is the image of what was read.
-use mathlib.Core.Bool.{Bool, true, false, _&&_}
+use mathlib.Core.Bool.{_&&_}
 use mathlib.Core.List.{List, [], _∷_}
 use mathlib.Core.Option.{Option, none, some}
 use Prim.Native.Nat.{ℕ, zero, suc}
@@ -12,7 +12,7 @@ use Rattle.model.specs.Definitions.Basics.{pick, andThen}
 use Rattle.model.specs.Definitions.Table.{Kind, text, empty, sequence, choice, list, Table, kindOf}
 use Rattle.model.specs.Definitions.Content.{Content, end, char, elem, levels, same}
 use Rattle.model.specs.Definitions.Conformance.{conforms}
-use Rattle.model.specs.Definitions.Embedding.{Embedding, targetOf, pathsOf, next, divide, Divided}
+use Rattle.model.specs.Definitions.Embedding.{targetOf, pathsOf, next, divide, Divided}
 use Rattle.model.specs.Definitions.Image.{Setting, onlyPath, image}
 
 -- ---- one path

@@ -4,8 +4,7 @@ use mathlib.Core.List.{List}
 use Prim.Native.Nat.{ℕ}
 use lib.ListN.{length}
 use lib.Dec.{leb}
-use Rattle.model.specs.Definitions.Basics.{Verdict, passes, fails, pick}
-use Rattle.model.specs.Definitions.Table.{Table, tableOf}
+use Rattle.model.specs.Definitions.Basics.{Verdict, passes, fails}
 
 -- what is wrong with a table, an embedding or a tree document; the number that a fault holds is its mark
 pub data Fault : Type 0 where

@@ -2,11 +2,9 @@
 use mathlib.Core.Bool.{Bool, true, false, not}
 use mathlib.Core.List.{List, [], _∷_}
 use Prim.Native.Nat.{ℕ, zero, suc}
-use lib.ListN.{length}
 use lib.Dec.{ltb}
 use Rattle.model.specs.Definitions.Basics.{Verdict, Next, goes, stops, goesIf, run, memberOf}
 use Rattle.model.specs.Definitions.Commands.{TableCommand, textType, emptyType, sequenceType, choiceType, listType, member, tableEnd, alien, tableCommands, tableWidth}
-use Rattle.model.specs.Definitions.Table.{Table}
 
 -- ---- 2, form
 

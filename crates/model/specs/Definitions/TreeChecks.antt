@@ -1,5 +1,4 @@
 -- 01 "Refusal answers": the checks of a tree document, 2, 3, 4 and 11 (1 is the same for all documents).
-use mathlib.Core.Path.{_≡_}
 use mathlib.Core.Bool.{Bool, true, false}
 use mathlib.Core.List.{List, [], _∷_}
 use Prim.Native.Nat.{ℕ, zero, suc, _+_, pred}

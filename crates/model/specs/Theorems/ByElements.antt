@@ -1,6 +1,6 @@
 -- Induction over the elements of conforming content: what follows for an element from the elements right below it
 -- holds for every element.
-use mathlib.Core.List.{List, [], _∷_, List·Memᴰ, List·Memᴰ·head, List·Memᴰ·tail}
+use mathlib.Core.List.{[], List·Memᴰ, List·Memᴰ·head, List·Memᴰ·tail}
 use mathlib.Core.Path.{refl}
 use Prim.Native.Nat.{ℕ, _<_}
 use lib.ListN.{length}

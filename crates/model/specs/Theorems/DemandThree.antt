@@ -1,10 +1,8 @@
 -- Demand 3 of the entries' definitions, for one source document by what its root holds. `Statements` says it for bytes.
-use mathlib.Core.Path.{_≡_, refl, sym, ap, _∙_, subst}
-use mathlib.Core.Bool.{Bool, true, false}
-use mathlib.Core.List.{List, [], _∷_, _++_}
+use mathlib.Core.Path.{_≡_, refl, _∙_}
+use mathlib.Core.List.{List, [], _++_}
 use mathlib.Core.Logic.{_⊎_, inl, inr}
-use mathlib.Core.Option.{Option, none, some}
-use Prim.Native.Nat.{ℕ, zero, suc, _+_, _≤_, _<_}
+use Prim.Native.Nat.{ℕ, suc, _+_, _≤_, _<_}
 use native.Mathlib.Decide.{decLe}
 use native.Mathlib.Nat.{lt-of-not-le}
 use native.Mathlib.Omega.{arith}
@@ -16,10 +14,10 @@ use Rattle.model.specs.Definitions.Conformance.{Holds}
 use Rattle.model.specs.Definitions.TreeChecks.{maxLevels}
 use Rattle.model.specs.Definitions.Image.{Setting, image, imageFiller}
 use Rattle.model.specs.Definitions.Refusals.{Judged, sound, has, Refusal, faulty, tree, output-too-short, image-too-deep, image-too-long, maxLength}
-use Rattle.model.specs.Definitions.Entries.{judgedTree, refused, accepted, Outcome, unlessFaulty, untouched, written, settingOf, carryContent, carry, bringWithin, bringContent, bringBack}
+use Rattle.model.specs.Definitions.Entries.{judgedTree, refused, accepted, unlessFaulty, untouched, written, settingOf, carryContent, carry, bringWithin, bringContent, bringBack}
 use Rattle.model.specs.Theorems.Facts.{Valid}
 use Rattle.model.specs.Theorems.NeverLonger.{levels-never-more, document-never-longer}
-use Rattle.model.specs.Theorems.BringingBack.{Source, image-conforms, brought-image}
+use Rattle.model.specs.Theorems.BringingBack.{image-conforms, brought-image}
 use Rattle.model.specs.Theorems.EntryLaws.{Judges, judges-valid, document-accepted, carry-content, bring-content, written-start, content-carried, content-no-room, content-too-deep, content-too-long}
 
 module _ (s t e : List ℕ) (j : Judges s t e) (k : Content) (h : Holds (tableOf s) (kindOf (tableOf s) 0) k) where

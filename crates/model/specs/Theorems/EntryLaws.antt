@@ -1,29 +1,27 @@
 -- The entries on accepted tables and embeddings: what acceptance by an entry says of the judges, when a conforming
 -- document is accepted as a tree, and what carry and bring back then do.
-use mathlib.Core.Path.{_≡_, refl, sym, ap, _∙_, subst}
-use mathlib.Core.Bool.{Bool, true, false}
+use mathlib.Core.Path.{_≡_, refl, ap, _∙_}
+use mathlib.Core.Bool.{true}
 use mathlib.Core.List.{List, [], _∷_, _++_}
-use mathlib.Core.Option.{Option, none, some}
-use Prim.Native.Nat.{ℕ, zero, suc, _+_, _≤_, _<_, pred, max}
+use Prim.Native.Nat.{ℕ, suc, _+_, _≤_, _<_}
 use native.Mathlib.Nat.{zero-add}
 use native.Mathlib.Omega.{arith}
 use lib.ListN.{length, drop}
 use lib.Seq.{sets, sets-eq}
-use lib.Dec.{ltb, leb}
 use borrow.Author.Tests.{lt-ltb, le-leb, lt-leb}
-use Rattle.model.specs.Definitions.Basics.{passes, goes, goesIf, run}
-use Rattle.model.specs.Definitions.Commands.{TreeCommand, opens, character, closes, treeEnd, treeCommands, treeWidth}
+use Rattle.model.specs.Definitions.Basics.{passes, goes, goesIf}
+use Rattle.model.specs.Definitions.Commands.{TreeCommand, closes, treeEnd, treeCommands, treeWidth}
 use Rattle.model.specs.Definitions.Table.{Table, tableOf, kindOf}
-use Rattle.model.specs.Definitions.Content.{Content, end, char, elem, document, contentOf, levels}
+use Rattle.model.specs.Definitions.Content.{Content, end, char, elem, document, levels}
 use Rattle.model.specs.Definitions.Conformance.{Holds, Conforming}
 use Rattle.model.specs.Definitions.TreeChecks.{maxLevels, levelStep, treeLevels}
-use Rattle.model.specs.Definitions.Image.{Setting, image, imageLevels, imageLength, imageFiller}
+use Rattle.model.specs.Definitions.Image.{Setting, image, imageFiller}
 use Rattle.model.specs.Definitions.Inverse.{bringBackContent}
-use Rattle.model.specs.Definitions.Refusals.{Judged, sound, has, Fault, Document, Refusal, faulty, source-table, target-table, embedding, tree, output-too-short, image-too-deep, image-too-long, no-image, fits, maxLength}
-use Rattle.model.specs.Definitions.Entries.{judgedTable, judgedEmbedding, judgedTree, Result, refused, accepted, Outcome, unlessFaulty, judgeTable, judgeEmbedding, untouched, written, settingOf, carryWithin, carryContent, carry, bringWithin, bringContent, bringBack, edgeCount}
-use Rattle.model.specs.Theorems.Facts.{WellFormed, SoundTable, Valid}
+use Rattle.model.specs.Definitions.Refusals.{Judged, sound, has, Document, Refusal, source-table, target-table, embedding, output-too-short, image-too-deep, image-too-long, fits, maxLength}
+use Rattle.model.specs.Definitions.Entries.{judgedTable, judgedEmbedding, judgedTree, Result, refused, accepted, unlessFaulty, judgeTable, judgeEmbedding, untouched, written, settingOf, carryWithin, carryContent, carry, bringContent, bringBack}
+use Rattle.model.specs.Theorems.Facts.{WellFormed, Valid}
 use Rattle.model.specs.Theorems.Runs.{followed, reach, passes-run}
-use Rattle.model.specs.Theorems.Documents.{commandsThen, documentCommands, document-commands, content-of-document, form-accepts, conforming-checks}
+use Rattle.model.specs.Theorems.Documents.{commandsThen, documentCommands, document-commands, content-of-document, conforming-checks}
 use Rattle.model.specs.Theorems.JudgedTables.{tree-accepted}
 use Rattle.model.specs.Theorems.JudgedEmbeddings.{embedding-valid}
 use Rattle.model.specs.Theorems.Measures.{image-levels, image-length}

@@ -1,10 +1,10 @@
 -- What the judging checks establish, in the form in which the theorems use it. `JudgedTables` and `JudgedEmbeddings`
 -- prove these facts of accepted documents; no theorem assumes more.
 use mathlib.Core.Path.{_≡_}
-use mathlib.Core.Bool.{Bool, true, false}
+use mathlib.Core.Bool.{true, false}
 use mathlib.Core.List.{List, [], _∷_, List·Memᴰ}
-use mathlib.Core.Option.{Option, none, some}
-use Prim.Native.Nat.{ℕ, zero, suc, _≤_, _<_}
+use mathlib.Core.Option.{some}
+use Prim.Native.Nat.{ℕ, suc, _≤_, _<_}
 use lib.ListN.{length}
 use lib.Dec.{T}
 use Rattle.model.specs.Definitions.Basics.{entry}

@@ -40,7 +40,7 @@ abbrev Chooses : Kind → Type 0
 Chooses κ = (ms : List ℕ) → κ ≡ choice ms → 0 < length ms
 
 -- filler's members are members of the kind
-filled-members : (hs : List ℕ) (κ : Kind) → Chooses κ → (m : ℕ) → List·Memᴰ m (filled hs κ) → List·Memᴰ m (membersOf κ)
+pub filled-members : (hs : List ℕ) (κ : Kind) → Chooses κ → (m : ℕ) → List·Memᴰ m (filled hs κ) → List·Memᴰ m (membersOf κ)
 unfolding filled membersOf
 filled-members hs text chooses m here = here
 filled-members hs empty chooses m here = here
@@ -59,7 +59,7 @@ filled-height hs (list m) chooses = refl
 
 module _ (T : Table) (wf : WellFormed T) where
   -- so the members of a type's filler are lower than the type, if its height is finite
-  filled-lower : (t : ℕ) → t < length T → heightOf T t ≤ length T
+  pub filled-lower : (t : ℕ) → t < length T → heightOf T t ≤ length T
       → (m : ℕ) → List·Memᴰ m (filled (heights T) (kindOf T t)) → heightOf T m < heightOf T t
   unfolding heightOf
   filled-lower t exists finite m here =

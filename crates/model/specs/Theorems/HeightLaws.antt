@@ -11,7 +11,7 @@ use lib.ListN.{length, getD, length-map, List·getD-eq-default}
 use lib.Seq.{ext-getD}
 use lib.Dec.{leb, eqb}
 use borrow.Author.Tests.{leb-true, leb-false, le-leb, eqb-true, eqb-false}
-use Rattle.model.specs.Definitions.Basics.{pick, passes, fails}
+use Rattle.model.specs.Definitions.Basics.{pick, fails}
 use Rattle.model.specs.Definitions.Table.{Kind, text, empty, sequence, choice, list, Table, kindOf}
 use Rattle.model.specs.Definitions.Heights.{heightIn, highest, lowest, heightOfKind, heightsTo, heights, heightOf, hasInstance, firstEndless, endlessType, leastMember}
 use Rattle.model.specs.Definitions.Content.{Content, levels}

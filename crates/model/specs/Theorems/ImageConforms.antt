@@ -1,27 +1,26 @@
 -- Images conform: what the image of a conforming source element holds conforms to the target table.
 use mathlib.Core.Path.{_≡_, refl, sym, ap, _∙_, subst}
 use mathlib.Core.Bool.{Bool, true, false}
-use mathlib.Core.List.{List, [], _∷_, List·Memᴰ, List·Memᴰ·head, List·Memᴰ·tail, List·Memᴰ·not-nil, List·Memᴰ·cases-cons}
+use mathlib.Core.List.{List, [], _∷_, List·Memᴰ, List·Memᴰ·head, List·Memᴰ·not-nil, List·Memᴰ·cases-cons}
 use mathlib.Core.Logic.{_⊎_, inl, inr}
-use mathlib.Core.Option.{Option, none, some}
-use Prim.Native.Nat.{ℕ, zero, suc, _+_, _≤_, _<_}
+use mathlib.Core.Option.{some}
+use Prim.Native.Nat.{ℕ, suc, _+_, _<_}
 use native.Mathlib.Nat.{add-zero, add-suc, suc-add}
-use native.Mathlib.Omega.{arith}
 use lib.ListN.{length}
 use lib.Dec.{eqb}
-use borrow.Author.Tests.{eqb-true, eqb-false, eq-eqb}
-use Rattle.model.specs.Definitions.Basics.{entry, pick, some-of}
+use borrow.Author.Tests.{eqb-true, eqb-false}
+use Rattle.model.specs.Definitions.Basics.{entry, some-of}
 use Rattle.model.specs.Definitions.Table.{Kind, text, empty, sequence, choice, list, Table, kindOf, membersOf, stepFrom, isText, isList}
-use Rattle.model.specs.Definitions.Content.{Content, end, char, elem}
-use Rattle.model.specs.Definitions.Conformance.{Holds, no-character, one-character, nothing, no-member, one-member, chosen, no-item, one-item}
+use Rattle.model.specs.Definitions.Content.{Content, char}
+use Rattle.model.specs.Definitions.Conformance.{Holds, no-character, one-character, no-member, one-member, chosen, no-item, one-item}
 use Rattle.model.specs.Definitions.Embedding.{targetOf, pathsOf, next, endOf, leaves, divide, Divided}
 use Rattle.model.specs.Definitions.EmbeddingChecks.{maxSteps, rightSteps, leavesOnly, sequenceOrList}
-use Rattle.model.specs.Definitions.Filler.{Builder, content, known}
-use Rattle.model.specs.Definitions.Image.{Setting, Placement, placed, under, isPlaced, growMembers, growKind, grow, place, Child, letter, element, children, imageOfElement, placements, lettersOf, alongPaths, alongChoice, pathOfMember, onlyPath, itemsOf, alongList}
-use Rattle.model.specs.Theorems.Facts.{WellFormed, SoundTable, Walks, GoodPath, MemberPath, Along, along-none, along-both, ValidEdges, text-edge, no-edge, sequence-edges, choice-edges, list-edge, Valid, All, all-none, all-more, Starts, Fits, nothing-placed, right-here, below-sequence, below-choice, below-list}
+use Rattle.model.specs.Definitions.Filler.{content, known}
+use Rattle.model.specs.Definitions.Image.{Setting, Placement, placed, under, growMembers, growKind, grow, place, children, imageOfElement, placements, lettersOf, alongPaths, alongChoice, pathOfMember, onlyPath, itemsOf, alongList}
+use Rattle.model.specs.Theorems.Facts.{WellFormed, GoodPath, MemberPath, Along, along-none, along-both, ValidEdges, text-edge, no-edge, sequence-edges, choice-edges, list-edge, Valid, All, all-none, all-more, Fits, nothing-placed, right-here, below-sequence, below-choice, below-list}
 use Rattle.model.specs.Theorems.Tools.{entry-member, true-false, pick-true, pick-false, and-right, one-plus}
 use Rattle.model.specs.Theorems.Placing.{entry-next, item-next, under-all, single-fits, placements-fit, GoodParts, divide-good, AtList, divide-at-list}
-use Rattle.model.specs.Theorems.ByElements.{Each, each-end, each-char, each-elem, by-elements}
+use Rattle.model.specs.Theorems.ByElements.{Each, each-elem, by-elements}
 
 -- ---- content grown from placements
 

@@ -44,12 +44,12 @@ beyond-map h p (q ∷ path) a ps = go (eqb p q)
     go true = refl
     go false = refl
 
-under-map : {A A′ : Type 0} (h : A → A′) (p : ℕ) (ps : List (Placement A)) → under p (map (onPlacement h) ps) ≡ map (onPlacement h) (under p ps)
+pub under-map : {A A′ : Type 0} (h : A → A′) (p : ℕ) (ps : List (Placement A)) → under p (map (onPlacement h) ps) ≡ map (onPlacement h) (under p ps)
 unfolding under onPlacement
 under-map h p [] = refl
 under-map h p (placed path a ∷ ps) = rw (under-map h p ps) (beyond-map h p path a (under p ps))
 
-isPlaced-map : {A A′ : Type 0} (h : A → A′) (ps : List (Placement A)) → isPlaced (map (onPlacement h) ps) ≡ isPlaced ps
+pub isPlaced-map : {A A′ : Type 0} (h : A → A′) (ps : List (Placement A)) → isPlaced (map (onPlacement h) ps) ≡ isPlaced ps
 unfolding isPlaced
 isPlaced-map h [] = refl
 isPlaced-map h (p ∷ ps) = refl
@@ -71,7 +71,7 @@ alongChoice-map h ms pss (element t a ∷ ks) = refl
 
 module _ {A A′ : Type 0} (B : Builder A) (B′ : Builder A′) (h : A → A′) (H : Hom B B′ h) where
   -- filler
-  known-hom : (fs : List A) (t : ℕ) → h (known B fs t) ≡ known B′ (map h fs) t
+  pub known-hom : (fs : List A) (t : ℕ) → h (known B fs t) ≡ known B′ (map h fs) t
   unfolding known
   known-hom fs t = rw (← H .on-none) (sym (List·getD-map h fs t (B .none)))
 
@@ -98,7 +98,7 @@ module _ {A A′ : Type 0} (B : Builder A) (B′ : Builder A′) (h : A → A′
   fillTo-hom hs T zero = refl
   fillTo-hom hs T (suc n) = round-hom hs (fillTo B hs T n) T ∙ rw (fillTo-hom hs T n)
 
-  fillers-hom : (T : Table) → map h (fillers B T) ≡ fillers B′ T
+  pub fillers-hom : (T : Table) → map h (fillers B T) ≡ fillers B′ T
   unfolding fillers
   fillers-hom T = fillTo-hom (heights T) T (length T)
 
@@ -132,7 +132,7 @@ module _ {A A′ : Type 0} (B : Builder A) (B′ : Builder A′) (h : A → A′
   grow-hom T fs (suc n) τ (placed (p ∷ path) a ∷ ps) =
       growKind-hom (λ m qs. grow B T fs n m qs) (λ m qs. grow B′ T (map h fs) n m qs) (grow-hom T fs n) (placed (p ∷ path) a ∷ ps) p (next T τ p) (kindOf T τ)
 
-  place-hom : (T : Table) (fs : List A) (τ : ℕ) (ps : List (Placement A))
+  pub place-hom : (T : Table) (fs : List A) (τ : ℕ) (ps : List (Placement A))
       → h (place B T fs τ ps) ≡ place B′ T (map h fs) τ (map (onPlacement h) ps)
   unfolding place
   place-hom T fs τ ps = grow-hom T fs (suc maxSteps) τ ps
@@ -171,10 +171,16 @@ module _ {A A′ : Type 0} (B : Builder A) (B′ : Builder A′) (h : A → A′
   children-hom X fs (char c r) = rw (children-hom X fs r)
   children-hom X fs (elem t k r) = rw (imageOfElement-hom, children-hom X fs k, children-hom X fs r)
 
+  -- what the image of an element holds
+  pub element-hom : (X : Setting) (s : ℕ) (k : Content)
+      → h (imageOfElement B X (fillers B (X .target)) s (children B X (fillers B (X .target)) k))
+      ≡ imageOfElement B′ X (fillers B′ (X .target)) s (children B′ X (fillers B′ (X .target)) k)
+  element-hom X s k = rw (imageOfElement-hom, children-hom, fillers-hom)
+
   -- a map that respects two builders takes the image by the first to the image by the second
   pub image-hom : (X : Setting) (k : Content) → h (imageBy B X k) ≡ imageBy B′ X k
   unfolding imageBy
-  image-hom X k = rw (imageOfElement-hom, children-hom, fillers-hom)
+  image-hom X k = element-hom X 0 k
 
 -- ---- levels and length
 

@@ -68,11 +68,11 @@ entry-range (suc p) [] {x} e = some-none e refl
 entry-range (suc zero) (y ∷ xs) {x} e = omega arith
 entry-range (suc (suc p)) (y ∷ xs) {x} e = let later : (1 ≤ suc p) × (suc p < 1 + length xs) = entry-range (suc p) xs e in omega arith
 
-leads-range : (ms : List ℕ) (p : ℕ) → Leads (sequence ms) p → (1 ≤ p) × (p < 1 + length ms)
+pub leads-range : (ms : List ℕ) (p : ℕ) → Leads (sequence ms) p → (1 ≤ p) × (p < 1 + length ms)
 unfolding stepFrom membersOf
 leads-range ms p leads = entry-range p ms (leads .1)
 
-starts-map : {A : Type 0} {ok ok′ : ℕ → Type 0} {ps : List (Placement A)} → ((q : ℕ) → ok q → ok′ q) → Starts ok ps → Starts ok′ ps
+pub starts-map : {A : Type 0} {ok ok′ : ℕ → Type 0} {ps : List (Placement A)} → ((q : ℕ) → ok q → ok′ q) → Starts ok ps → Starts ok′ ps
 starts-map f starts-none = starts-none
 starts-map f (starts-more {q = q} h later) = starts-more (f q h) (starts-map f later)
 
@@ -387,7 +387,7 @@ rest-edges-fit {X = X} τ m (list-edge {ps = ps} good) e a =
     let parts = divide-good (X .target) τ maxSteps ps (good .good .walks) (good .good .short) in
     single-fits (X .target) maxSteps a (parts .rest-walks) (parts .rest-short)
 
-rest-always-fits : {A : Type 0} (X : Setting) → Valid X → RestFits A X
+pub rest-always-fits : {A : Type 0} (X : Setting) → Valid X → RestFits A X
 rest-always-fits X valid s m exists e a = rest-edges-fit (targetOf (X .embedding) s) m (valid .edges s exists) e a
 
 -- a source document has at most the levels of its image

@@ -1,6 +1,6 @@
 -- What is proved of contents, said of documents as bytes, for `Statements`.
 use mathlib.Core.Path.{_≡_, refl, sym, ap, _∙_, subst}
-use mathlib.Core.List.{List, [], _∷_, _++_}
+use mathlib.Core.List.{List, [], _++_}
 use mathlib.Core.Logic.{_↔_, _⊎_, inl, inr}
 use mathlib.Core.Bool.{Bool, true, false}
 use mathlib.Core.Option.{Option, none, some}
@@ -15,14 +15,14 @@ use Rattle.model.specs.Definitions.TreeChecks.{maxLevels}
 use Rattle.model.specs.Definitions.Image.{Setting, image}
 use Rattle.model.specs.Definitions.Inverse.{readBack, bringBackContent}
 use Rattle.model.specs.Definitions.Refusals.{sound, Refusal, output-too-short, no-image, source-table, tree, maxLength}
-use Rattle.model.specs.Definitions.Entries.{judgedTable, judgedTree, Result, Outcome, accepted, refused, untouched, written, unlessFaulty, judgeTree, settingOf, carry, bringWithin, bringContent, bringBack}
+use Rattle.model.specs.Definitions.Entries.{judgedTable, judgedTree, Outcome, accepted, refused, untouched, written, unlessFaulty, judgeTree, settingOf, carry, bringWithin, bringContent, bringBack}
 use Rattle.model.specs.Theorems.Facts.{Valid}
 use Rattle.model.specs.Theorems.Tools.{some-none}
 use Rattle.model.specs.Theorems.Terms.{AcceptedEmbedding, AcceptedTree, imageOf, fillerOf, levelsIn}
 use Rattle.model.specs.Theorems.JudgedTables.{tree-checks, table-sound}
 use Rattle.model.specs.Theorems.Documents.{document-injective, content-of-document, accepted-content}
 use Rattle.model.specs.Theorems.NeverLonger.{levels-never-more, document-never-longer}
-use Rattle.model.specs.Theorems.BringingBack.{image-conforms, read-image, image-injective, brought-image, brought-source, nothing-exactly, read-conforms}
+use Rattle.model.specs.Theorems.BringingBack.{image-conforms, read-image, image-injective, brought-image, brought-source, nothing-exactly}
 use Rattle.model.specs.Theorems.EntryLaws.{Judges, judges-accept, judges-valid, accepted-refused, past-judge}
 use Rattle.model.specs.Theorems.DemandThree.{carries, carries-not, brings, brings-not, beyond-refused}
 

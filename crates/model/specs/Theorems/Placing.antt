@@ -2,22 +2,22 @@
 -- (`placements-fit`). A single path always has; several paths leave only sequences and lists and part from each other,
 -- so wherever one ends no other goes on.
 use mathlib.Core.Path.{_≡_, refl, sym, ap, _∙_, subst}
-use mathlib.Core.Bool.{Bool, true, false, not, _&&_, _||_}
+use mathlib.Core.Bool.{Bool, true, false, not}
 use mathlib.Core.List.{List, [], _∷_}
-use mathlib.Core.Option.{Option, none, some}
-use Prim.Native.Nat.{ℕ, zero, suc, _+_, _≤_, _<_}
+use mathlib.Core.Option.{none, some}
+use Prim.Native.Nat.{ℕ, zero, suc, _≤_}
 use native.Mathlib.Omega.{arith}
 use lib.ListN.{length}
 use lib.Dec.{eqb}
-use borrow.Author.Tests.{eqb-true, eqb-false, eq-eqb, ne-eqb}
+use borrow.Author.Tests.{eqb-true, eq-eqb}
 use Rattle.model.specs.Definitions.Basics.{pick, entry, some-of}
-use Rattle.model.specs.Definitions.Table.{Kind, text, empty, sequence, choice, list, Table, kindOf, membersOf, stepFrom, isSequence, isChoice, isList}
-use Rattle.model.specs.Definitions.Embedding.{targetOf, pathsOf, next, orRoot, endOf, leaves, Parting, beginning, apart, parting, Divided, divide, divideAt}
+use Rattle.model.specs.Definitions.Table.{Kind, text, empty, sequence, choice, list, Table, kindOf, membersOf, stepFrom, isSequence, isList}
+use Rattle.model.specs.Definitions.Embedding.{next, orRoot, endOf, leaves, Parting, beginning, apart, parting, Divided, divide, divideAt}
 use Rattle.model.specs.Definitions.EmbeddingChecks.{maxSteps, leavesOnly, sequenceOrList, rightSteps, clash, clashing}
 use Rattle.model.specs.Definitions.Filler.{Builder}
 use Rattle.model.specs.Definitions.Image.{Setting, Placement, placed, under, beyond, Child, letter, element, alongPaths, alongChoice, pathOfMember, onlyPath, alongList, placements}
-use Rattle.model.specs.Theorems.Facts.{Walks, arrived, onward, GoodPath, MemberPath, Along, along-none, along-both, All, all-none, all-more, Pairs, pairs-none, pairs-more, Compatible, ValidEdges, text-edge, no-edge, sequence-edges, choice-edges, list-edge, Starts, starts-none, starts-more, Leads, Fits, nothing-placed, right-here, below-sequence, below-choice, below-list}
-use Rattle.model.specs.Theorems.Tools.{pick-true, pick-false, true-false, some-none, and-left, and-right}
+use Rattle.model.specs.Theorems.Facts.{Walks, arrived, onward, MemberPath, Along, along-none, along-both, All, all-none, all-more, Pairs, pairs-none, pairs-more, Compatible, ValidEdges, text-edge, no-edge, sequence-edges, choice-edges, list-edge, Starts, starts-none, starts-more, Leads, Fits, nothing-placed, right-here, below-sequence, below-choice, below-list}
+use Rattle.model.specs.Theorems.Tools.{pick-true, pick-false, true-false, some-none, and-left}
 
 -- ---- steps
 

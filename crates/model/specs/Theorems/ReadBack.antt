@@ -5,24 +5,24 @@ use mathlib.Core.Bool.{Bool, true, false, not}
 use mathlib.Core.List.{List, [], _∷_, List·Memᴰ, List·Memᴰ·head, List·Memᴰ·tail, List·Memᴰ·not-nil, List·Memᴰ·cases-cons}
 use mathlib.Core.Logic.{_⊎_, inl, inr}
 use mathlib.Core.Option.{Option, none, some}
-use Prim.Native.Nat.{ℕ, zero, suc, _+_, _≤_, _<_, max}
+use Prim.Native.Nat.{ℕ, zero, suc, _+_, _≤_, _<_}
 use native.Mathlib.Nat.{add-zero, add-suc, suc-add}
 use native.Mathlib.Omega.{arith}
 use lib.ListN.{length}
 use lib.Dec.{eqb}
 use borrow.Author.Tests.{eqb-true, eqb-false, eq-eqb, ne-eqb}
-use Rattle.model.specs.Definitions.Basics.{entry, pick, andThen, some-of}
-use Rattle.model.specs.Definitions.Table.{Kind, text, empty, sequence, choice, list, Table, kindOf, membersOf, stepFrom, isChoice, isList}
-use Rattle.model.specs.Definitions.Content.{Content, end, char, elem, levels}
-use Rattle.model.specs.Definitions.Conformance.{Holds, no-character, one-character, nothing, no-member, one-member, chosen, no-item, one-item}
-use Rattle.model.specs.Definitions.Embedding.{targetOf, pathsOf, next, endOf, leaves, divide, Divided, parting, Parting, beginning, apart}
-use Rattle.model.specs.Definitions.EmbeddingChecks.{maxSteps, rightSteps, clash, clashing}
-use Rattle.model.specs.Definitions.Filler.{Builder, content, known}
-use Rattle.model.specs.Definitions.Image.{Setting, Placement, placed, under, beyond, isPlaced, growMembers, growKind, grow, place, Child, letter, element, children, imageOfElement, placements, lettersOf, alongPaths, alongChoice, pathOfMember, onlyPath, itemsOf, alongList}
+use Rattle.model.specs.Definitions.Basics.{entry, pick, andThen}
+use Rattle.model.specs.Definitions.Table.{Kind, text, empty, sequence, choice, list, Table, kindOf, membersOf, stepFrom, isChoice}
+use Rattle.model.specs.Definitions.Content.{Content, end, elem, levels}
+use Rattle.model.specs.Definitions.Conformance.{Holds, nothing, no-member, one-member, chosen, no-item, one-item}
+use Rattle.model.specs.Definitions.Embedding.{targetOf, next, divide, Divided, parting, Parting, beginning, apart}
+use Rattle.model.specs.Definitions.EmbeddingChecks.{maxSteps, clash, clashing}
+use Rattle.model.specs.Definitions.Filler.{content}
+use Rattle.model.specs.Definitions.Image.{Setting, Placement, placed, under, beyond, growMembers, growKind, grow, place, Child, children, imageOfElement, placements, alongPaths, alongChoice, pathOfMember, onlyPath, itemsOf, alongList}
 use Rattle.model.specs.Definitions.Inverse.{childAt, childOfType, enter, follow, readOne, readMembers, readIfThere, readChoice, readItems, readList, readKind, readTo}
-use Rattle.model.specs.Theorems.Facts.{WellFormed, SoundTable, Walks, arrived, onward, GoodPath, MemberPath, Along, along-none, along-both, All, all-none, all-more, Pairs, pairs-none, pairs-more, Compatible, ValidEdges, text-edge, no-edge, sequence-edges, choice-edges, list-edge, Valid, Starts, starts-none, starts-more, Leads, Fits, nothing-placed, right-here, below-sequence, below-choice, below-list}
-use Rattle.model.specs.Theorems.Tools.{entry-member, true-false, some-none, pick-true, pick-false, and-right, one-plus}
-use Rattle.model.specs.Theorems.Placing.{next-is, entry-next, item-next, under-same, under-other, single-fits, placements-fit, GoodParts, divide-good, AtList, divide-at-list, walks-step, walks-rest, member-walks}
+use Rattle.model.specs.Theorems.Facts.{WellFormed, Walks, MemberPath, Along, along-none, along-both, All, all-none, all-more, Pairs, pairs-more, Compatible, ValidEdges, text-edge, no-edge, sequence-edges, choice-edges, list-edge, Valid, Starts, starts-none, starts-more, Fits, nothing-placed, right-here, below-sequence, below-choice, below-list}
+use Rattle.model.specs.Theorems.Tools.{true-false, some-none, pick-true, pick-false, one-plus}
+use Rattle.model.specs.Theorems.Placing.{entry-next, item-next, under-same, single-fits, placements-fit, GoodParts, divide-good, walks-step, walks-rest, member-walks}
 use Rattle.model.specs.Theorems.ByElements.{Each, each-end, each-char, each-elem, by-elements}
 use Rattle.model.specs.Theorems.ImageConforms.{letters-back}
 

@@ -4,22 +4,21 @@ use mathlib.Core.Path.{_≡_, refl, sym, ap, _∙_, subst}
 use mathlib.Core.Bool.{Bool, true, false}
 use mathlib.Core.List.{List, [], _∷_, List·Memᴰ, List·Memᴰ·head, List·Memᴰ·tail}
 use mathlib.Core.Option.{Option, none, some}
-use Prim.Native.Nat.{ℕ, zero, suc, _≤_, _<_}
-use native.Mathlib.Omega.{arith}
+use Prim.Native.Nat.{ℕ, zero, suc, _<_}
 use lib.ListN.{length}
 use lib.Dec.{eqb}
 use borrow.Author.Tests.{eqb-true}
-use Rattle.model.specs.Definitions.Basics.{entry, pick, andThen}
-use Rattle.model.specs.Definitions.Table.{Kind, text, empty, sequence, choice, list, Table, kindOf, membersOf, stepFrom, isList}
-use Rattle.model.specs.Definitions.Content.{Content, end, char, elem}
-use Rattle.model.specs.Definitions.Conformance.{Holds, no-character, one-character, nothing, no-member, one-member, chosen, no-item, one-item}
-use Rattle.model.specs.Definitions.Embedding.{targetOf, pathsOf, next, endOf, divide, Divided}
+use Rattle.model.specs.Definitions.Basics.{entry, andThen}
+use Rattle.model.specs.Definitions.Table.{Kind, text, empty, sequence, choice, list, Table, kindOf, membersOf, stepFrom}
+use Rattle.model.specs.Definitions.Content.{Content, end, elem}
+use Rattle.model.specs.Definitions.Conformance.{Holds, nothing, no-member, one-member, chosen, no-item, one-item}
+use Rattle.model.specs.Definitions.Embedding.{targetOf, next, endOf, divide, Divided}
 use Rattle.model.specs.Definitions.EmbeddingChecks.{maxSteps}
 use Rattle.model.specs.Definitions.Image.{Setting, onlyPath}
 use Rattle.model.specs.Definitions.Inverse.{childAt, childOfType, enter, follow, readOne, readMembers, readIfThere, readChoice, readItems, readList, readKind, readTo}
-use Rattle.model.specs.Theorems.Facts.{WellFormed, Walks, GoodPath, MemberPath, Along, along-none, along-both, ValidEdges, text-edge, no-edge, sequence-edges, choice-edges, list-edge, Valid}
-use Rattle.model.specs.Theorems.Tools.{true-false, some-none, pick-true, pick-false}
-use Rattle.model.specs.Theorems.Placing.{next-is, list-step, walks-step, walks-rest, GoodParts, divide-good, AtList, divide-at-list}
+use Rattle.model.specs.Theorems.Facts.{Walks, MemberPath, Along, along-none, along-both, ValidEdges, text-edge, no-edge, sequence-edges, choice-edges, list-edge, Valid}
+use Rattle.model.specs.Theorems.Tools.{some-none, pick-true, pick-false}
+use Rattle.model.specs.Theorems.Placing.{walks-step, walks-rest, GoodParts, divide-good, AtList, divide-at-list}
 use Rattle.model.specs.Theorems.ImageConforms.{is-text, text-anywhere, list-left}
 
 -- ---- one path

@@ -1,10 +1,9 @@
 -- For code that reads a document command by command: the command at an offset, and a machine's run over what is left from
 -- there. "What is left gives the whole": each turn of a loop takes one command off the front and keeps the verdict.
-use mathlib.Core.Path.{_≡_, refl, sym, ap, _∙_, subst}
+use mathlib.Core.Path.{_≡_, refl, ap}
 use mathlib.Core.Bool.{Bool, true, false}
 use mathlib.Core.List.{List, [], _∷_, map}
-use Prim.Native.Nat.{ℕ, zero, suc, _+_, _≤_, _<_}
-use native.Mathlib.Nat.{add-zero, add-suc}
+use Prim.Native.Nat.{ℕ, suc, _+_, _≤_, _<_}
 use native.Mathlib.Numerals.{add-one, add-two}
 use native.Mathlib.Omega.{arith}
 use lib.ListN.{length, drop, getD, drop-of-length-le}
@@ -12,8 +11,7 @@ use lib.Seq.{drop-cons}
 use lib.Dec.{ltb}
 use borrow.Author.Tests.{ltb-true, ltb-false}
 use Rattle.model.specs.Definitions.Basics.{pick, Verdict, passes, fails, Next, goes, stops, proceed, run}
-use Rattle.model.specs.Definitions.Commands.{Command, bare, paired, cut, takesOperand, lastCommand, firstCommand, commands, TableCommand, alien, tableCommand, tableCommands, tableWidth, EmbeddingCommand, alienE, embeddingCommand, embeddingCommands, embeddingWidth, TreeCommand, alienT, treeCommand, treeCommands, treeWidth}
-use Rattle.model.specs.Theorems.Tools.{pick-true, pick-false}
+use Rattle.model.specs.Definitions.Commands.{Command, bare, paired, cut, takesOperand, lastCommand, firstCommand, commands, alien, tableCommand, tableCommands, tableWidth, alienE, embeddingCommand, embeddingCommands, embeddingWidth, alienT, treeCommand, treeCommands, treeWidth}
 use Rattle.model.specs.Theorems.Runs.{goes-stops}
 
 -- ---- the command at an offset

@@ -1,16 +1,16 @@
 -- 01 "Programs that look finished and aren't": two of its rules can't be left out, by examples that compute.
-use mathlib.Core.Path.{_≡_, refl, ap}
+use mathlib.Core.Path.{_≡_, refl}
 use mathlib.Core.List.{List, [], _∷_}
 use mathlib.Core.Option.{Option, none, some}
 use Prim.Native.Nat.{ℕ, zero, suc}
 use native.Mathlib.Omega.{arith}
-use Rattle.model.specs.Definitions.Basics.{Verdict, passes, andThen}
+use Rattle.model.specs.Definitions.Basics.{passes, andThen}
 use Rattle.model.specs.Definitions.Table.{Kind, text, empty, sequence, choice, list, Table, kindOf, tableOf}
 use Rattle.model.specs.Definitions.Content.{Content, end, elem, document}
 use Rattle.model.specs.Definitions.Embedding.{apart, parting, embeddingOf}
-use Rattle.model.specs.Definitions.EmbeddingChecks.{embeddingForm, embeddingLimits, embeddingOperands, rootToRoot, wrongEnd, wrongSteps}
+use Rattle.model.specs.Definitions.EmbeddingChecks.{embeddingForm, embeddingLimits, embeddingOperands, wrongEnd, wrongSteps}
 use Rattle.model.specs.Definitions.Filler.{content, known, fillers}
-use Rattle.model.specs.Definitions.Image.{Setting, image}
+use Rattle.model.specs.Definitions.Image.{image}
 use Rattle.model.specs.Definitions.Entries.{judgeTable, judgeTree, accepted, settingOf}
 use Rattle.model.specs.Computing.{definitions}
 
