@@ -27,3 +27,20 @@ pub enum Judged {
     Sound,
     Has(Fault),
 }
+
+// What carrying finds: the image has a 129th level; it is longer than 60,000 bytes; it doesn't fit the output; or it is written,
+// with this length and this number of filler elements.
+pub enum Carried {
+    TooDeep,
+    TooLong,
+    NoRoom,
+    Written(usize, usize),
+}
+
+// What bringing back finds: no conforming source document has this image; the source doesn't fit the output; or it is written,
+// with this length.
+pub enum Brought {
+    NoImage,
+    NoRoom,
+    Written(usize),
+}

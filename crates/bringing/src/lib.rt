@@ -1,312 +1,146 @@
-// Bringing an image back by loaded tables and a loaded embedding: the source is read along the paths into a local buffer, its
-// image is compared with the given document, and only then is the source written to the lent output.
+// Bringing an image back by loaded tables and a loaded embedding: the source is read along the paths into a local buffer, the
+// given document is compared with its image along the templates, and only then is the source written to the lent output.
 ghost use mathlib.Core.Path.{_≡_};
 ghost use mathlib.Core.Bool.{true};
 ghost use mathlib.Core.Logic.{_↔_};
 ghost use Prim.Native.Nat.{_≤_};
 ghost use lib.ListN.{length};
-ghost use Rattle.dtd.specs.Loaded.{tableIn};
-ghost use Rattle.setting.specs.Ready.{FillHeld};
-ghost use Rattle.images.specs.Setting.{world, Usable};
-ghost use Rattle.images.specs.Image.{Source, imageDocument};
-ghost use Rattle.bringing.specs.Bringing.{Target, ReadFrom, Brings};
-use inverse::reading::Read;
+ghost use Rattle.model.specs.Definitions.Content.{contentOf, document};
+ghost use Rattle.model.specs.Definitions.Image.{image};
+ghost use Rattle.loaded_table.specs.Loaded.{tableBy};
+ghost use Rattle.loaded_setting.specs.Ready.{settingIn, Ready};
+ghost use Rattle.loaded_setting.specs.Trees.{SoundTree};
+ghost use Rattle.scanning.specs.Spanning.{Spans};
+ghost use Rattle.bringing.specs.Bringing.{ReadFrom, Brings};
+use answers::Brought;
+use codes::MAX_BYTES;
+use inverse::Read;
+use inverse::read_back;
+use loaded_embedding::MAP;
+use loaded_table::TABLE;
+use pools::MIDDLE_POOL;
+use pools::PLACES;
+use pools::POOL;
+use pools::SMALL_PLACES;
+use pools::SMALL_POOL;
+use pools::is_small;
+use preparing::prepare;
+use preparing::room;
 use scanning::spans::fill_spans;
+use writing::copy;
 
-// No conforming source document has this image; the source doesn't fit the output; or it is written, with this length.
-pub enum Brought {
-    NoImage,
-    NoRoom,
-    Written(usize),
-}
+// A document of at most this length is brought back by way of short buffers.
+const SHORT: usize = 2048;
 
-// Whether two strings of bytes are the same.
-pub fn same_bytes(a: &[u8], b: &[u8]) -> bool
-    ensures { λ r. ⌜ (r ≡ true) ↔ (now (a .entry) ≡ now (b .entry)) ⌝ }
-{
-    if a.len() != b.len() {
-        return false;
-    }
-    let mut i = 0;
-    while i < a.len() {
-        if a[i] != b[i] {
-            return false;
-        }
-        i += 1;
-    }
-    true
-}
-
-// Whether `tr` is the image of the source document `source`; the image is written into `room`, if it has the right length.
+// Whether `tr` is the image of `source`, whose spans are given.
 fn is_image<'a>(
-    types1: usize,
-    k1: &'a [u8; 64],
-    c1: &'a [u8; 64],
-    m1: &'a [u8; 1024],
-    types2: usize,
-    k2: &'a [u8; 64],
-    c2: &'a [u8; 64],
-    m2: &'a [u8; 1024],
-    h2: &'a [u8; 64],
-    f2: &'a [u16; 64],
-    tg: &'a [u8; 64],
-    st: &'a [u16; 1024],
-    ln: &'a [u8; 1024],
+    from: &'a [u16; TABLE],
+    to: &'a [u16; TABLE],
+    map: &'a [u16; MAP],
     em: &'a [u8],
     source: &'a [u8],
+    spans: &'a [u16],
     tr: &'a [u8],
-    room: &mut [u8],
 ) -> bool
-    requires setting { ⌜ Usable (world types1 (now k1) (now c1) (now m1) types2 (now k2) (now c2) (now m2) (now h2) (now tg) (now st) (now ln) (now em) (now source)) ⌝ }
-    requires fill { ⌜ FillHeld (tableIn types2 (now k2) (now c2) (now m2)) (now f2) ⌝ }
-    requires conforming { ⌜ Source (world types1 (now k1) (now c1) (now m1) types2 (now k2) (now c2) (now m2) (now h2) (now tg) (now st) (now ln) (now em) (now source)) ⌝ }
-    requires within { ⌜ (length (now tr) ≤ 60000) × (length (now tr) ≤ length (now room)) ⌝ }
-    ensures { λ r. ⌜ (r ≡ true) ↔ (imageDocument (world types1 (now (k1 .entry)) (now (c1 .entry)) (now (m1 .entry)) types2 (now (k2 .entry)) (now (c2 .entry)) (now (m2 .entry)) (now (h2 .entry)) (now (tg .entry)) (now (st .entry)) (now (ln .entry)) (now (em .entry)) (now (source .entry))) ≡ now (tr .entry)) ⌝ }
+    requires setting { ⌜ Ready (now from) (now to) (now map) (now em) ⌝ }
+    requires conforming { ⌜ SoundTree (tableBy (now from)) (now source) ⌝ }
+    requires spans { ⌜ Spans (now source) (now spans) ⌝ }
+    ensures { λ r. ⌜ (r ≡ true) ↔ (document 0 (image (settingIn (now (from .entry)) (now (to .entry)) (now (map .entry)) (now (em .entry))) (contentOf (now (source .entry)))) ≡ now (tr .entry)) ⌝ }
 {
-    let size = measures::measure(
-        types1,
-        k1,
-        c1,
-        m1,
-        types2,
-        k2,
-        c2,
-        m2,
-        h2,
-        f2,
-        tg,
-        st,
-        ln,
-        em,
-        source,
-    );
-    if size.bytes != tr.len() {
-        return false;
+    let long = room(from, to, map);
+    if is_small(loaded_table::types(from), long) {
+        let mut pool = [0u8; SMALL_POOL];
+        let mut places = [0u32; SMALL_PLACES];
+        prepare(from, to, map, em, &mut pool, &mut places);
+        return matching::is_image(from, &pool, &places, source, spans, tr);
     }
-    let wrote = images::write_image(
-        types1,
-        k1,
-        c1,
-        m1,
-        types2,
-        k2,
-        c2,
-        m2,
-        h2,
-        tg,
-        st,
-        ln,
-        em,
-        source,
-        room,
-    );
-    let n = wrote.at;
-    same_bytes(&room[..n], tr)
+    if long <= MIDDLE_POOL {
+        let mut pool = [0u8; MIDDLE_POOL];
+        let mut places = [0u32; PLACES];
+        prepare(from, to, map, em, &mut pool, &mut places);
+        return matching::is_image(from, &pool, &places, source, spans, tr);
+    }
+    let mut pool = [0u8; POOL];
+    let mut places = [0u32; PLACES];
+    prepare(from, to, map, em, &mut pool, &mut places);
+    matching::is_image(from, &pool, &places, source, spans, tr)
 }
 
-// Writes the source document `source` that was read from `tr`, if `tr` is its image and there is room for it.
+// Writes the source document `source`, which was read from `tr`, if `tr` is its image and there is room for it. Its spans go to a
+// buffer that is at least as long.
 fn give<'a>(
-    types1: usize,
-    k1: &'a [u8; 64],
-    c1: &'a [u8; 64],
-    m1: &'a [u8; 1024],
-    types2: usize,
-    k2: &'a [u8; 64],
-    c2: &'a [u8; 64],
-    m2: &'a [u8; 1024],
-    h2: &'a [u8; 64],
-    f2: &'a [u16; 64],
-    tg: &'a [u8; 64],
-    st: &'a [u16; 1024],
-    ln: &'a [u8; 1024],
+    from: &'a [u16; TABLE],
+    to: &'a [u16; TABLE],
+    map: &'a [u16; MAP],
     em: &'a [u8],
     source: &'a [u8],
     tr: &'a [u8],
-    room: &mut [u8],
+    spans: &mut [u16],
     out: &mut [u8],
 ) -> Brought
-    requires setting { ⌜ Usable (world types1 (now k1) (now c1) (now m1) types2 (now k2) (now c2) (now m2) (now h2) (now tg) (now st) (now ln) (now em) (now tr)) ⌝ }
-    requires fill { ⌜ FillHeld (tableIn types2 (now k2) (now c2) (now m2)) (now f2) ⌝ }
-    requires target { ⌜ Target (world types1 (now k1) (now c1) (now m1) types2 (now k2) (now c2) (now m2) (now h2) (now tg) (now st) (now ln) (now em) (now tr)) ⌝ }
-    requires reading { ⌜ ReadFrom (world types1 (now k1) (now c1) (now m1) types2 (now k2) (now c2) (now m2) (now h2) (now tg) (now st) (now ln) (now em) (now tr)) (now source) ⌝ }
-    requires within { ⌜ length (now tr) ≤ length (now room) ⌝ }
-    ensures { λ r. ⌜ Brings (world types1 (now (k1 .entry)) (now (c1 .entry)) (now (m1 .entry)) types2 (now (k2 .entry)) (now (c2 .entry)) (now (m2 .entry)) (now (h2 .entry)) (now (tg .entry)) (now (st .entry)) (now (ln .entry)) (now (em .entry)) (now (tr .entry))) (now (out .entry)) (now (out .exit)) r ⌝ }
+    requires setting { ⌜ Ready (now from) (now to) (now map) (now em) ⌝ }
+    requires target { ⌜ SoundTree (tableBy (now to)) (now tr) ⌝ }
+    requires reading { ⌜ ReadFrom (settingIn (now from) (now to) (now map) (now em)) (now tr) (now source) ⌝ }
+    requires room { ⌜ length (now source) ≤ length (now spans) ⌝ }
+    ensures { λ r. ⌜ Brings (settingIn (now (from .entry)) (now (to .entry)) (now (map .entry)) (now (em .entry))) (now (tr .entry)) (now (out .entry)) (now (out .exit)) r ⌝ }
 {
-    let n = source.len();
-    let same = is_image(
-        types1,
-        k1,
-        c1,
-        m1,
-        types2,
-        k2,
-        c2,
-        m2,
-        h2,
-        f2,
-        tg,
-        st,
-        ln,
-        em,
-        source,
-        tr,
-        room,
-    );
-    if !same {
+    fill_spans(source, spans);
+    if !is_image(from, to, map, em, source, &spans[..], tr) {
         return Brought::NoImage;
     }
+    let n = source.len();
     if out.len() < n {
         return Brought::NoRoom;
     }
-    let written = writing::copy(source, 0, n, out, 0);
+    let written = copy(source, 0, n, out, 0);
     Brought::Written(written)
 }
 
-// Brings back the document `tr` by way of three buffers that are at least as long: the lengths of what its elements hold go to
-// the first, what is read to the second, its image to the third.
+// Brings back `tr` by way of two buffers that are at least as long: what is read goes to the first; the lengths of what elements
+// hold, of `tr` and then of the source, to the second.
 fn bring_through<'a>(
-    types1: usize,
-    k1: &'a [u8; 64],
-    c1: &'a [u8; 64],
-    m1: &'a [u8; 1024],
-    types2: usize,
-    k2: &'a [u8; 64],
-    c2: &'a [u8; 64],
-    m2: &'a [u8; 1024],
-    h2: &'a [u8; 64],
-    f2: &'a [u16; 64],
-    tg: &'a [u8; 64],
-    st: &'a [u16; 1024],
-    ln: &'a [u8; 1024],
+    from: &'a [u16; TABLE],
+    to: &'a [u16; TABLE],
+    map: &'a [u16; MAP],
     em: &'a [u8],
     tr: &'a [u8],
-    spans: &mut [u16],
     buffer: &mut [u8],
-    room: &mut [u8],
+    spans: &mut [u16],
     out: &mut [u8],
 ) -> Brought
-    requires setting { ⌜ Usable (world types1 (now k1) (now c1) (now m1) types2 (now k2) (now c2) (now m2) (now h2) (now tg) (now st) (now ln) (now em) (now tr)) ⌝ }
-    requires fill { ⌜ FillHeld (tableIn types2 (now k2) (now c2) (now m2)) (now f2) ⌝ }
-    requires target { ⌜ Target (world types1 (now k1) (now c1) (now m1) types2 (now k2) (now c2) (now m2) (now h2) (now tg) (now st) (now ln) (now em) (now tr)) ⌝ }
-    requires within { ⌜ (length (now tr) ≤ length (now spans)) × (length (now tr) ≤ length (now buffer)) × (length (now buffer) ≤ 60000) × (length (now tr) ≤ length (now room)) ⌝ }
-    ensures { λ r. ⌜ Brings (world types1 (now (k1 .entry)) (now (c1 .entry)) (now (m1 .entry)) types2 (now (k2 .entry)) (now (c2 .entry)) (now (m2 .entry)) (now (h2 .entry)) (now (tg .entry)) (now (st .entry)) (now (ln .entry)) (now (em .entry)) (now (tr .entry))) (now (out .entry)) (now (out .exit)) r ⌝ }
+    requires setting { ⌜ Ready (now from) (now to) (now map) (now em) ⌝ }
+    requires target { ⌜ SoundTree (tableBy (now to)) (now tr) ⌝ }
+    requires within { ⌜ (length (now tr) ≤ length (now buffer)) × (length (now buffer) ≤ 60000) × (length (now buffer) ≤ length (now spans)) ⌝ }
+    ensures { λ r. ⌜ Brings (settingIn (now (from .entry)) (now (to .entry)) (now (map .entry)) (now (em .entry))) (now (tr .entry)) (now (out .entry)) (now (out .exit)) r ⌝ }
 {
     fill_spans(tr, spans);
-    let read = inverse::reading::read_back(
-        types1,
-        k1,
-        c1,
-        m1,
-        types2,
-        k2,
-        c2,
-        m2,
-        tg,
-        st,
-        ln,
-        em,
-        tr,
-        &spans[..],
-        buffer,
-    );
+    let read = read_back(from, to, map, em, tr, &spans[..], buffer);
     match read {
         Read::Nothing => Brought::NoImage,
-        Read::To(n) => give(
-            types1,
-            k1,
-            c1,
-            m1,
-            types2,
-            k2,
-            c2,
-            m2,
-            h2,
-            f2,
-            tg,
-            st,
-            ln,
-            em,
-            &buffer[..n],
-            tr,
-            room,
-            out,
-        ),
+        Read::To(n) => give(from, to, map, em, &buffer[..n], tr, spans, out),
     }
 }
 
-// Brings back the document `tr`, which conforms to the target table and has at most 60,000 bytes. For a short one short
-// buffers do, and need not be cleared at length.
+// Brings back the document `tr`, which conforms to the target table. For a short one short buffers do, and need not be cleared at
+// length.
 pub fn bring_back<'a>(
-    types1: usize,
-    k1: &'a [u8; 64],
-    c1: &'a [u8; 64],
-    m1: &'a [u8; 1024],
-    types2: usize,
-    k2: &'a [u8; 64],
-    c2: &'a [u8; 64],
-    m2: &'a [u8; 1024],
-    h2: &'a [u8; 64],
-    f2: &'a [u16; 64],
-    tg: &'a [u8; 64],
-    st: &'a [u16; 1024],
-    ln: &'a [u8; 1024],
+    from: &'a [u16; TABLE],
+    to: &'a [u16; TABLE],
+    map: &'a [u16; MAP],
     em: &'a [u8],
     tr: &'a [u8],
     out: &mut [u8],
 ) -> Brought
-    requires setting { ⌜ Usable (world types1 (now k1) (now c1) (now m1) types2 (now k2) (now c2) (now m2) (now h2) (now tg) (now st) (now ln) (now em) (now tr)) ⌝ }
-    requires fill { ⌜ FillHeld (tableIn types2 (now k2) (now c2) (now m2)) (now f2) ⌝ }
-    requires target { ⌜ Target (world types1 (now k1) (now c1) (now m1) types2 (now k2) (now c2) (now m2) (now h2) (now tg) (now st) (now ln) (now em) (now tr)) ⌝ }
-    ensures { λ r. ⌜ Brings (world types1 (now (k1 .entry)) (now (c1 .entry)) (now (m1 .entry)) types2 (now (k2 .entry)) (now (c2 .entry)) (now (m2 .entry)) (now (h2 .entry)) (now (tg .entry)) (now (st .entry)) (now (ln .entry)) (now (em .entry)) (now (tr .entry))) (now (out .entry)) (now (out .exit)) r ⌝ }
+    requires setting { ⌜ Ready (now from) (now to) (now map) (now em) ⌝ }
+    requires target { ⌜ SoundTree (tableBy (now to)) (now tr) ⌝ }
+    ensures { λ r. ⌜ Brings (settingIn (now (from .entry)) (now (to .entry)) (now (map .entry)) (now (em .entry))) (now (tr .entry)) (now (out .entry)) (now (out .exit)) r ⌝ }
 {
-    if tr.len() <= 2048 {
-        let mut spans = [0u16; 2048];
-        let mut buffer = [0u8; 2048];
-        let mut room = [0u8; 2048];
-        return bring_through(
-            types1,
-            k1,
-            c1,
-            m1,
-            types2,
-            k2,
-            c2,
-            m2,
-            h2,
-            f2,
-            tg,
-            st,
-            ln,
-            em,
-            tr,
-            &mut spans,
-            &mut buffer,
-            &mut room,
-            out,
-        );
+    if tr.len() <= SHORT {
+        let mut buffer = [0u8; SHORT];
+        let mut spans = [0u16; SHORT];
+        return bring_through(from, to, map, em, tr, &mut buffer, &mut spans, out);
     }
-    let mut spans = [0u16; 60000];
-    let mut buffer = [0u8; 60000];
-    let mut room = [0u8; 60000];
-    bring_through(
-        types1,
-        k1,
-        c1,
-        m1,
-        types2,
-        k2,
-        c2,
-        m2,
-        h2,
-        f2,
-        tg,
-        st,
-        ln,
-        em,
-        tr,
-        &mut spans,
-        &mut buffer,
-        &mut room,
-        out,
-    )
+    let mut buffer = [0u8; MAX_BYTES];
+    let mut spans = [0u16; MAX_BYTES];
+    bring_through(from, to, map, em, tr, &mut buffer, &mut spans, out)
 }

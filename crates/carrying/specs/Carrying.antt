@@ -2,21 +2,26 @@
 use mathlib.Core.Path.{_≡_}
 use mathlib.Core.List.{List}
 use Prim.Native.Nat.{ℕ}
-use Rattle.carrying.specs.declared.Carried.{Carried}
-use Rattle.carrying.specs.declared.Carried.the-variants as carried
-use Rattle.images.specs.Setting.{World, settingOf}
+use Rattle.answers.specs.declared.Carried.{Carried}
+use Rattle.answers.specs.Answers.{carriedResult}
+use Rattle.loaded_table.specs.Loaded.{tableBy}
+use Rattle.loaded_setting.specs.Ready.{settingIn, Ready}
+use Rattle.loaded_setting.specs.Trees.{SoundTree}
+use Rattle.rows.specs.Rows.{Rows, Sizes}
 use Rattle.model.specs.Definitions.Content.{contentOf}
-use Rattle.model.specs.Definitions.Refusals.{image-too-deep, image-too-long, output-too-short}
-use Rattle.model.specs.Definitions.Entries.{Result, refused, accepted, carryContent}
+use Rattle.model.specs.Definitions.Image.{Setting}
+use Rattle.model.specs.Definitions.Entries.{carryContent}
 
--- the model's answer for each case
-abbrev pub carriedResult : Carried → Result
-carriedResult carried.TooDeep = refused image-too-deep
-carriedResult carried.TooLong = refused image-too-long
-carriedResult carried.NoRoom = refused output-too-short
-carriedResult (carried.Written length filler) = accepted length filler
+-- an accepted setting with its templates prepared and their sizes found, and an accepted source document
+pub record Carriable (source map pool places sizes tr : List ℕ) : Type 0 where
+  pub target : List ℕ
+  pub em : List ℕ
+  pub ready : Ready source target map em
+  pub rows : Rows (settingIn source target map em) pool places
+  pub sized : Sizes (settingIn source target map em) sizes
+  pub tree : SoundTree (tableBy source) tr
 
 -- answer and output are the model's
-pub record Carries (w : World) (old new : List ℕ) (r : Carried) : Type 0 where
-  pub same-answer : carriedResult r ≡ carryContent old (settingOf w) (contentOf (w .tree)) .result
-  pub same-output : new ≡ carryContent old (settingOf w) (contentOf (w .tree)) .output
+pub record Carries (X : Setting) (tr old new : List ℕ) (r : Carried) : Type 0 where
+  pub same-answer : carriedResult r ≡ carryContent old X (contentOf tr) .result
+  pub same-output : new ≡ carryContent old X (contentOf tr) .output

@@ -1,87 +1,154 @@
-// Carrying a source document by loaded tables and a loaded embedding: its image is measured, refused where it is beyond the
-// limits or has no room, and only then written, straight into the lent output.
+// Carrying a source document by loaded tables and a loaded embedding: the templates of its types are prepared, its image is
+// measured by them, refused where it is beyond the limits or has no room, and only then written, straight into the lent output.
+ghost use mathlib.Core.List.{List};
 ghost use mathlib.Core.Path.{_≡_};
-ghost use Rattle.dtd.specs.Loaded.{tableIn};
-ghost use Rattle.setting.specs.Ready.{FillHeld};
-ghost use Rattle.images.specs.Setting.{world, Usable};
-ghost use Rattle.images.specs.Image.{Source};
-ghost use Rattle.carrying.specs.Carrying.{Carries};
+ghost use Prim.Native.Nat.{ℕ, _+_, _*_, _≤_, _<_};
+ghost use lib.ListN.{length};
+ghost use Rattle.loaded_table.specs.Loaded.{tableBy, typesIn};
+ghost use Rattle.rows.specs.Rows.{toOf, Rows, Sizes};
+ghost use Rattle.preparing.specs.Preparing.{roomOf};
+ghost use Rattle.loaded_setting.specs.Ready.{settingIn, Ready};
+ghost use Rattle.loaded_setting.specs.Trees.{SoundTree};
+ghost use Rattle.writing.specs.Writing.{Writes};
+ghost use Rattle.filling.specs.Asked.{Fits, ImageAsked};
+ghost use Rattle.carrying.specs.Carrying.{Carriable, Carries};
+use answers::Carried;
+use codes::ELEMENT_BYTES;
+use codes::MAX_BYTES;
+use codes::MAX_LEVELS;
+use filling::write_image;
+use loaded_embedding::MAP;
+use loaded_table::TABLE;
+use measuring::measure;
+use pools::MIDDLE_POOL;
+use pools::PLACES;
+use pools::POOL;
+use pools::SMALL_PLACES;
+use pools::SMALL_POOL;
+use pools::is_small;
+use preparing::prepare;
+use preparing::room;
+use row_sizes::size_rows;
+use scanning::spans::fill_spans;
 
-// The image has a 129th level; it is longer than 60,000 bytes; it doesn't fit the output; or it is written, with this length
-// and this number of filler elements.
-pub enum Carried {
-    TooDeep,
-    TooLong,
-    NoRoom,
-    Written(usize, usize),
+// A document of at most this length has its spans in a short buffer.
+const SHORT: usize = 2048;
+
+// Writes the image of the document `tr`, whose spans go to a buffer that is at least as long.
+fn write_with<'a>(
+    source: &'a [u16; TABLE],
+    pool: &'a [u8],
+    places: &'a [u32],
+    tr: &'a [u8],
+    spans: &mut [u16],
+    out: &mut [u8],
+) -> usize
+    requires task { ⌜ Fits (ImageAsked (now source) (now pool) (now places) (now tr)) 0 (length (now out)) ⌝ }
+    requires short { ⌜ (length (now tr) ≤ 60000) × (length (now tr) ≤ length (now spans)) ⌝ }
+    ensures { λ r. ⌜ ((bs : List ℕ) → ImageAsked (now (source .entry)) (now (pool .entry)) (now (places .entry)) (now (tr .entry)) bs → Writes (now (out .entry)) (now (out .exit)) 0 bs r) ⌝ }
+{
+    fill_spans(tr, spans);
+    write_image(source, pool, places, tr, &spans[..], out)
 }
 
-// Carries the document `tr`, which conforms to the source table.
-pub fn carry<'a>(
-    types1: usize,
-    k1: &'a [u8; 64],
-    c1: &'a [u8; 64],
-    m1: &'a [u8; 1024],
-    types2: usize,
-    k2: &'a [u8; 64],
-    c2: &'a [u8; 64],
-    m2: &'a [u8; 1024],
-    h2: &'a [u8; 64],
-    f2: &'a [u16; 64],
-    tg: &'a [u8; 64],
-    st: &'a [u16; 1024],
-    ln: &'a [u8; 1024],
-    em: &'a [u8],
+// Writes the image of the document `tr`. For a short one a short buffer of spans does, and need not be cleared at length.
+fn write<'a>(
+    source: &'a [u16; TABLE],
+    pool: &'a [u8],
+    places: &'a [u32],
+    tr: &'a [u8],
+    out: &mut [u8],
+) -> usize
+    requires task { ⌜ Fits (ImageAsked (now source) (now pool) (now places) (now tr)) 0 (length (now out)) ⌝ }
+    requires short { ⌜ length (now tr) ≤ 60000 ⌝ }
+    ensures { λ r. ⌜ ((bs : List ℕ) → ImageAsked (now (source .entry)) (now (pool .entry)) (now (places .entry)) (now (tr .entry)) bs → Writes (now (out .entry)) (now (out .exit)) 0 bs r) ⌝ }
+{
+    if tr.len() <= SHORT {
+        let mut spans = [0u16; SHORT];
+        return write_with(source, pool, places, tr, &mut spans, out);
+    }
+    let mut spans = [0u16; MAX_BYTES];
+    write_with(source, pool, places, tr, &mut spans, out)
+}
+
+// Prepares the templates of a setting, and finds their sizes.
+fn prepare_sized(
+    source: &[u16; TABLE],
+    target: &[u16; TABLE],
+    map: &[u16; MAP],
+    em: &[u8],
+    pool: &mut [u8],
+    places: &mut [u32],
+    sizes: &mut [u16],
+)
+    requires ready { ⌜ Ready (now source) (now target) (now map) (now em) ⌝ }
+    requires room { ⌜ (roomOf (now source) (now target) (now map) ≤ length (now pool)) × (length (now pool) < 4294967296) × (3 * (64 + typesIn (now source) * 17) ≤ length (now places)) × (length (now sizes) ≡ length (now places)) ⌝ }
+    requires within { ⌜ ((row : ℕ) → toOf (now places) row ≤ length (now pool)) ⌝ }
+    ensures { λ r. ⌜ Rows (settingIn (now (source .entry)) (now (target .entry)) (now (map .entry)) (now (em .entry))) (now (pool .exit)) (now (places .exit)) × Sizes (settingIn (now (source .entry)) (now (target .entry)) (now (map .entry)) (now (em .entry))) (now (sizes .exit)) ⌝ }
+{
+    prepare(source, target, map, em, pool, places);
+    size_rows(source, target, pool, places, sizes);
+}
+
+// Carries by prepared templates: measures, then writes.
+fn carry_by<'a>(
+    source: &'a [u16; TABLE],
+    map: &'a [u16; MAP],
+    pool: &'a [u8],
+    places: &'a [u32],
+    sizes: &'a [u16],
     tr: &'a [u8],
     out: &mut [u8],
 ) -> Carried
-    requires setting { ⌜ Usable (world types1 (now k1) (now c1) (now m1) types2 (now k2) (now c2) (now m2) (now h2) (now tg) (now st) (now ln) (now em) (now tr)) ⌝ }
-    requires fill { ⌜ FillHeld (tableIn types2 (now k2) (now c2) (now m2)) (now f2) ⌝ }
-    requires source { ⌜ Source (world types1 (now k1) (now c1) (now m1) types2 (now k2) (now c2) (now m2) (now h2) (now tg) (now st) (now ln) (now em) (now tr)) ⌝ }
-    ensures { λ r. ⌜ Carries (world types1 (now (k1 .entry)) (now (c1 .entry)) (now (m1 .entry)) types2 (now (k2 .entry)) (now (c2 .entry)) (now (m2 .entry)) (now (h2 .entry)) (now (tg .entry)) (now (st .entry)) (now (ln .entry)) (now (em .entry)) (now (tr .entry))) (now (out .entry)) (now (out .exit)) r ⌝ }
+    requires { ⌜ Carriable (now source) (now map) (now pool) (now places) (now sizes) (now tr) ⌝ }
+    ensures { λ r. ⌜ ((g : Carriable (now (source .entry)) (now (map .entry)) (now (pool .entry)) (now (places .entry)) (now (sizes .entry)) (now (tr .entry))) → Carries (settingIn (now (source .entry)) (g .target) (now (map .entry)) (g .em)) (now (tr .entry)) (now (out .entry)) (now (out .exit)) r) ⌝ }
 {
-    let size = measures::measure(
-        types1,
-        k1,
-        c1,
-        m1,
-        types2,
-        k2,
-        c2,
-        m2,
-        h2,
-        f2,
-        tg,
-        st,
-        ln,
-        em,
-        tr,
-    );
-    if 128 < size.levels {
+    let size = measure(source, map, sizes, tr);
+    if MAX_LEVELS < size.levels {
         return Carried::TooDeep;
     }
-    if 60000 < size.bytes {
+    if MAX_BYTES < size.bytes {
         return Carried::TooLong;
     }
     if out.len() < size.bytes {
         return Carried::NoRoom;
     }
-    let wrote = images::write_image(
-        types1,
-        k1,
-        c1,
-        m1,
-        types2,
-        k2,
-        c2,
-        m2,
-        h2,
-        tg,
-        st,
-        ln,
-        em,
-        tr,
-        out,
-    );
-    Carried::Written(wrote.at, wrote.filler)
+    let length = write(source, pool, places, tr, out);
+    Carried::Written(length, size.filler / ELEMENT_BYTES)
+}
+
+// Carries the document `tr`, which conforms to the source table. The pool is as long as the setting asks for, in three sizes, since
+// clearing it is what a small document pays.
+pub fn carry<'a>(
+    source: &'a [u16; TABLE],
+    target: &[u16; TABLE],
+    map: &'a [u16; MAP],
+    em: &[u8],
+    tr: &'a [u8],
+    out: &mut [u8],
+) -> Carried
+    requires ready { ⌜ Ready (now source) (now target) (now map) (now em) ⌝ }
+    requires tree { ⌜ SoundTree (tableBy (now source)) (now tr) ⌝ }
+    ensures { λ r. ⌜ Carries (settingIn (now (source .entry)) (now (target .entry)) (now (map .entry)) (now (em .entry))) (now (tr .entry)) (now (out .entry)) (now (out .exit)) r ⌝ }
+{
+    let long = room(source, target, map);
+    if is_small(loaded_table::types(source), long) {
+        let mut pool = [0u8; SMALL_POOL];
+        let mut places = [0u32; SMALL_PLACES];
+        let mut sizes = [0u16; SMALL_PLACES];
+        prepare_sized(source, target, map, em, &mut pool, &mut places, &mut sizes);
+        return carry_by(source, map, &pool, &places, &sizes, tr, out);
+    }
+    if long <= MIDDLE_POOL {
+        let mut pool = [0u8; MIDDLE_POOL];
+        let mut places = [0u32; PLACES];
+        let mut sizes = [0u16; PLACES];
+        prepare_sized(source, target, map, em, &mut pool, &mut places, &mut sizes);
+        return carry_by(source, map, &pool, &places, &sizes, tr, out);
+    }
+    let mut pool = [0u8; POOL];
+    let mut places = [0u32; PLACES];
+    let mut sizes = [0u16; PLACES];
+    prepare_sized(source, target, map, em, &mut pool, &mut places, &mut sizes);
+    carry_by(source, map, &pool, &places, &sizes, tr, out)
 }

@@ -1,10 +1,10 @@
 // Printing an answer.
 ghost use Prim.Native.Nat.{_≤_};
 ghost use lib.ListN.{length};
+use answer_numbers::Answer;
 use console::end_line;
 use console::number;
 use console::refused;
-use lafindry::answer::Answer;
 
 // The words of an answer that accepts.
 fn accepted(a: Answer) {

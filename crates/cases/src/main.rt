@@ -9,32 +9,34 @@ use documents::room;
 mod answers_of;
 mod documents;
 
-// A case of carry, entry 4, or of bring back.
+// The entries that judge, by their numbers in the input.
+const JUDGE_TABLE: u8 = 1;
+
+const JUDGE_EMBEDDING: u8 = 2;
+
+const JUDGE_TREE: u8 = 3;
+
+// A case of an entry that writes.
 fn write<'a>(entry: u8, a: &[u8], b: &[u8], c: &'a [u8], d: &'a [u8], out: &mut [u8]) {
-    if entry == 4 {
-        let answer = lafindry::carry::lafindry_carry(a, b, c, d, out);
-        print_written(answer, out);
-    } else {
-        let answer = lafindry::bring_back::lafindry_bring_back(a, b, c, d, out);
-        print_written(answer, out);
-    }
+    let answer = console::call(entry, a, b, c, d, out);
+    print_written(answer, out);
 }
 
 // One case: the documents that its entry takes are read, the entry is called, its answer printed.
 fn run(entry: u8, a: &mut [u8], b: &mut [u8], c: &mut [u8], d: &mut [u8], out: &mut [u8]) {
     let la = read(a);
-    if entry == 1 {
-        print(lafindry::judging::lafindry_judge_table(&a[..la]));
+    if entry == JUDGE_TABLE {
+        print(lafindry::lafindry_judge_table(&a[..la]));
         return;
     }
     let lb = read(b);
-    if entry == 3 {
-        print(lafindry::judging::lafindry_judge_tree(&a[..la], &b[..lb]));
+    if entry == JUDGE_TREE {
+        print(lafindry::lafindry_judge_tree(&a[..la], &b[..lb]));
         return;
     }
     let lc = read(c);
-    if entry == 2 {
-        print(lafindry::judging::lafindry_judge_embedding(&a[..la], &b[..lb], &c[..lc]));
+    if entry == JUDGE_EMBEDDING {
+        print(lafindry::lafindry_judge_embedding(&a[..la], &b[..lb], &c[..lc]));
         return;
     }
     let ld = read(d);
@@ -68,9 +70,12 @@ fn next_entry() -> u8 {
     entry[0]
 }
 
-// All cases; at most a thousand.
+// The most cases that are run.
+const MOST: u32 = 1000;
+
+// All cases.
 fn main() {
-    let mut left: u32 = 1000;
+    let mut left: u32 = MOST;
     while 0 < left {
         let entry = next_entry();
         if entry == 0 {

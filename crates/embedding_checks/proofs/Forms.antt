@@ -5,9 +5,8 @@ use mathlib.Core.List.{List, [], _∷_, map}
 use Prim.Native.Nat.{ℕ, zero, suc, _+_, _-_, _≤_, _<_}
 use native.Mathlib.Numerals.{add-one}
 use native.Mathlib.Omega.{arith}
-use lib.ListN.{length, drop, getD, drop-of-length-le, List·getD-map, length-map}
+use lib.ListN.{length, drop, drop-of-length-le, List·getD-map, length-map}
 use lib.Seq.{drop-cons}
-use Rattle.dtd.specs.Loaded.{kindIn, tableIn, length-in, kind-in}
 use Rattle.model.specs.Definitions.Basics.{goes, stops, goesIf}
 use Rattle.model.specs.Definitions.Commands.{mapsTo, path, step, embeddingEnd}
 use Rattle.model.specs.Definitions.Table.{Table, empty, kindOf, edgesOf}
@@ -56,45 +55,41 @@ step-off ns on k p e = rw (sym (step-due ns on k p), e)
 
 -- ---- types to come
 
-module _ (types : ℕ) (kinds counts members : List ℕ) (s : ℕ) where
-  abbrev table : Table
-  table = tableIn types kinds counts members
-
+module _ (S : Table) (s : ℕ) where
   -- one entry for each type
-  long : length (map edgesOf table) ≡ types
-  long = length-map table edgesOf ∙ length-in types kinds counts members
+  long : length (map edgesOf S) ≡ length S
+  long = length-map S edgesOf
 
   -- type s is the next, and then those behind it
-  pub edges-next : s < types → drop s (map edgesOf table) ≡ edgesOf (kindIn kinds counts members s) ∷ drop (suc s) (map edgesOf table)
+  pub edges-next : s < length S → drop s (map edgesOf S) ≡ edgesOf (kindOf S s) ∷ drop (suc s) (map edgesOf S)
   unfolding edgesOf kindOf
   edges-next h =
-      let within : s < length (map edgesOf table) = rw long h in
-      let here : getD (map edgesOf table) s 0 ≡ edgesOf (kindIn kinds counts members s) = List·getD-map edgesOf table s empty ∙ ap edgesOf (kind-in types kinds counts members s h) in
-      drop-cons (map edgesOf table) s 0 within ∙ ap (λ (n : ℕ). n ∷ drop (suc s) (map edgesOf table)) here
+      let within : s < length (map edgesOf S) = rw long h in
+      drop-cons (map edgesOf S) s 0 within ∙ ap (λ (n : ℕ). n ∷ drop (suc s) (map edgesOf S)) (List·getD-map edgesOf S s empty)
 
   -- none is next
-  pub edges-none : types ≤ s → drop s (map edgesOf table) ≡ []
-  edges-none h = let past : length (map edgesOf table) ≤ s = rw long h in drop-of-length-le (map edgesOf table) past
+  pub edges-none : length S ≤ s → drop s (map edgesOf S) ≡ []
+  edges-none h = let past : length (map edgesOf S) ≤ s = rw long h in drop-of-length-le (map edgesOf S) past
 
   module _ (on : Bool) where
     -- what a type's command and the end's do with no edge due
-    pub type-next : (k t r : ℕ) → k ≤ 0 → s < types → r ≡ edgesOf (kindIn kinds counts members s)
-        → goes (dueState table r (s + 1) false) ≡ embeddingStep (dueState table k s on) (mapsTo t)
+    pub type-next : (k t r : ℕ) → k ≤ 0 → s < length S → r ≡ edgesOf (kindOf S s)
+        → goes (dueState S r (s + 1) false) ≡ embeddingStep (dueState S k s on) (mapsTo t)
     unfolding embeddingStep
     type-next zero t r none-due h same = rw (edges-next h, add-one s, same)
     type-next (suc k) t r none-due h same = absurd (omega arith)
 
-    pub type-none : (k t : ℕ) → k ≤ 0 → types ≤ s → stops ≡ embeddingStep (dueState table k s on) (mapsTo t)
+    pub type-none : (k t : ℕ) → k ≤ 0 → length S ≤ s → stops ≡ embeddingStep (dueState S k s on) (mapsTo t)
     unfolding embeddingStep
     type-none zero t none-due h = rw (edges-none h)
     type-none (suc k) t none-due h = absurd (omega arith)
 
-    pub end-next : (k : ℕ) → k ≤ 0 → s < types → stops ≡ embeddingStep (dueState table k s on) embeddingEnd
+    pub end-next : (k : ℕ) → k ≤ 0 → s < length S → stops ≡ embeddingStep (dueState S k s on) embeddingEnd
     unfolding embeddingStep
     end-next zero none-due h = rw (edges-next h)
     end-next (suc k) none-due h = absurd (omega arith)
 
-    pub end-none : (k : ℕ) → k ≤ 0 → types ≤ s → goes embeddingEnded ≡ embeddingStep (dueState table k s on) embeddingEnd
+    pub end-none : (k : ℕ) → k ≤ 0 → length S ≤ s → goes embeddingEnded ≡ embeddingStep (dueState S k s on) embeddingEnd
     unfolding embeddingStep
     end-none zero none-due h = rw (edges-none h)
     end-none (suc k) none-due h = absurd (omega arith)

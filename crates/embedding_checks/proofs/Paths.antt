@@ -1,13 +1,11 @@
 -- The machine of an embedding's operands, at the states of the code; its states are types of the table.
 use mathlib.Core.Path.{_≡_, refl, sym, ap}
 use mathlib.Core.Bool.{Bool, true, false}
-use mathlib.Core.List.{List}
 use mathlib.Core.Option.{Option, none, some}
 use Prim.Native.Nat.{ℕ, _≤_, _<_}
 use lib.ListN.{length}
 use lib.Dec.{ltb}
 use borrow.Author.Tests.{lt-ltb, le-ltb, ltb-true}
-use Rattle.dtd.specs.Loaded.{kindIn, tableIn, length-in, kind-in}
 use Rattle.model.specs.Definitions.Basics.{Next, goes, stops, goesIf}
 use Rattle.model.specs.Definitions.Commands.{EmbeddingCommand, mapsTo, path, step, embeddingEnd, alienE}
 use Rattle.model.specs.Definitions.Table.{Table, kindOf, membersOf, stepFrom}
@@ -19,36 +17,33 @@ use Rattle.embedding_checks.specs.States.{reached}
 
 -- ---- a turn of the machine
 
-module _ (types : ℕ) (kinds counts members : List ℕ) (start here : ℕ) where
-  abbrev table : Table
-  table = tableIn types kinds counts members
-
+module _ (T : Table) (start here : ℕ) where
   -- a target type that there is, and one that there is not
-  pub maps-known : (t : ℕ) → t < types → goes (reached t t) ≡ pathStep table (reached start here) (mapsTo t)
+  pub maps-known : (t : ℕ) → t < length T → goes (reached t t) ≡ pathStep T (reached start here) (mapsTo t)
   unfolding pathStep goesIf
-  maps-known t h = rw (length-in types kinds counts members, lt-ltb _ _ h)
+  maps-known t h = rw (lt-ltb _ _ h)
 
-  pub maps-unknown : (t : ℕ) → types ≤ t → stops ≡ pathStep table (reached start here) (mapsTo t)
+  pub maps-unknown : (t : ℕ) → length T ≤ t → stops ≡ pathStep T (reached start here) (mapsTo t)
   unfolding pathStep goesIf
-  maps-unknown t h = rw (length-in types kinds counts members, le-ltb _ _ h)
+  maps-unknown t h = rw (le-ltb _ _ h)
 
   -- a path starts where the source type is mapped to; the end changes nothing
-  pub path-again : goes (reached start start) ≡ pathStep table (reached start here) path
+  pub path-again : goes (reached start start) ≡ pathStep T (reached start here) path
   unfolding pathStep
   path-again = refl
 
-  pub end-stays : goes (reached start here) ≡ pathStep table (reached start here) embeddingEnd
+  pub end-stays : goes (reached start here) ≡ pathStep T (reached start here) embeddingEnd
   unfolding pathStep
   end-stays = refl
 
   -- a step that there is, and one that there is not
-  pub step-taken : (p m : ℕ) → here < types → some m ≡ stepFrom (kindIn kinds counts members here) p → goes (reached start m) ≡ pathStep table (reached start here) (step p)
+  pub step-taken : (p m : ℕ) → some m ≡ stepFrom (kindOf T here) p → goes (reached start m) ≡ pathStep T (reached start here) (step p)
   unfolding pathStep reaches
-  step-taken p m h e = rw (kind-in types kinds counts members here h, sym e)
+  step-taken p m e = rw (sym e)
 
-  pub step-missing : (p : ℕ) → here < types → none ≡ stepFrom (kindIn kinds counts members here) p → stops ≡ pathStep table (reached start here) (step p)
+  pub step-missing : (p : ℕ) → none ≡ stepFrom (kindOf T here) p → stops ≡ pathStep T (reached start here) (step p)
   unfolding pathStep reaches
-  step-missing p h e = rw (kind-in types kinds counts members here h, sym e)
+  step-missing p e = rw (sym e)
 
 -- ---- the states stay within the table
 

@@ -1,15 +1,17 @@
--- What the arrays of a loaded table say of one type: the number of its edges, and where a step from it goes.
-use mathlib.Core.Path.{_≡_, refl, sym, ap, _∙_}
+-- What a loaded table says of one type: the number of its edges, and where a step from it goes.
+use mathlib.Core.Path.{_≡_, refl, sym, _∙_}
+use mathlib.Core.Bool.{Bool, true, false}
 use mathlib.Core.List.{List, [], _∷_}
 use mathlib.Core.Option.{none, some}
 use Prim.Native.Nat.{ℕ, zero, suc, _+_, _-_, _*_, _≤_, _<_}
-use native.Mathlib.Nat.{add-zero}
 use native.Mathlib.Omega.{arith}
-use lib.ListN.{length, take, drop, getD, length-drop}
+use lib.ListN.{length, take, drop, getD, length-take, length-drop, List·getD-eq-default}
 use lib.Seq.{length-take-le, getD-drop}
-use Rattle.dtd.specs.Loaded.{kindFrom, kindIn}
+use lib.Dec.{ltb}
+use borrow.Author.Tests.{ltb-true, ltb-false}
+use Rattle.loaded_table.specs.Loaded.{kindFrom, tableBy, typesIn, kindsOf, countsOf, membersIn, length-of, kind-of, Bounded}
 use Rattle.model.specs.Definitions.Basics.{entry}
-use Rattle.model.specs.Definitions.Table.{edgesOf, stepFrom, membersOf}
+use Rattle.model.specs.Definitions.Table.{empty, kindOf, edgesOf, stepFrom, membersOf}
 
 -- ---- members
 
@@ -67,23 +69,31 @@ member-past row n (suc q) h = entry-past row n q (omega arith)
 
 -- ---- kinds
 
--- a code that is none of the others is a list's: one edge, and step 1 to its item type
-list-edges : (code n : ℕ) (row : List ℕ) → (code ≡ 0 → ⊥) → (code ≡ 1 → ⊥) → (code ≡ 2 → ⊥) → (code ≡ 3 → ⊥) → 1 ≡ edgesOf (kindFrom code n row)
-unfolding edgesOf
-list-edges zero n row a b c d = absurd (a refl)
-list-edges (suc zero) n row a b c d = absurd (b refl)
-list-edges (suc (suc zero)) n row a b c d = absurd (c refl)
-list-edges (suc (suc (suc zero))) n row a b c d = absurd (d refl)
-list-edges (suc (suc (suc (suc code)))) n row a b c d = refl
+-- a code other than those of the first four kinds is a list's
+pub past-three : (P : ℕ → Type 0) → ((code : ℕ) → P (suc (suc (suc (suc code)))))
+    → (code : ℕ) → (code ≡ 0 → ⊥) → (code ≡ 1 → ⊥) → (code ≡ 2 → ⊥) → (code ≡ 3 → ⊥) → P code
+past-three P lists zero a b c d = absurd (a refl)
+past-three P lists (suc zero) a b c d = absurd (b refl)
+past-three P lists (suc (suc zero)) a b c d = absurd (c refl)
+past-three P lists (suc (suc (suc zero))) a b c d = absurd (d refl)
+past-three P lists (suc (suc (suc (suc code)))) a b c d = lists code
 
-list-step : (code n p : ℕ) (row : List ℕ) → (code ≡ 0 → ⊥) → (code ≡ 1 → ⊥) → (code ≡ 2 → ⊥) → (code ≡ 3 → ⊥)
-    → entry p (getD row 0 0 ∷ []) ≡ stepFrom (kindFrom code n row) p
-unfolding stepFrom membersOf
-list-step zero n p row a b c d = absurd (a refl)
-list-step (suc zero) n p row a b c d = absurd (b refl)
-list-step (suc (suc zero)) n p row a b c d = absurd (c refl)
-list-step (suc (suc (suc zero))) n p row a b c d = absurd (d refl)
-list-step (suc (suc (suc (suc code)))) n p row a b c d = refl
+-- a kind with so many members counted has no more edges than 16
+kind-few : (code count : ℕ) (row : List ℕ) → count ≤ 16 → edgesOf (kindFrom code count row) ≤ 16
+unfolding edgesOf
+kind-few zero count row h = omega arith
+kind-few (suc zero) count row h = omega arith
+kind-few (suc (suc zero)) count row h = rw (length-take count row) (omega arith)
+kind-few (suc (suc (suc zero))) count row h = rw (length-take count row) (omega arith)
+kind-few (suc (suc (suc (suc code)))) count row h = omega arith
+
+-- nor has a type of a loaded table, nor a number that is none
+pub few-edges : (rows : List ℕ) → Bounded rows → (t : ℕ) → edgesOf (kindOf (tableBy rows) t) ≤ 16
+few-edges rows bounded t = go (ltb t (typesIn rows)) refl
+  where
+    go : (b : Bool) → ltb t (typesIn rows) ≡ b → edgesOf (kindOf (tableBy rows) t) ≤ 16
+    go true e = rw (kind-of rows t (ltb-true t (typesIn rows) e)) (kind-few (getD (kindsOf rows) t 0) (getD (countsOf rows) t 0) (drop (t * 16) (membersIn rows)) (bounded .few-members t))
+    go false e = unfold kindOf edgesOf in rw (List·getD-eq-default (tableBy rows) empty {n = t} (rw (length-of rows) (ltb-false t (typesIn rows) e))) (omega arith)
 
 -- a list of one entry has an entry 1, and no other
 only-first : (m p : ℕ) → p ≡ 1 → some m ≡ entry p (m ∷ [])
@@ -96,54 +106,69 @@ only-none m zero h = refl
 only-none m (suc zero) h = absurd (h refl)
 only-none m (suc (suc p)) h = refl
 
-module _ (kinds counts members : List ℕ) (t : ℕ) where
+-- the section of members is whole
+pub members-whole : (rows : List ℕ) → Bounded rows → length (membersIn rows) ≡ 1024
+members-whole rows b = length-take-le 1024 (drop 256 rows) (rw (length-drop 256 rows, b .size) (omega arith))
+
+-- a type of a loaded table, whose kind has this code
+module _ (rows : List ℕ) (t : ℕ) (here : t < typesIn rows) {code : ℕ} (told : code ≡ getD (kindsOf rows) t 0) where
+  kind-told : kindFrom code (getD (countsOf rows) t 0) (drop (t * 16) (membersIn rows)) ≡ kindOf (tableBy rows) t
+  kind-told = rw told (sym (kind-of rows t here))
+
   -- the edges of each kind but those with members
-  pub text-edge : getD kinds t 0 ≡ 0 → 1 ≡ edgesOf (kindIn kinds counts members t)
+  pub text-edge : code ≡ 0 → 1 ≡ edgesOf (kindOf (tableBy rows) t)
   unfolding edgesOf
-  text-edge e = rw e
+  text-edge e = rw (sym kind-told, e)
 
-  pub empty-edge : getD kinds t 0 ≡ 1 → 0 ≡ edgesOf (kindIn kinds counts members t)
+  pub empty-edge : code ≡ 1 → 0 ≡ edgesOf (kindOf (tableBy rows) t)
   unfolding edgesOf
-  empty-edge e = rw e
+  empty-edge e = rw (sym kind-told, e)
 
-  pub list-edge : (getD kinds t 0 ≡ 0 → ⊥) → (getD kinds t 0 ≡ 1 → ⊥) → (getD kinds t 0 ≡ 2 → ⊥) → (getD kinds t 0 ≡ 3 → ⊥) → 1 ≡ edgesOf (kindIn kinds counts members t)
-  list-edge = list-edges (getD kinds t 0) (getD counts t 0) (drop (t * 16) members)
+  pub list-edge : (code ≡ 0 → ⊥) → (code ≡ 1 → ⊥) → (code ≡ 2 → ⊥) → (code ≡ 3 → ⊥) → 1 ≡ edgesOf (kindOf (tableBy rows) t)
+  unfolding edgesOf
+  list-edge a b c d = rw (sym kind-told) (past-three (λ (k : ℕ). 1 ≡ edgesOf (kindFrom k (getD (countsOf rows) t 0) (drop (t * 16) (membersIn rows)))) (λ k. refl) code a b c d)
 
   -- where a step goes from each kind
-  pub text-nowhere : (p : ℕ) → getD kinds t 0 ≡ 0 → none ≡ stepFrom (kindIn kinds counts members t) p
+  pub text-nowhere : (p : ℕ) → code ≡ 0 → none ≡ stepFrom (kindOf (tableBy rows) t) p
   unfolding stepFrom membersOf
-  text-nowhere p e = rw e (entry-none p)
+  text-nowhere p e = rw (sym kind-told, e) (entry-none p)
 
-  pub empty-nowhere : (p : ℕ) → getD kinds t 0 ≡ 1 → none ≡ stepFrom (kindIn kinds counts members t) p
+  pub empty-nowhere : (p : ℕ) → code ≡ 1 → none ≡ stepFrom (kindOf (tableBy rows) t) p
   unfolding stepFrom membersOf
-  empty-nowhere p e = rw e (entry-none p)
+  empty-nowhere p e = rw (sym kind-told, e) (entry-none p)
 
-  pub sequence-to : (p : ℕ) → getD kinds t 0 ≡ 2 → entry p (take (getD counts t 0) (drop (t * 16) members)) ≡ stepFrom (kindIn kinds counts members t) p
+  pub sequence-to : (p : ℕ) → code ≡ 2 → entry p (take (getD (countsOf rows) t 0) (drop (t * 16) (membersIn rows))) ≡ stepFrom (kindOf (tableBy rows) t) p
   unfolding stepFrom membersOf
-  sequence-to p e = rw e
+  sequence-to p e = rw (sym kind-told, e)
 
-  pub choice-to : (p : ℕ) → getD kinds t 0 ≡ 3 → entry p (take (getD counts t 0) (drop (t * 16) members)) ≡ stepFrom (kindIn kinds counts members t) p
+  pub choice-to : (p : ℕ) → code ≡ 3 → entry p (take (getD (countsOf rows) t 0) (drop (t * 16) (membersIn rows))) ≡ stepFrom (kindOf (tableBy rows) t) p
   unfolding stepFrom membersOf
-  choice-to p e = rw e
+  choice-to p e = rw (sym kind-told, e)
 
-  module _ (not-text : getD kinds t 0 ≡ 0 → ⊥) (not-empty : getD kinds t 0 ≡ 1 → ⊥) (not-sequence : getD kinds t 0 ≡ 2 → ⊥) (not-choice : getD kinds t 0 ≡ 3 → ⊥) (p : ℕ) where
-    to-only : entry p (getD (drop (t * 16) members) 0 0 ∷ []) ≡ stepFrom (kindIn kinds counts members t) p
-    to-only = list-step (getD kinds t 0) (getD counts t 0) p (drop (t * 16) members) not-text not-empty not-sequence not-choice
+  module _ (not-text : code ≡ 0 → ⊥) (not-empty : code ≡ 1 → ⊥) (not-sequence : code ≡ 2 → ⊥) (not-choice : code ≡ 3 → ⊥) (p : ℕ) where
+    to-only : entry p (getD (drop (t * 16) (membersIn rows)) 0 0 ∷ []) ≡ stepFrom (kindOf (tableBy rows) t) p
+    unfolding stepFrom membersOf
+    to-only =
+        rw (sym kind-told)
+        (past-three (λ (k : ℕ). entry p (getD (drop (t * 16) (membersIn rows)) 0 0 ∷ []) ≡ stepFrom (kindFrom k (getD (countsOf rows) t 0) (drop (t * 16) (membersIn rows))) p) (λ k. refl) code not-text not-empty not-sequence not-choice)
 
-    pub list-to : p ≡ 1 → some (getD members (t * 16) 0) ≡ stepFrom (kindIn kinds counts members t) p
-    list-to e =
-        let first : getD (drop (t * 16) members) 0 0 ≡ getD members (t * 16) 0 = getD-drop (t * 16) members 0 0 ∙ ap (λ (k : ℕ). getD members k 0) (add-zero (t * 16)) in
-        only-first (getD members (t * 16) 0) p e ∙ rw (sym first) to-only
+    pub list-to : {m : ℕ} → m ≡ getD (membersIn rows) (t * 16 + 0) 0 → p ≡ 1 → some m ≡ stepFrom (kindOf (tableBy rows) t) p
+    list-to {m} is e =
+        let first : getD (drop (t * 16) (membersIn rows)) 0 0 ≡ m = getD-drop (t * 16) (membersIn rows) 0 0 ∙ sym is in
+        only-first m p e ∙ rw (sym first) to-only
 
-    pub list-nowhere : (p ≡ 1 → ⊥) → none ≡ stepFrom (kindIn kinds counts members t) p
-    list-nowhere h = only-none (getD (drop (t * 16) members) 0 0) p h ∙ to-only
+    pub list-nowhere : (p ≡ 1 → ⊥) → none ≡ stepFrom (kindOf (tableBy rows) t) p
+    list-nowhere h = only-none (getD (drop (t * 16) (membersIn rows)) 0 0) p h ∙ to-only
 
-  module _ (long : length members ≡ 1024) (h : t < 64) (few : getD counts t 0 ≤ 16) where
+  module _ (bounded : Bounded rows) {n : ℕ} (counted : n ≡ getD (countsOf rows) t 0) where
     -- a sequence and a choice have an edge for each member counted
-    pub sequence-edges : getD kinds t 0 ≡ 2 → getD counts t 0 ≡ edgesOf (kindIn kinds counts members t)
-    unfolding edgesOf
-    sequence-edges e = rw e (members-counted members t (getD counts t 0) long h few)
+    all-counted : n ≡ length (take (getD (countsOf rows) t 0) (drop (t * 16) (membersIn rows)))
+    all-counted = counted ∙ members-counted (membersIn rows) t (getD (countsOf rows) t 0) (members-whole rows bounded) (omega (arith, here, bounded .few-types)) (bounded .few-members t)
 
-    pub choice-edges : getD kinds t 0 ≡ 3 → getD counts t 0 ≡ edgesOf (kindIn kinds counts members t)
+    pub sequence-edges : code ≡ 2 → n ≡ edgesOf (kindOf (tableBy rows) t)
     unfolding edgesOf
-    choice-edges e = rw e (members-counted members t (getD counts t 0) long h few)
+    sequence-edges e = rw (sym kind-told, e) all-counted
+
+    pub choice-edges : code ≡ 3 → n ≡ edgesOf (kindOf (tableBy rows) t)
+    unfolding edgesOf
+    choice-edges e = rw (sym kind-told, e) all-counted

@@ -1,4 +1,8 @@
 // The commands of an embedding document.
+use codes::EMBEDDING_END;
+use codes::MAPS_TO;
+use codes::PATH;
+use codes::STEP;
 ghost use mathlib.Core.Path.{_≡_};
 ghost use Prim.Native.Nat.{_<_};
 ghost use lib.ListN.{length};
@@ -23,22 +27,22 @@ pub fn command_at(t: &[u8], at: usize) -> EmbeddingCommand
     let next = at + 1;
     let byte = t[at];
     match byte {
-        0x20 => {
+        MAPS_TO => {
             if next < t.len() {
                 EmbeddingCommand::MapsTo(t[next])
             } else {
                 EmbeddingCommand::Alien
             }
         }
-        0x21 => EmbeddingCommand::Path,
-        0x22 => {
+        PATH => EmbeddingCommand::Path,
+        STEP => {
             if next < t.len() {
                 EmbeddingCommand::Step(t[next])
             } else {
                 EmbeddingCommand::Alien
             }
         }
-        0x2F => EmbeddingCommand::End,
+        EMBEDDING_END => EmbeddingCommand::End,
         _ => EmbeddingCommand::Alien,
     }
 }

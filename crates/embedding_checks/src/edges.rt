@@ -1,30 +1,28 @@
 // The edges of one type of a loaded table.
 ghost use mathlib.Core.Path.{_≡_};
 ghost use Prim.Native.Nat.{_<_, _≤_};
-ghost use lib.ListN.{getD};
-ghost use Rattle.dtd.specs.Loaded.{kindIn};
-ghost use Rattle.model.specs.Definitions.Table.{edgesOf};
+ghost use Rattle.loaded_table.specs.Loaded.{tableBy, typesIn, Bounded};
+ghost use Rattle.model.specs.Definitions.Table.{kindOf, edgesOf};
+use loaded_table::CHOICE;
+use loaded_table::EMPTY;
+use loaded_table::SEQUENCE;
+use loaded_table::TABLE;
+use loaded_table::TEXT;
 
-// The number of edges of type t: one for text (code 0), none for an empty type (1), one a member for a sequence (2) or a
-// choice (3), one for a list. The members themselves are not read: they are lent as a slice, since that tells the proof
-// that each row is whole.
-pub fn edges_of<'a>(
-    kinds: &'a [u8; 64],
-    counts: &'a [u8; 64],
-    members: &'a [u8; 1024],
-    t: usize,
-) -> usize
-    requires { ⌜ (t < 64) × (getD (now counts) t 0 ≤ 16) ⌝ }
-    ensures same { λ r. ⌜ r ≡ edgesOf (kindIn (now (kinds .entry)) (now (counts .entry)) (now (members .entry)) t) ⌝ }
+// The number of edges of type t: one for text, none for an empty type, one a member for a sequence or a choice, one for a
+// list.
+pub fn edges_of(table: &[u16; TABLE], t: usize) -> usize
+    requires { ⌜ Bounded (now table) ⌝ }
+    requires { ⌜ t < typesIn (now table) ⌝ }
+    ensures same { λ r. ⌜ r ≡ edgesOf (kindOf (tableBy (now (table .entry))) t) ⌝ }
     ensures few { λ r. ⌜ r ≤ 16 ⌝ }
 {
-    let rows = &members[..];
-    let kind = kinds[t];
+    let kind = loaded_table::kind(table, t);
     match kind {
-        0 => 1,
-        1 => 0,
-        2 => counts[t] as usize,
-        3 => counts[t] as usize,
+        TEXT => 1,
+        EMPTY => 0,
+        SEQUENCE => loaded_table::count(table, t),
+        CHOICE => loaded_table::count(table, t),
         _ => 1,
     }
 }

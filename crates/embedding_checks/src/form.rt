@@ -4,11 +4,12 @@ use super::command::command_at;
 use super::command::width;
 use super::edges::edges_of;
 use answers::Verdict;
+use loaded_table::TABLE;
 ghost use mathlib.Core.Path.{_≡_};
 ghost use mathlib.Core.Bool.{Bool};
 ghost use Prim.Native.Nat.{ℕ};
 ghost use Rattle.answers.specs.Answers.{verdict};
-ghost use Rattle.dtd.specs.Loaded.{tableIn, Bounded};
+ghost use Rattle.loaded_table.specs.Loaded.{tableBy, Bounded};
 ghost use Rattle.embedding_checks.specs.Commands.{command};
 ghost use Rattle.embedding_checks.specs.States.{formState, formNext, dueState};
 ghost use Rattle.model.specs.Definitions.Commands.{mapsTo, embeddingEnd};
@@ -27,63 +28,40 @@ pub enum FormNext {
 }
 
 // What a type's command does where `due` edges are due and type s is next: its edges are due next.
-fn on_type<'a>(
-    types: usize,
-    kinds: &'a [u8; 64],
-    counts: &'a [u8; 64],
-    members: &'a [u8; 1024],
-    due: usize,
-    s: usize,
-) -> FormNext
-    requires { ⌜ Bounded types (now counts) ⌝ }
-    ensures { λ r. ⌜ ((on : Bool) (t : ℕ) → formNext (tableIn types (now (kinds .entry)) (now (counts .entry)) (now (members .entry))) r ≡ embeddingStep (dueState (tableIn types (now (kinds .entry)) (now (counts .entry)) (now (members .entry))) due s on) (mapsTo t)) ⌝ }
+fn on_type(source: &[u16; TABLE], due: usize, s: usize) -> FormNext
+    requires { ⌜ Bounded (now source) ⌝ }
+    ensures { λ r. ⌜ ((on : Bool) (t : ℕ) → formNext (tableBy (now (source .entry))) r ≡ embeddingStep (dueState (tableBy (now (source .entry))) due s on) (mapsTo t)) ⌝ }
 {
     if 0 < due {
         return FormNext::Stops;
     }
-    if s < types {
-        let edges = edges_of(kinds, counts, members, s);
+    if s < loaded_table::types(source) {
+        let edges = edges_of(source, s);
         return FormNext::Goes(FormState::Due(edges, s + 1, false));
     }
     FormNext::Stops
 }
 
 // What the end's command does there: it may stand only where no edge and no type is due.
-fn on_end<'a>(
-    types: usize,
-    kinds: &'a [u8; 64],
-    counts: &'a [u8; 64],
-    members: &'a [u8; 1024],
-    due: usize,
-    s: usize,
-) -> FormNext
-    ensures { λ r. ⌜ ((on : Bool) → formNext (tableIn types (now (kinds .entry)) (now (counts .entry)) (now (members .entry))) r ≡ embeddingStep (dueState (tableIn types (now (kinds .entry)) (now (counts .entry)) (now (members .entry))) due s on) embeddingEnd) ⌝ }
+fn on_end(source: &[u16; TABLE], due: usize, s: usize) -> FormNext
+    ensures { λ r. ⌜ ((on : Bool) → formNext (tableBy (now (source .entry))) r ≡ embeddingStep (dueState (tableBy (now (source .entry))) due s on) embeddingEnd) ⌝ }
 {
     if 0 < due {
         return FormNext::Stops;
     }
-    if s < types {
+    if s < loaded_table::types(source) {
         return FormNext::Stops;
     }
     FormNext::Goes(FormState::Ended)
 }
 
 // What a command does before the end.
-fn due_step<'a>(
-    types: usize,
-    kinds: &'a [u8; 64],
-    counts: &'a [u8; 64],
-    members: &'a [u8; 1024],
-    due: usize,
-    s: usize,
-    on: bool,
-    c: EmbeddingCommand,
-) -> FormNext
-    requires { ⌜ Bounded types (now counts) ⌝ }
-    ensures { λ r. ⌜ formNext (tableIn types (now (kinds .entry)) (now (counts .entry)) (now (members .entry))) r ≡ embeddingStep (dueState (tableIn types (now (kinds .entry)) (now (counts .entry)) (now (members .entry))) due s on) (command c) ⌝ }
+fn due_step(source: &[u16; TABLE], due: usize, s: usize, on: bool, c: EmbeddingCommand) -> FormNext
+    requires { ⌜ Bounded (now source) ⌝ }
+    ensures { λ r. ⌜ formNext (tableBy (now (source .entry))) r ≡ embeddingStep (dueState (tableBy (now (source .entry))) due s on) (command c) ⌝ }
 {
     match c {
-        EmbeddingCommand::MapsTo(_) => on_type(types, kinds, counts, members, due, s),
+        EmbeddingCommand::MapsTo(_) => on_type(source, due, s),
         EmbeddingCommand::Path => {
             if 0 < due {
                 FormNext::Goes(FormState::Due(due - 1, s, true))
@@ -98,46 +76,33 @@ fn due_step<'a>(
                 FormNext::Stops
             }
         }
-        EmbeddingCommand::End => on_end(types, kinds, counts, members, due, s),
+        EmbeddingCommand::End => on_end(source, due, s),
         EmbeddingCommand::Alien => FormNext::Stops,
     }
 }
 
 // What a command does in a state, as the model's machine.
-fn form_step<'a>(
-    types: usize,
-    kinds: &'a [u8; 64],
-    counts: &'a [u8; 64],
-    members: &'a [u8; 1024],
-    state: FormState,
-    c: EmbeddingCommand,
-) -> FormNext
-    requires { ⌜ Bounded types (now counts) ⌝ }
-    ensures { λ r. ⌜ formNext (tableIn types (now (kinds .entry)) (now (counts .entry)) (now (members .entry))) r ≡ embeddingStep (formState (tableIn types (now (kinds .entry)) (now (counts .entry)) (now (members .entry))) state) (command c) ⌝ }
+fn form_step(source: &[u16; TABLE], state: FormState, c: EmbeddingCommand) -> FormNext
+    requires { ⌜ Bounded (now source) ⌝ }
+    ensures { λ r. ⌜ formNext (tableBy (now (source .entry))) r ≡ embeddingStep (formState (tableBy (now (source .entry))) state) (command c) ⌝ }
 {
     match state {
-        FormState::Due(due, s, on) => due_step(types, kinds, counts, members, due, s, on, c),
+        FormState::Due(due, s, on) => due_step(source, due, s, on, c),
         FormState::Ended => FormNext::Stops,
     }
 }
 
 // The verdict on the form of an embedding e of a source table. The loop runs the machine over the commands: the verdict
 // of what is left is the verdict of the whole.
-pub fn form<'a>(
-    types: usize,
-    kinds: &'a [u8; 64],
-    counts: &'a [u8; 64],
-    members: &'a [u8; 1024],
-    e: &[u8],
-) -> Verdict
-    requires { ⌜ Bounded types (now counts) ⌝ }
-    ensures { λ r. ⌜ verdict r ≡ embeddingForm (tableIn types (now (kinds .entry)) (now (counts .entry)) (now (members .entry))) (now (e .entry)) ⌝ }
+pub fn form(source: &[u16; TABLE], e: &[u8]) -> Verdict
+    requires { ⌜ Bounded (now source) ⌝ }
+    ensures { λ r. ⌜ verdict r ≡ embeddingForm (tableBy (now (source .entry))) (now (e .entry)) ⌝ }
 {
     let mut at: usize = 0;
     let mut state = FormState::Due(0, 0, false);
     while at < e.len() {
         let c = command_at(e, at);
-        match form_step(types, kinds, counts, members, state, c) {
+        match form_step(source, state, c) {
             FormNext::Goes(next) => {
                 state = next;
                 at += width(c);

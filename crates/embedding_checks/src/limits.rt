@@ -3,6 +3,7 @@ use super::command::EmbeddingCommand;
 use super::command::command_at;
 use super::command::width;
 use answers::Verdict;
+use codes::MAX_STEPS;
 ghost use mathlib.Core.Path.{_≡_};
 ghost use Rattle.answers.specs.Answers.{verdict};
 ghost use Rattle.embedding_checks.specs.Commands.{command};
@@ -23,7 +24,7 @@ fn step_count(n: usize, c: EmbeddingCommand) -> CountNext
         EmbeddingCommand::MapsTo(_) => CountNext::Goes(0),
         EmbeddingCommand::Path => CountNext::Goes(0),
         EmbeddingCommand::Step(_) => {
-            if n < 12 {
+            if n < MAX_STEPS {
                 CountNext::Goes(n + 1)
             } else {
                 CountNext::Stops

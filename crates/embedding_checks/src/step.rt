@@ -1,56 +1,53 @@
 // A step of a path in a loaded table.
 ghost use mathlib.Core.Path.{_≡_};
-ghost use Prim.Native.Nat.{_<_, _≤_, _*_};
+ghost use Prim.Native.Nat.{_<_, _*_};
 ghost use lib.ListN.{getD, take, drop};
-ghost use Rattle.dtd.specs.Loaded.{kindIn};
+ghost use Rattle.loaded_table.specs.Loaded.{tableBy, typesIn, countsOf, membersIn, Bounded};
 ghost use Rattle.embedding_checks.specs.States.{stepped};
 ghost use Rattle.model.specs.Definitions.Basics.{entry};
-ghost use Rattle.model.specs.Definitions.Table.{stepFrom};
+ghost use Rattle.model.specs.Definitions.Table.{kindOf, stepFrom};
+use loaded_table::CHOICE;
+use loaded_table::EMPTY;
+use loaded_table::SEQUENCE;
+use loaded_table::TABLE;
+use loaded_table::TEXT;
 
 // The type that a step goes to, or there is no such step.
 pub enum Stepped {
-    To(u8),
+    To(usize),
     Nowhere,
 }
 
 // Member p of type t, counted from 1, if it has as many.
-fn member_at<'a>(counts: &'a [u8; 64], members: &'a [u8; 1024], t: usize, p: u8) -> Stepped
-    requires { ⌜ (t < 64) × (getD (now counts) t 0 ≤ 16) ⌝ }
-    ensures { λ r. ⌜ stepped r ≡ entry p (take (getD (now (counts .entry)) t 0) (drop (t * 16) (now (members .entry)))) ⌝ }
+fn member_at(table: &[u16; TABLE], t: usize, p: usize) -> Stepped
+    requires { ⌜ Bounded (now table) ⌝ }
+    requires { ⌜ t < 64 ⌝ }
+    ensures { λ r. ⌜ stepped r ≡ entry p (take (getD (countsOf (now (table .entry))) t 0) (drop (t * 16) (membersIn (now (table .entry))))) ⌝ }
 {
     if p == 0 {
         return Stepped::Nowhere;
     }
-    if p <= counts[t] {
-        let rows = &members[..];
-        let i = t * 16 + (p as usize - 1);
-        return Stepped::To(rows[i]);
+    if p <= loaded_table::count(table, t) {
+        return Stepped::To(loaded_table::member(table, t, p - 1));
     }
     Stepped::Nowhere
 }
 
 // Where step p goes from type t: to member p of a sequence or a choice, by 1 to the item type of a list.
-pub fn step_from<'a>(
-    kinds: &'a [u8; 64],
-    counts: &'a [u8; 64],
-    members: &'a [u8; 1024],
-    t: u8,
-    p: u8,
-) -> Stepped
-    requires { ⌜ (t < 64) × (getD (now counts) t 0 ≤ 16) ⌝ }
-    ensures { λ r. ⌜ stepped r ≡ stepFrom (kindIn (now (kinds .entry)) (now (counts .entry)) (now (members .entry)) t) p ⌝ }
+pub fn step_from(table: &[u16; TABLE], t: usize, p: usize) -> Stepped
+    requires { ⌜ Bounded (now table) ⌝ }
+    requires { ⌜ t < typesIn (now table) ⌝ }
+    ensures { λ r. ⌜ stepped r ≡ stepFrom (kindOf (tableBy (now (table .entry))) t) p ⌝ }
 {
-    let i = t as usize;
-    let kind = kinds[i];
+    let kind = loaded_table::kind(table, t);
     match kind {
-        0 => Stepped::Nowhere,
-        1 => Stepped::Nowhere,
-        2 => member_at(counts, members, i, p),
-        3 => member_at(counts, members, i, p),
+        TEXT => Stepped::Nowhere,
+        EMPTY => Stepped::Nowhere,
+        SEQUENCE => member_at(table, t, p),
+        CHOICE => member_at(table, t, p),
         _ => {
             if p == 1 {
-                let first = i * 16;
-                Stepped::To(members[first])
+                Stepped::To(loaded_table::member(table, t, 0))
             } else {
                 Stepped::Nowhere
             }

@@ -7,7 +7,7 @@ use native.Mathlib.Numerals.{add-one}
 use native.Mathlib.Omega.{arith}
 use lib.ListN.{length, take, getD, set}
 use lib.Seq.{getD-set-same, getD-set-other}
-use Rattle.maps.specs.Loaded.{stepsFrom, edgeIn, edgesFrom, mapsFrom}
+use Rattle.loaded_embedding.specs.Loaded.{stepsFrom, edgeIn, edgesFrom, mapsFrom, steps-more}
 use Rattle.model.specs.Definitions.Table.{Table, kindOf, edgesOf}
 use Rattle.model.specs.Definitions.Embedding.{Edge, Embedding, EmbeddingTail}
 
@@ -23,14 +23,6 @@ continued em S zero e targets starts lengths r = r .maps
 continued em S (suc n) e targets starts lengths r =
     mapsFrom em targets starts lengths 0 (take n S)
     ++ record { target = getD targets n 0; edges = edgesMore em starts lengths (n * 16) e (r .steps) (r .edges) } ∷ r .maps
-
--- one step more at the end of a path
-steps-more : (em : List ℕ) (at n : ℕ) (rest : List ℕ) → stepsFrom em at (suc n) ++ rest ≡ stepsFrom em at n ++ getD em (at + 2 * n) 0 ∷ rest
-unfolding stepsFrom
-steps-more em at zero rest = let here : at + 2 * zero ≡ at = omega arith in rw here refl
-steps-more em at (suc n) rest =
-    let there : at + 2 * suc n ≡ at + 2 + 2 * n = omega arith in
-    rw there (ap {B = List ℕ} (λ ps. getD em at 0 ∷ ps) (steps-more em (at + 2) n rest))
 
 module _ (em starts lengths : List ℕ) where
   -- one path more at the end

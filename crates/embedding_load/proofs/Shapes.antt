@@ -4,11 +4,12 @@ use mathlib.Core.List.{List}
 use mathlib.Core.Bool.{Bool, true, false}
 use Prim.Native.Nat.{ℕ, _+_, _*_, _≤_, _<_}
 use native.Mathlib.Omega.{arith}
-use lib.ListN.{length, getD, set, replicate, length-set, length-replicate, getD-replicate, List·getD-eq-default}
+use lib.ListN.{length, getD, set, length-set, List·getD-eq-default}
 use lib.Seq.{getD-set-same, getD-set-other}
 use lib.Dec.{eqb, ltb}
 use borrow.Author.Tests.{eqb-true, eqb-false, ltb-true, ltb-false}
-use Rattle.embedding_load.specs.Loading.{Arrays, nothing, mapped}
+use Rattle.loaded_table.specs.Loaded.{section, in-section, section-long}
+use Rattle.embedding_load.specs.Loading.{Arrays, loadedIn, Cleared, mapped}
 
 -- the arrays have their lengths, and every path is within the document and has at most 12 steps
 pub record Shaped (em : List ℕ) (a : Arrays) : Type 0 where
@@ -18,30 +19,32 @@ pub record Shaped (em : List ℕ) (a : Arrays) : Type 0 where
   pub short : (i : ℕ) → getD (a .lengths) i 0 ≤ 12
   pub within : (i : ℕ) → getD (a .starts) i 0 + 1 + 2 * getD (a .lengths) i 0 ≤ length em
 
--- a list of zeros
-abbrev zeros : ℕ → List ℕ
-zeros n = replicate n 0
-
-zeros-long : (n : ℕ) → length (zeros n) ≡ n
-zeros-long n = length-replicate {A = ℕ} n 0
-
-zeros-at : (n t : ℕ) → getD (zeros n) t 0 ≡ 0
-zeros-at n t = go (ltb t n) refl
+-- a section of an array of zeros is one of zeros
+section-zeros : (map : List ℕ) → Cleared 2112 map → (from many : ℕ) → from + many ≤ 2112 → (i : ℕ) → getD (section from many map) i 0 ≡ 0
+section-zeros map h from many fits i = go (ltb i many) refl
   where
-    go : (b : Bool) → ltb t n ≡ b → getD (zeros n) t 0 ≡ 0
-    go true e = getD-replicate n t 0 0 (ltb-true t n e)
-    go false e = List·getD-eq-default (zeros n) 0 (rw (zeros-long n) (ltb-false t n e))
+    go : (b : Bool) → ltb i many ≡ b → getD (section from many map) i 0 ≡ 0
+    go true e = in-section from many map i (ltb-true i many e) ∙ h .zeros (from + i) (omega (arith, ltb-true i many e))
+    go false e = List·getD-eq-default (section from many map) 0 (rw (section-long from many map (rw (h .size) fits)) (ltb-false i many e))
 
-pub shaped-nothing : (em : List ℕ) → 1 ≤ length em → Shaped em nothing
-unfolding nothing
-shaped-nothing em some =
+pub shaped-cleared : (em map : List ℕ) → 1 ≤ length em → Cleared 2112 map → Shaped em (loadedIn 0 0 map)
+shaped-cleared em map some h =
+    let size = h .size in
     record {
-      targets-long = zeros-long 64;
-      starts-long = zeros-long 1024;
-      lengths-long = zeros-long 1024;
-      short = λ i. rw (zeros-at 1024 i) (omega arith);
-      within = λ i. rw (zeros-at 1024 i) (omega arith);
+      targets-long = section-long 0 64 map (omega arith);
+      starts-long = section-long 64 1024 map (omega arith);
+      lengths-long = section-long 1088 1024 map (omega arith);
+      short = λ i. rw (section-zeros map h 1088 1024 (omega arith) i) (omega arith);
+      within = λ i. rw (section-zeros map h 1088 1024 (omega arith) i, section-zeros map h 64 1024 (omega arith) i) (omega arith);
     }
+
+-- one number more is 0
+pub cleared-more : (map : List ℕ) (n : ℕ) → n < 2112 → Cleared n map → Cleared (n + 1) (set map n 0)
+cleared-more map n few h = record { size = length-set map n 0 ∙ h .size; zeros = λ i low. go i low (eqb i n) refl }
+  where
+    go : (i : ℕ) → i < n + 1 → (b : Bool) → eqb i n ≡ b → getD (set map n 0) i 0 ≡ 0
+    go i low true q = rw (eqb-true i n q) (getD-set-same map n 0 0 (rw (h .size) few))
+    go i low false q = getD-set-other map n i 0 0 (eqb-false i n q) ∙ h .zeros i (omega (arith, eqb-false i n q))
 
 pub shaped-mapped : (em : List ℕ) (a : Arrays) (t : ℕ) → Shaped em a → Shaped em (mapped a t)
 unfolding mapped

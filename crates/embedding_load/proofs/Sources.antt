@@ -1,18 +1,17 @@
 -- What `load` knows of the source table and of the document, and what the form's machine says of the types to come.
-use mathlib.Core.Path.{_≡_, refl, _∙_}
+use mathlib.Core.Path.{_≡_, _∙_}
 use mathlib.Core.Bool.{Bool, true, false}
 use mathlib.Core.List.{List, [], _∷_, map}
-use Prim.Native.Nat.{ℕ, zero, suc, _*_, _≤_, _<_}
+use Prim.Native.Nat.{ℕ, zero, suc, _≤_, _<_}
 use native.Mathlib.Omega.{arith}
-use lib.ListN.{length, drop, getD, length-take, List·getD-eq-default}
+use lib.ListN.{length, drop, getD}
 use lib.Seq.{drop-nil}
-use lib.Dec.{ltb}
-use borrow.Author.Tests.{ltb-true, ltb-false}
-use Rattle.dtd.specs.Loaded.{kindFrom, tableIn, length-in, kind-in, Bounded}
+use Rattle.loaded_table.specs.Loaded.{tableBy, length-of, Bounded}
+use Rattle.embedding_checks.proofs.Types.{few-edges}
 use Rattle.embedding_checks.proofs.Machines.{form-stops}
 use Rattle.model.specs.Definitions.Basics.{pick, passes}
 use Rattle.model.specs.Definitions.Commands.{mapsTo, path, step, embeddingEnd, alienE, embeddingCommand, embeddingCommands, embeddingWidth}
-use Rattle.model.specs.Definitions.Table.{empty, Table, kindOf, edgesOf}
+use Rattle.model.specs.Definitions.Table.{Table, kindOf, edgesOf}
 use Rattle.model.specs.Definitions.EmbeddingChecks.{due, embeddingStep, embeddingComplete, embeddingForm}
 use Rattle.model.specs.Theorems.Runs.{passes-fails}
 use Rattle.model.specs.Theorems.Reading.{rawAt, rawWith, left-ends, no-embedding-commands}
@@ -23,28 +22,9 @@ pub record Source (em : List ℕ) (S : Table) : Type 0 where
   pub few-edges : (i : ℕ) → edgesOf (kindOf S i) ≤ 16
   pub fits : length em ≤ 60000
 
--- a kind with so many members counted has no more edges than 16
-kind-few : (code count : ℕ) (row : List ℕ) → count ≤ 16 → edgesOf (kindFrom code count row) ≤ 16
-unfolding edgesOf
-kind-few zero count row h = omega arith
-kind-few (suc zero) count row h = omega arith
-kind-few (suc (suc zero)) count row h = rw (length-take count row) (omega arith)
-kind-few (suc (suc (suc zero))) count row h = rw (length-take count row) (omega arith)
-kind-few (suc (suc (suc (suc code)))) count row h = omega arith
-
--- a number that is no type has no edge
-past-few : (S : Table) (i : ℕ) → length S ≤ i → edgesOf (kindOf S i) ≤ 16
-unfolding kindOf edgesOf
-past-few S i h = rw (List·getD-eq-default S empty {n = i} h) (omega arith)
-
 -- a loaded table and a document that is not too long are such
-pub source-in : (types : ℕ) (kinds counts members em : List ℕ) → Bounded types counts → length em ≤ 60000 → Source em (tableIn types kinds counts members)
-source-in types kinds counts members em bounded fits =
-    record { few-types = rw (length-in types kinds counts members) (bounded .few-types); few-edges = λ i. few i (ltb i types) refl; fits = fits }
-  where
-    few : (i : ℕ) (b : Bool) → ltb i types ≡ b → edgesOf (kindOf (tableIn types kinds counts members) i) ≤ 16
-    few i true e = rw (kind-in types kinds counts members i (ltb-true i types e)) (kind-few (getD kinds i 0) (getD counts i 0) (drop (i * 16) members) (bounded .few-members i))
-    few i false e = past-few (tableIn types kinds counts members) i (rw (length-in types kinds counts members) (ltb-false i types e))
+pub source-in : (rows em : List ℕ) → Bounded rows → length em ≤ 60000 → Source em (tableBy rows)
+source-in rows em bounded fits = record { few-types = rw (length-of rows) (bounded .few-types); few-edges = few-edges rows bounded; fits = fits }
 
 -- a document of the right form has a byte
 pub some-bytes : (S : Table) (em : List ℕ) → embeddingForm S em ≡ passes → 1 ≤ length em

@@ -2,7 +2,7 @@
 -- is the document's embedding. One command more keeps it.
 use mathlib.Core.Path.{_≡_, refl, sym, ap, _∙_, subst}
 use mathlib.Core.Bool.{Bool, true, false}
-use mathlib.Core.List.{List, [], _∷_, map, append-nil}
+use mathlib.Core.List.{List, [], _∷_, map as each, append-nil}
 use Prim.Native.Nat.{ℕ, zero, suc, _+_, _-_, _*_, _≤_, _<_}
 use native.Mathlib.Nat.{add-zero, zero-add, add-suc, suc-add}
 use native.Mathlib.Numerals.{add-one}
@@ -14,7 +14,7 @@ use borrow.Author.Tests.{ltb-true}
 use Rattle.embedding_checks.proofs.Machines.{form-stops, ended-stops, count-stops}
 use Rattle.embedding_checks.proofs.Forms.{step-on, step-off}
 use Rattle.embedding_checks.proofs.Turns.{some-width}
-use Rattle.maps.specs.Loaded.{mapsFrom, embeddingIn}
+use Rattle.loaded_embedding.specs.Loaded.{mapsFrom, embeddingIn}
 use Rattle.model.specs.Definitions.Basics.{passes, Next, goes, stops, run}
 use Rattle.model.specs.Definitions.Commands.{EmbeddingCommand, mapsTo, path, step, embeddingEnd, alienE, embeddingCommand, embeddingCommands, embeddingWidth}
 use Rattle.model.specs.Definitions.Table.{Table, edgesOf}
@@ -24,9 +24,9 @@ use Rattle.model.specs.Theorems.JudgedTables.{goes-if, pick-passes}
 use Rattle.model.specs.Theorems.Runs.{passes-fails, goes-stops}
 use Rattle.model.specs.Theorems.Tools.{true-false}
 use Rattle.model.specs.Theorems.Reading.{rawAt, ReadsAt, left-stops, left-goes, left-ends, embedding-reads, no-embedding-commands}
-use Rattle.embedding_load.specs.Loading.{Arrays, nothing, mapped, begun, stepped, puts, Maps, Begins, Steps, Room, LoadedAs}
+use Rattle.embedding_load.specs.Loading.{Arrays, loadedIn, Cleared, mapped, begun, stepped, puts, Maps, Begins, Steps, Room, LoadedAs}
 use Rattle.embedding_load.proofs.Continuation.{continued, edgesDue, continued-mapped, continued-begun, continued-stepped, continued-full}
-use Rattle.embedding_load.proofs.Shapes.{Shaped, shaped-nothing, shaped-mapped, shaped-written}
+use Rattle.embedding_load.proofs.Shapes.{Shaped, shaped-cleared, shaped-mapped, shaped-written}
 use Rattle.embedding_load.proofs.Sources.{Source, some-bytes, next-type, none-next, operand-behind}
 
 -- ---- the two machines
@@ -63,7 +63,7 @@ record OnPath (a : Arrays) (steps at : ℕ) : Type 0 where
 
 -- what a state of the form's machine says: the types to come, the paths due of the last type, and the path that a step goes on
 record Due (S : Table) (a : Arrays) (k : ℕ) (ns : List ℕ) (on : Bool) (steps at : ℕ) : Type 0 where
-  to-come : ns ≡ drop (a .maps) (map edgesOf S)
+  to-come : ns ≡ drop (a .maps) (each edgesOf S)
   counted : a .edges + k ≡ edgesDue S (a .maps)
   on-path : on ≡ true → OnPath a steps at
 
@@ -163,7 +163,7 @@ module _ {em : List ℕ} {S : Table} (source : Source em S) where
               few-maps = omega arith;
               in-state =
                   record {
-                    to-come = h .in-state .to-come ∙ ap (λ n. drop n (map edgesOf S)) is-last;
+                    to-come = h .in-state .to-come ∙ ap (λ n. drop n (each edgesOf S)) is-last;
                     counted = suc-add (a .edges) k ∙ sym (add-suc (a .edges) k) ∙ counted ∙ ap (edgesDue S) is-last;
                     on-path =
                         λ e.
@@ -232,7 +232,7 @@ module _ {em : List ℕ} {S : Table} (source : Source em S) where
               few-maps = omega arith;
               in-state =
                   record {
-                    to-come = h .in-state .to-come ∙ ap (λ n. drop n (map edgesOf S)) is-last;
+                    to-come = h .in-state .to-come ∙ ap (λ n. drop n (each edgesOf S)) is-last;
                     counted = ap (λ n. n + k) (sym is-edge) ∙ counted ∙ ap (edgesDue S) is-last;
                     on-path =
                         λ same.
@@ -312,19 +312,19 @@ pub record Loading (em : List ℕ) (S : Table) (a : Arrays) (at : ℕ) : Type 0 
   limits-left : run embeddingWidth stepCount (λ n. true) count-state at (embeddingCommands (drop at em)) ≡ passes
   loaded : Loaded em S form-state count-state a at (embeddingTail at (embeddingCommands (drop at em))) (embeddingOf em)
 
-pub loading-starts : {em : List ℕ} {S : Table} → Source em S → embeddingForm S em ≡ passes → embeddingLimits em ≡ passes → Loading em S nothing 0
-unfolding embeddingForm embeddingLimits embeddingOf continued nothing edgesDue
-loading-starts {em} {S} source form limits =
+pub loading-starts : {em : List ℕ} {S : Table} (map : List ℕ) → Cleared 2112 map → Source em S → embeddingForm S em ≡ passes → embeddingLimits em ≡ passes → Loading em S (loadedIn 0 0 map) 0
+unfolding embeddingForm embeddingLimits embeddingOf continued edgesDue
+loading-starts {em} {S} map cleared source form limits =
     record {
       within = omega arith;
       source = source;
-      form-state = due 0 (map edgesOf S) false;
+      form-state = due 0 (each edgesOf S) false;
       count-state = 0;
       form-left = form;
       limits-left = limits;
       loaded =
           record {
-            shaped = shaped-nothing em (some-bytes S em form);
+            shaped = shaped-cleared em map (some-bytes S em form) cleared;
             few-maps = omega arith;
             in-state = record { to-come = refl; counted = refl; on-path = λ same. true-false same refl };
             whole = refl;
@@ -380,11 +380,11 @@ unfolding embeddingComplete
 done-there S (due k ns on) a steps at e h = true-false e refl
 done-there S embeddingEnded a steps at e h = h
 
--- behind the last command the arrays stand for the whole embedding
-pub loading-ends : {em : List ℕ} {S : Table} {a : Arrays} {at : ℕ} → length em ≤ at → Loading em S a at
-    → LoadedAs em S (record { targets = a .targets; starts = a .starts; lengths = a .lengths })
+-- behind the last command the array stands for the whole embedding
+pub loading-ends : {em : List ℕ} {S : Table} (maps edges : ℕ) (map : List ℕ) {at : ℕ} → length em ≤ at → length map ≡ 2112 → Loading em S (loadedIn maps edges map) at → LoadedAs em S map
 unfolding embeddingIn embeddingTail
-loading-ends {em} {S} {a} {at} last h =
+loading-ends {em} {S} maps edges map {at} last size h =
+    let a = loadedIn maps edges map in
     let shaped = h .loaded .shaped in
     let ended = sym (left-ends embeddingCommands embeddingWidth alienE embeddingStep embeddingComplete form-stops no-embedding-commands em (h .form-state) at last) ∙ h .form-left in
     let done = done-there S (h .form-state) a (h .count-state) at (pick-passes (embeddingComplete (h .form-state)) passes at ended .0) (h .loaded .in-state) in
@@ -398,5 +398,5 @@ loading-ends {em} {S} {a} {at} last h =
           ∙ sym (continued-full em (a .targets) (a .starts) (a .lengths) S (a .maps) (a .edges) [] (h .loaded .few-maps) (done .all-edges))
           ∙ sym (ap (continuedBy em S a) nothing-left)
           ∙ h .loaded .whole;
-      bounded = record { short = shaped .short; within = shaped .within };
+      bounded = record { size = size; short = shaped .short; within = shaped .within };
     }

@@ -1,16 +1,16 @@
--- What each command of an embedding document does to the arrays that it is loaded into, and what `load` gives.
+-- What each command of an embedding document does to the sections of the array that it is loaded into, and what `load` gives.
 use mathlib.Core.Path.{_≡_}
 use mathlib.Core.List.{List}
 use Prim.Native.Nat.{ℕ, _+_, _-_, _*_, _≤_, _<_}
-use lib.ListN.{getD, set, replicate}
-use Rattle.maps.specs.declared.Embedding.{Embedding}
-use Rattle.maps.specs.Loaded.{embeddingIn, Bounded}
+use lib.ListN.{length, getD, set}
+use Rattle.embedding_load.specs.declared.Place.{Place}
+use Rattle.loaded_embedding.specs.Loaded.{targetsOf, startsOf, lengthsOf, embeddingBy, Bounded}
 use Rattle.model.specs.Definitions.Commands.{EmbeddingCommand, mapsTo, path, step, embeddingEnd, alienE}
 use Rattle.model.specs.Definitions.Table.{Table}
 use Rattle.model.specs.Definitions.Embedding.{embeddingOf}
 
 -- The maps loaded so far, and the number of paths of the last one. Source type s is mapped to targets[s]. The 21 of its
--- edge i stands at starts[s * 16 + i], and lengths[s * 16 + i] steps follow it. Entries that no command wrote are 0.
+-- edge i stands at starts[s * 16 + i], and lengths[s * 16 + i] steps follow it.
 pub record Arrays : Type 0 where
   pub maps : ℕ
   pub edges : ℕ
@@ -18,11 +18,19 @@ pub record Arrays : Type 0 where
   pub starts : List ℕ
   pub lengths : List ℕ
 
--- ---- what a command does
+-- the sections of one array, with so many maps loaded, the last with so many paths
+abbrev pub loadedIn : ℕ → ℕ → List ℕ → Arrays
+loadedIn maps edges map = record { maps = maps; edges = edges; targets = targetsOf map; starts = startsOf map; lengths = lengthsOf map }
 
--- the arrays with no map
-unfoldable pub nothing : Arrays
-nothing = record { maps = 0; edges = 0; targets = replicate 64 0; starts = replicate 1024 0; lengths = replicate 1024 0 }
+abbrev pub loadedAt : Place → List ℕ → Arrays
+loadedAt p map = loadedIn (p .types) (p .edges) map
+
+-- the first n numbers of an array that has all its places are 0
+pub record Cleared (n : ℕ) (map : List ℕ) : Type 0 where
+  pub size : length map ≡ 2112
+  pub zeros : (i : ℕ) → i < n → getD map i 0 ≡ 0
+
+-- ---- what a command does
 
 -- one type more, mapped to t, with no path yet
 unfoldable pub mapped : Arrays → ℕ → Arrays
@@ -48,6 +56,11 @@ puts a at path = begun a at
 puts a at (step p) = stepped a
 puts a at embeddingEnd = a
 puts a at alienE = a
+
+-- the array has as many numbers as before, and its sections are what the command at an offset makes of them
+pub record Put (p : Place) (map : List ℕ) (at : ℕ) (c : EmbeddingCommand) (r : Place) (after : List ℕ) : Type 0 where
+  pub same-size : length after ≡ length map
+  pub put-there : loadedAt r after ≡ puts (loadedAt p map) at c
 
 -- ---- room for a command
 
@@ -80,6 +93,6 @@ Room a at alienE = Unit {0}
 -- ---- what is loaded
 
 -- a loaded embedding, with its document, stands for the embedding of S that the document writes, within bounds
-pub record LoadedAs (bs : List ℕ) (S : Table) (r : Embedding) : Type 0 where
-  pub same-embedding : embeddingIn bs S (r .targets) (r .starts) (r .lengths) ≡ embeddingOf bs
-  pub bounded : Bounded bs (r .lengths) (r .starts)
+pub record LoadedAs (bs : List ℕ) (S : Table) (map : List ℕ) : Type 0 where
+  pub same-embedding : embeddingBy bs S map ≡ embeddingOf bs
+  pub bounded : Bounded bs map

@@ -1,66 +1,95 @@
-// Loading an embedding document: the map of types, and where each edge's path stands. specs/Loading.antt says what a
-// command does to the arrays, and proofs/ shows that what is loaded, continued by what the rest of the document says, is
-// the document's embedding.
+// Loading an embedding document into one array: the map of types, and where each edge's path stands. specs/Loading.antt
+// says what a command does to the array, and proofs/ shows that what is loaded, continued by what the rest of the document
+// says, is the document's embedding.
+use codes::MAX_MEMBERS;
 use embedding_checks::command::EmbeddingCommand;
 use embedding_checks::command::command_at;
 use embedding_checks::command::width;
-use maps::Embedding;
+use loaded_embedding::MAP;
+use loaded_embedding::set_start;
+use loaded_embedding::set_steps;
+use loaded_embedding::set_target;
+use loaded_embedding::steps;
+use loaded_table::TABLE;
 ghost use mathlib.Core.Path.{_≡_};
 ghost use Prim.Native.Nat.{_≤_};
 ghost use lib.ListN.{length};
-ghost use Rattle.dtd.specs.Loaded.{tableIn, Bounded};
+ghost use Rattle.loaded_table.specs.Loaded.{tableBy, Bounded};
+ghost use Rattle.embedding_checks.specs.Commands.{command};
 ghost use Rattle.model.specs.Definitions.Basics.{passes};
 ghost use Rattle.model.specs.Definitions.EmbeddingChecks.{embeddingForm, embeddingLimits};
-ghost use Rattle.embedding_load.specs.Loading.{LoadedAs};
+ghost use Rattle.embedding_load.specs.Loading.{loadedAt, Cleared, Room, Put, LoadedAs};
 
-// The embedding that a document of the right form and within the limits writes, for a source table given by its arrays.
-// So far `maps` types are loaded, the last with `edges` paths. Each turn of the loop puts one command: what is loaded,
-// continued by what the commands from `at` on say, stays the document's embedding.
-pub fn load<'a>(
-    types: usize,
-    kinds: &'a [u8; 64],
-    counts: &'a [u8; 64],
-    members: &'a [u8; 1024],
-    e: &'a [u8],
-) -> Embedding
-    requires { ⌜ Bounded types (now counts) ⌝ }
-    requires { ⌜ embeddingForm (tableIn types (now kinds) (now counts) (now members)) (now e) ≡ passes ⌝ }
-    requires { ⌜ embeddingLimits (now e) ≡ passes ⌝ }
-    requires { ⌜ length (now e) ≤ 60000 ⌝ }
-    ensures { λ r. ⌜ LoadedAs (now (e .entry)) (tableIn types (now (kinds .entry)) (now (counts .entry)) (now (members .entry))) r ⌝ }
+// How many types are loaded so far, and how many paths of the last of them.
+pub struct Place {
+    pub types: usize,
+    pub edges: usize,
+}
+
+// Stores zeros. The loop has stored them below i.
+fn clear(map: &mut [u16; MAP])
+    requires { ⌜ length (now map) ≡ 2112 ⌝ }
+    ensures { λ r. ⌜ Cleared 2112 (now (map .exit)) ⌝ }
 {
-    let mut maps: usize = 0;
-    let mut edges: usize = 0;
-    let mut targets = [0u8; 64];
-    let mut starts = [0u16; 1024];
-    let mut lengths = [0u8; 1024];
-    let mut at: usize = 0;
-    while at < e.len() {
-        let c = command_at(e, at);
-        match c {
-            EmbeddingCommand::MapsTo(t) => {
-                targets[maps] = t;
-                maps += 1;
-                edges = 0;
-            }
-            EmbeddingCommand::Path => {
-                let place = (maps - 1) * 16 + edges;
-                starts[place] = at as u16;
-                lengths[place] = 0;
-                edges += 1;
-            }
-            EmbeddingCommand::Step(_) => {
-                let place = (maps - 1) * 16 + (edges - 1);
-                lengths[place] += 1;
-            }
-            EmbeddingCommand::End => {}
-            EmbeddingCommand::Alien => {}
-        }
-        at += width(c);
+    let mut i: usize = 0;
+    while i < MAP {
+        map[i] = 0;
+        i += 1;
     }
-    Embedding {
-        targets: targets,
-        starts: starts,
-        lengths: lengths,
+}
+
+// What the command at an offset does to the array and the place reached.
+fn put(map: &mut [u16; MAP], p: Place, at: usize, c: EmbeddingCommand) -> Place
+    requires { ⌜ Room (loadedAt p (now map)) at (command c) ⌝ }
+    ensures { λ r. ⌜ Put p (now (map .entry)) at (command c) r (now (map .exit)) ⌝ }
+{
+    let types = p.types;
+    let edges = p.edges;
+    match c {
+        EmbeddingCommand::MapsTo(t) => {
+            set_target(map, types, t as u16);
+            Place {
+                types: types + 1,
+                edges: 0,
+            }
+        }
+        EmbeddingCommand::Path => {
+            let edge = (types - 1) * MAX_MEMBERS + edges;
+            set_start(map, edge, at as u16);
+            set_steps(map, edge, 0);
+            Place {
+                types: types,
+                edges: edges + 1,
+            }
+        }
+        EmbeddingCommand::Step(_) => {
+            let edge = (types - 1) * MAX_MEMBERS + (edges - 1);
+            let count = steps(map, edge);
+            set_steps(map, edge, (count + 1) as u16);
+            p
+        }
+        EmbeddingCommand::End => p,
+        EmbeddingCommand::Alien => p,
+    }
+}
+
+// Loads the embedding that a document of the right form and within the limits writes, for a loaded source table. Each turn
+// of the loop puts one command: what is loaded, continued by what the commands from `at` on say, stays the document's
+// embedding.
+pub fn load(source: &[u16; TABLE], em: &[u8], map: &mut [u16; MAP])
+    requires { ⌜ Bounded (now source) ⌝ }
+    requires { ⌜ embeddingForm (tableBy (now source)) (now em) ≡ passes ⌝ }
+    requires { ⌜ embeddingLimits (now em) ≡ passes ⌝ }
+    requires { ⌜ length (now em) ≤ 60000 ⌝ }
+    requires { ⌜ length (now map) ≡ 2112 ⌝ }
+    ensures { λ r. ⌜ LoadedAs (now (em .entry)) (tableBy (now (source .entry))) (now (map .exit)) ⌝ }
+{
+    clear(map);
+    let mut at: usize = 0;
+    let mut place = Place { types: 0, edges: 0 };
+    while at < em.len() {
+        let c = command_at(em, at);
+        place = put(map, place, at, c);
+        at += width(c);
     }
 }

@@ -3,6 +3,7 @@ use mathlib.Core.Path.{_≡_, refl, sym, ap, _∙_}
 use mathlib.Core.List.{List, [], _∷_}
 use mathlib.Core.Option.{Option, none, some}
 use Prim.Native.Nat.{ℕ, zero, suc, _+_, _-_, _*_, _<_}
+use native.Mathlib.Nat.{add-zero}
 use native.Mathlib.Omega.{arith}
 use lib.ListN.{drop, getD}
 use Rattle.model.specs.Definitions.Basics.{andThen}
@@ -11,12 +12,12 @@ use Rattle.model.specs.Definitions.Content.{Content, end, char, elem}
 use Rattle.model.specs.Definitions.Embedding.{targetOf, pathsOf, Divided, divide}
 use Rattle.model.specs.Definitions.Image.{Setting, onlyPath}
 use Rattle.model.specs.Definitions.Inverse.{follow, readOne, readMembers, readIfThere, readChoice, readItems, readList, readKind, readTo}
-use Rattle.dtd.specs.Loaded.{kindFrom}
-use Rattle.setting.specs.Ready.{Arrays, Paths, settingIn}
-use Rattle.inverse.specs.Following.{Followable}
-use Rattle.inverse.specs.Parts.{Parts, readParts, partOf, ifThere, memberParts, choiceParts, itemParts, listParts, kindParts}
-use Rattle.inverse.specs.Reading.{Known, pathAt, pathsFrom}
-use Rattle.inverse.proofs.Edges.{target-is, paths-are, kind-is, edge-follows}
+use Rattle.loaded_table.specs.Loaded.{kindFrom, typesIn, kindsOf, countsOf, membersIn}
+use Rattle.loaded_embedding.specs.Loaded.{targetsOf, startsOf, lengthsOf}
+use Rattle.loaded_setting.specs.Ready.{settingIn, Ready}
+use Rattle.paths.specs.Following.{Followable, pathAt, pathsFrom}
+use Rattle.children.specs.Parts.{Parts, readParts, partOf, ifThere, memberParts, choiceParts, itemParts, listParts, kindParts, childParts}
+use Rattle.paths.specs.Edges.{target-is, paths-are, kind-is, edge-follows}
 
 module _ (read : ℕ → Content → Option Content) where
   part-read : (m : ℕ) (found : Option Content) (rest : Parts) (later : Option Content) → later ≡ readParts read rest → readOne read m found later ≡ readParts read (partOf m found rest)
@@ -80,35 +81,35 @@ text-code (suc (suc zero)) count row e = cc
 text-code (suc (suc (suc zero))) count row e = cc
 text-code (suc (suc (suc (suc code)))) count row e = cc
 
-module _ {s t : Arrays} {p : Paths} (known : Known s t p) {σ : ℕ} (exists : σ < s .types) (n : ℕ) (some-level : n ≡ 0 → ⊥) where
+module _ {source target map em : List ℕ} (ready : Ready source target map em) {σ : ℕ} (exists : σ < typesIn source) (n : ℕ) (some-level : n ≡ 0 → ⊥) where
   abbrev X : Setting
-  X = settingIn s t p
+  X = settingIn source target map em
 
   -- an element that is no text
-  pub read-children : (getD (s .kinds) σ 0 ≡ 0 → ⊥) → (k : Content)
+  pub read-children : (getD (kindsOf source) σ 0 ≡ 0 → ⊥) → (k : Content)
       → readTo X n σ k
-      ≡ readParts (λ m j. readTo X (n - 1) m j) (kindParts (X .target) (kindOf (X .source) σ) (targetOf (X .embedding) σ) (pathsOf (X .embedding) σ) k)
+      ≡ readParts (λ m j. readTo X (n - 1) m j) (childParts X σ k)
   read-children other k =
       read-level X n σ k some-level
       ∙ kind-read (λ m j. readTo X (n - 1) m j) (X .target) (kindOf (X .source) σ) (targetOf (X .embedding) σ) (pathsOf (X .embedding) σ) k
-      (λ e. other (text-code (getD (s .kinds) σ 0) (getD (s .counts) σ 0) (drop (σ * 16) (s .members)) (sym (kind-is known exists) ∙ e)))
+      (λ e. other (text-code (getD (kindsOf source) σ 0) (getD (countsOf source) σ 0) (drop (σ * 16) (membersIn source)) (sym (kind-is ready exists) ∙ e)))
 
   -- a text
-  module _ (code : getD (s .kinds) σ 0 ≡ 0) where
+  module _ (code : getD (kindsOf source) σ 0 ≡ 0) where
     is-text : kindOf (X .source) σ ≡ text
-    is-text = kind-is known exists ∙ rw code
+    is-text = kind-is ready exists ∙ rw code
 
-    pub read-text : (k : Content) → readTo X n σ k ≡ follow (X .target) (getD (p .targets) σ 0) (pathAt (p .text) (p .starts) (p .lengths) (σ * 16)) k
+    pub read-text : (k : Content) → readTo X n σ k ≡ follow (X .target) (getD (targetsOf map) σ 0) (pathAt em map (σ * 16 + 0)) k
     unfolding readKind pathsFrom onlyPath edgesOf
     read-text k =
         read-level X n σ k some-level
         ∙ ap (λ (κ : Kind). readKind (λ m j. readTo X (n - 1) m j) (X .target) κ (targetOf (X .embedding) σ) (pathsOf (X .embedding) σ) k) is-text
-        ∙ ap (λ (q : ℕ). follow (X .target) q (onlyPath (pathsOf (X .embedding) σ)) k) (target-is known exists)
-        ∙ ap (λ (l : List (List ℕ)). follow (X .target) (getD (p .targets) σ 0) (onlyPath l) k) (paths-are known exists ∙ ap (λ (κ : Kind). pathsFrom p (σ * 16) (edgesOf κ)) is-text)
+        ∙ ap (λ (q : ℕ). follow (X .target) q (onlyPath (pathsOf (X .embedding) σ)) k) (target-is ready exists)
+        ∙ ap (λ (l : List (List ℕ)). follow (X .target) (getD (targetsOf map) σ 0) (onlyPath l) k) (paths-are ready exists ∙ ap (λ (κ : Kind). pathsFrom em map (σ * 16) (edgesOf κ)) is-text)
+        ∙ ap (λ (i : ℕ). follow (X .target) (getD (targetsOf map) σ 0) (pathAt em map i) k) (sym (add-zero (σ * 16)))
 
-    pub text-follows : Followable (t .types) (t .kinds) (t .counts) (t .members) (p .text) (getD (p .starts) (σ * 16) 0) 0 (getD (p .lengths) (σ * 16) 0) (getD (p .targets) σ 0)
+    pub text-follows : Followable target em (getD (startsOf map) (σ * 16 + 0) 0) (getD (lengthsOf map) (σ * 16 + 0) 0) (getD (targetsOf map) σ 0)
     unfolding edgesOf
     text-follows =
-        let place : σ * 16 + 0 ≡ σ * 16 = omega arith in
         let one : edgesOf (kindOf (X .source) σ) ≡ 1 = ap edgesOf is-text in
-        rw place at (edge-follows known exists 0 (omega arith))
+        edge-follows ready exists 0 (omega arith)

@@ -4,18 +4,16 @@ use mathlib.Core.List.{List, [], _∷_, append-assoc}
 use mathlib.Core.Option.{Option, none, some}
 use Prim.Native.Nat.{ℕ, _+_, _-_, _≤_, _<_}
 use native.Mathlib.Omega.{arith}
-use lib.ListN.{length, length-append, drop, take}
+use lib.ListN.{length}
 use lib.Seq.{sets}
 use Rattle.model.specs.Definitions.Basics.{andThen}
 use Rattle.model.specs.Definitions.Content.{Content, end, elem, bytes}
 use Rattle.model.specs.Definitions.Inverse.{readOne}
 use Rattle.model.specs.Theorems.Tools.{some-none}
-use Rattle.scanning.specs.Scanning.{At}
-use Rattle.scanning.specs.Finding.{Begins}
-use Rattle.scanning.specs.Laws.{content-within, content-part}
 use Rattle.writing.specs.Writing.{Writes}
-use Rattle.writing.specs.Laws.{writes-left, writes-then}
-use Rattle.inverse.specs.Reading.{ReadsTo}
+use Rattle.writing.specs.Laws.{writes-left}
+use Rattle.inverse.specs.Reading.{elementOf, ReadsTo}
+use Rattle.inverse.proofs.Elements.{end-length, element-length, element-made}
 
 -- ---- a child and what follows it
 
@@ -45,10 +43,6 @@ one-none : (read : ℕ → Content → Option Content) (m : ℕ) (k : Content) (
     → readOne read m (some k) rest ≡ none
 unfolding readOne andThen
 one-none read m k rest i p q = rw (p, q)
-
-element-length : (m : ℕ) (i r : Content) → length (bytes (elem m i r)) ≡ 3 + length (bytes i) + length (bytes r)
-unfolding bytes
-element-length m i r = omega (arith, length-append (bytes i) (0x32 ∷ bytes r))
 
 -- ---- what is left
 
@@ -101,79 +95,35 @@ module _ {old : List ℕ} {at₀ : ℕ} {whole : Option Content} {out : List ℕ
 -- a child is left, of type m and read from k, before more
 module _ {old : List ℕ} {at₀ : ℕ} {whole : Option Content} {out : List ℕ} {at : ℕ} (read : ℕ → Content → Option Content) (m : ℕ) (k : Content) (more : Option Content)
     (now : Onto old at₀ whole out at (readOne read m (some k) more)) where
-  -- there is no room for an element
-  pub child-no-room : length old < at + 3 → (j : Content) → whole ≡ some j → length old < at₀ + length (bytes j)
-  child-no-room short =
-      onto-refuse now λ r e.
-      let child = child-read read m k more r e in
-      let long : length (bytes r) ≡ 3 + length (bytes (child .inside)) + length (bytes (child .after)) =
-      ap (λ (l : Content). length (bytes l)) (child .made) ∙ element-length m (child .inside) (child .after) in
-      omega arith
-
   -- it is missing or doesn't fit
-  pub child-refused : ((i : Content) → read m k ≡ some i → length old < at + 2 + length (bytes i)) → (j : Content) → whole ≡ some j → length old < at₀ + length (bytes j)
+  pub child-refused : ((j : Content) → elementOf m (read m k) ≡ some j → length old < at + length (bytes j)) → (j : Content) → whole ≡ some j → length old < at₀ + length (bytes j)
+  unfolding andThen
   child-refused short =
       onto-refuse now λ r e.
       let child = child-read read m k more r e in
+      let alone : elementOf m (read m k) ≡ some (elem m (child .inside) end) = rw (child .was-read) in
       let long : length (bytes r) ≡ 3 + length (bytes (child .inside)) + length (bytes (child .after)) =
       ap (λ (l : Content). length (bytes l)) (child .made) ∙ element-length m (child .inside) (child .after) in
-      omega (arith, short (child .inside) (child .was-read))
+      omega (arith, short (elem m (child .inside) end) alone, element-length m (child .inside) end, end-length)
 
-  module _ {i : Content} (was-read : read m k ≡ some i) where
-    -- there is no room for its close
-    pub child-no-close : length old ≤ at + 2 + length (bytes i) → (j : Content) → whole ≡ some j → length old < at₀ + length (bytes j)
-    child-no-close short =
-        onto-refuse now λ r e.
-        let child = child-read read m k more r e in
-        let same : child .inside ≡ i = same-inside (child .inside) (child .was-read) in
-        let long : length (bytes r) ≡ 3 + length (bytes (child .inside)) + length (bytes (child .after)) =
-        ap (λ (l : Content). length (bytes l)) (child .made) ∙ element-length m (child .inside) (child .after) in
-        omega (arith, ap (λ (l : Content). length (bytes l)) same)
-      where
-        same-inside : (l : Content) → read m k ≡ some l → l ≡ i
-        same-inside l f = cc
-
-    -- it is written
-    pub child-written : {out₁ out₂ out₃ : List ℕ} {at₁ at₂ at₃ : ℕ} → Writes out out₁ at (0x30 ∷ m ∷ []) at₁ → Writes out₁ out₂ at₁ (bytes i) at₂ → Writes out₂ out₃ at₂ (0x32 ∷ []) at₃
-        → Onto old at₀ whole out₃ at₃ more
-    unfolding bytes
-    child-written {at₃ = at₃} opened inner closed =
-        let element = writes-then (writes-then opened inner) closed in
-        record {
-          missing = λ e. now .missing (one-none read m k more i was-read e);
-          there = λ r e.
-              let joined = now .there (elem m i r) (one-some read m k more i r was-read e) in
-              record {
-                content = joined .content;
-                is = joined .is;
-                same-bytes =
-                    writes-left element (bytes r)
-                    ∙ ap (λ (bs : List ℕ). sets out at (0x30 ∷ m ∷ bs)) (append-assoc (bytes i) (0x32 ∷ []) (bytes r))
-                    ∙ joined .same-bytes;
-                same-end = omega (arith, joined .same-end, element-length m i r, opened .after, inner .after, closed .after);
-              };
-        }
-
--- ---- a text, whose characters begin at offset o, with the 32 after them at offset `close`
-
-module _ {tr : List ℕ} {o close : ℕ} {sought : Option Content} (found : Begins tr o sought) (skips : (k : Content) → At tr o k → close ≡ o + length (bytes k)) where
-  ends : close ≡ o + length (bytes (found .content))
-  ends = skips (found .content) (found .there)
-
-  pub text-within : (o ≤ close) × (close ≤ length tr)
-  text-within = omega (arith, ends, content-within (found .there))
-
-  -- they are copied
-  pub text-copied : {old new : List ℕ} {at e : ℕ} → close - o ≤ length old - at → at ≤ length old → Writes old new at (take (close - o) (drop o tr)) e → ReadsTo old new at e sought
-  text-copied fits room written =
-      let w = rw (content-part (found .there) close ends) at written in
-      record { content = found .content; is = found .is; written = w; fits = omega (arith, w .after, ends) }
-
-  -- or don't fit
-  pub text-too-long : (old : List ℕ) (at : ℕ) → length old - at < close - o → (j : Content) → sought ≡ some j → length old < at + length (bytes j)
-  text-too-long old at short j e =
-      let same : found .content ≡ j = same-content (found .content) (found .is) in
-      omega (arith, ends, ap (λ (l : Content). length (bytes l)) same)
-    where
-      same-content : (l : Content) → sought ≡ some l → l ≡ j
-      same-content l f = cc
+  -- it is written
+  pub child-written : {out₁ : List ℕ} {at₁ : ℕ} → ReadsTo out out₁ at at₁ (elementOf m (read m k)) → Onto old at₀ whole out₁ at₁ more
+  unfolding bytes
+  child-written {out₁} {at₁} element =
+      let made = element-made m (read m k) (element .content) (element .is) in
+      let i : Content = made .inside in
+      let written : Writes out out₁ at (bytes (elem m i end)) at₁ = rw (made .is) at (element .written) in
+      record {
+        missing = λ e. now .missing (one-none read m k more i (made .was-read) e);
+        there = λ r e.
+            let joined = now .there (elem m i r) (one-some read m k more i r (made .was-read) e) in
+            record {
+              content = joined .content;
+              is = joined .is;
+              same-bytes =
+                  writes-left written (bytes r)
+                  ∙ ap (λ (bs : List ℕ). sets out at (0x30 ∷ m ∷ bs)) (append-assoc (bytes i) (0x32 ∷ []) (bytes r))
+                  ∙ joined .same-bytes;
+              same-end = omega (arith, joined .same-end, element-length m i r, element-length m i end, end-length, written .after);
+            };
+      }

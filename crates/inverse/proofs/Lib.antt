@@ -1,10 +1,6 @@
-pub mod Stepping
-pub mod Following
-pub mod Dividing
-pub mod Edges
-pub mod Children
-pub mod Joining
 pub mod ByKind
+pub mod Elements
+pub mod Joining
 pub mod Turning
 pub mod Levels
 pub mod Whole

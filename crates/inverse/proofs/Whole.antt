@@ -5,16 +5,18 @@ use mathlib.Core.Option.{Option, some}
 use Prim.Native.Nat.{ℕ, suc, _+_, _-_, _≤_, _<_}
 use native.Mathlib.Omega.{arith}
 use lib.ListN.{length, length-append}
-use Rattle.model.specs.Definitions.Content.{Content, levels, bytes, document}
+use Rattle.model.specs.Definitions.Basics.{andThen}
+use Rattle.model.specs.Definitions.Content.{Content, end, elem, levels, bytes, document}
 use Rattle.model.specs.Definitions.Image.{Setting}
 use Rattle.model.specs.Definitions.Inverse.{readTo, readBack}
-use Rattle.dtd.specs.Loaded.{length-in}
-use Rattle.setting.specs.Ready.{Arrays, Paths, settingIn}
+use Rattle.loaded_table.specs.Loaded.{typesIn, length-of}
+use Rattle.loaded_setting.specs.Ready.{settingIn, Ready}
 use Rattle.scanning.specs.Scanning.{At}
 use Rattle.scanning.specs.Laws.{root-at}
 use Rattle.writing.specs.Writing.{Writes}
 use Rattle.writing.specs.Laws.{writes-then, writes-length}
-use Rattle.inverse.specs.Reading.{Known, ReadsTo, BringsTo}
+use Rattle.inverse.specs.Reading.{elementOf, ReadsTo, BringsTo}
+use Rattle.inverse.proofs.Elements.{end-length, element-length, Made, element-made}
 use Rattle.inverse.proofs.Levels.{levels-enough, levels-bytes}
 
 document-length : (j : Content) → length (document 0 j) ≡ 4 + length (bytes j)
@@ -25,54 +27,58 @@ document-length j = omega (arith, length-append (bytes j ++ 0x32 ∷ []) (0x3F �
 pub root-there : {tr : List ℕ} {k : Content} → tr ≡ document 0 k → At tr 2 k
 root-there {k = k} e = rw e (root-at 0 k)
 
-module _ {s t : Arrays} {p : Paths} (known : Known s t p) where
+module _ {source target map em : List ℕ} (ready : Ready source target map em) where
   abbrev X : Setting
-  X = settingIn s t p
+  X = settingIn source target map em
 
   root-exists : 0 < length (X .source)
-  root-exists = known .ready .valid .source-sound .well-formed .has-root
+  root-exists = ready .valid .source-sound .well-formed .has-root
 
-  pub root-type : 0 < s .types
-  root-type = omega (arith, root-exists, length-in (s .types) (s .kinds) (s .counts) (s .members))
+  pub root-type : 0 < typesIn source
+  root-type = omega (arith, root-exists, length-of source)
 
   module _ {tr : List ℕ} (k : Content) (is : tr ≡ document 0 k) where
     -- as many levels as the document has bytes are enough
     back : readBack X k ≡ readTo X (length tr) 0 k
     unfolding readBack
     back =
-        levels-enough X (known .ready .valid) (suc (levels k)) (length tr) 0 k root-exists (omega arith)
+        levels-enough X (ready .valid) (suc (levels k)) (length tr) 0 k root-exists (omega arith)
         (omega (arith, levels-bytes k, document-length k, ap length is))
 
-    -- there is no room for a root
-    pub whole-no-room : (old : List ℕ) → length old < 4 → (j : Content) → readBack X k ≡ some j → length old < length (document 0 j)
-    whole-no-room old short j e = omega (arith, document-length j)
+    -- the root is missing or doesn't fit
+    pub whole-refused : (size : ℕ) → ((j : Content) → elementOf 0 (readTo X (length tr) 0 k) ≡ some j → size < 0 + length (bytes j))
+        → (j : Content) → readBack X k ≡ some j → size < length (document 0 j)
+    unfolding andThen
+    whole-refused size short j e =
+        let alone : elementOf 0 (readTo X (length tr) 0 k) ≡ some (elem 0 j end) = rw (sym back ∙ e) in
+        omega (arith, short (elem 0 j end) alone, document-length j, element-length 0 j end, end-length)
 
-    module _ {old out₁ : List ℕ} {at₁ : ℕ} (opened : Writes old out₁ 0 (0x30 ∷ 0 ∷ []) at₁) where
-      -- the root is missing or doesn't fit
-      pub whole-refused : ((j : Content) → readTo X (length tr) 0 k ≡ some j → length out₁ < at₁ + length (bytes j)) → (j : Content) → readBack X k ≡ some j → length old < length (document 0 j)
-      whole-refused short j e = omega (arith, short j (sym back ∙ e), document-length j, opened .after, writes-length opened)
+    module _ {old out₁ : List ℕ} {at₁ : ℕ} (root : ReadsTo old out₁ 0 at₁ (elementOf 0 (readTo X (length tr) 0 k))) where
+      abbrev made : Made 0 (readTo X (length tr) 0 k) (root .content)
+      made = element-made 0 (readTo X (length tr) 0 k) (root .content) (root .is)
 
-      module _ {out₂ : List ℕ} {at₂ : ℕ} (child : ReadsTo out₁ out₂ at₁ at₂ (readTo X (length tr) 0 k)) where
-        pub whole-room : (at₂ ≤ length out₂) × (length out₂ ≡ length old)
-        whole-room = (omega (arith, child .fits, writes-length (child .written)), omega (arith, writes-length opened, writes-length (child .written)))
+      pub whole-room : (at₁ ≤ length out₁) × (length out₁ ≡ length old)
+      whole-room = (omega (arith, root .fits, writes-length (root .written)), writes-length (root .written))
 
-        -- there is no room for its end
-        pub whole-no-end : length out₂ - at₂ < 2 → (j : Content) → readBack X k ≡ some j → length old < length (document 0 j)
-        whole-no-end short j e =
-            let same : child .content ≡ j = same-content (child .content) (child .is) (sym back ∙ e) in
-            omega (arith, document-length j, ap (λ (l : Content). length (bytes l)) same, opened .after, child .written .after, whole-room .0, whole-room .1)
-          where
-            same-content : (l : Content) {o : Option Content} → o ≡ some l → o ≡ some j → l ≡ j
-            same-content l f g = cc
+      -- there is no room for the document's end
+      pub whole-no-end : at₁ ≡ length out₁ → (j : Content) → readBack X k ≡ some j → length old < length (document 0 j)
+      whole-no-end full j e =
+          let same : made .inside ≡ j = same-content (made .inside) (made .was-read) (sym back ∙ e) in
+          let long : length (bytes (root .content)) ≡ 3 + length (bytes (made .inside)) + length (bytes end) =
+          ap (λ (l : Content). length (bytes l)) (made .is) ∙ element-length 0 (made .inside) end in
+          omega (arith, document-length j, ap (λ (l : Content). length (bytes l)) same, end-length, root .written .after, whole-room .1)
+        where
+          same-content : (l : Content) {o : Option Content} → o ≡ some l → o ≡ some j → l ≡ j
+          same-content l f g = cc
 
-        -- it is written
-        pub whole-written : {out₃ out₄ : List ℕ} {at₃ at₄ : ℕ} → 2 ≤ length out₂ - at₂ → Writes out₂ out₃ at₂ (0x32 ∷ []) at₃ → Writes out₃ out₄ at₃ (0x3F ∷ []) at₄
-            → BringsTo old out₄ at₄ (readBack X k)
-        unfolding document bytes
-        whole-written room closed last =
-            record {
-              content = child .content;
-              is = back ∙ child .is;
-              written = writes-then (writes-then (writes-then opened (child .written)) closed) last;
-              fits = omega (arith, room, closed .after, last .after, whole-room .0, whole-room .1);
-            }
+      -- it is written
+      pub whole-written : {out₂ : List ℕ} {at₂ : ℕ} → (at₁ ≡ length out₁ → ⊥) → Writes out₁ out₂ at₁ (0x3F ∷ []) at₂ → BringsTo old out₂ at₂ (readBack X k)
+      unfolding document bytes
+      whole-written {out₂} {at₂} other last =
+          let element : Writes old out₁ 0 (bytes (elem 0 (made .inside) end)) at₁ = rw (made .is) at (root .written) in
+          record {
+            content = made .inside;
+            is = back ∙ made .was-read;
+            written = writes-then element last;
+            fits = omega (arith, last .after, whole-room .0, whole-room .1);
+          }

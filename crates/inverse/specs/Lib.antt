@@ -1,3 +1,1 @@
-pub mod Following
-pub mod Parts
 pub mod Reading

@@ -1,4 +1,1 @@
-pub mod Numbers
-pub mod Judging
-pub mod Writing
 pub mod Program

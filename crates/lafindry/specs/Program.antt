@@ -11,9 +11,9 @@ use native.Mathlib.Decide.{decLe}
 use native.Mathlib.Nat.{lt-of-not-le}
 use native.Mathlib.Omega.{arith}
 use lib.ListN.{length, take, drop}
-use Rattle.lafindry.specs.declared.answer.Answer.{Answer}
-use Rattle.lafindry.specs.Numbers.{numbers}
-use Rattle.lafindry.specs.Writing.{Answers}
+use Rattle.answer_numbers.specs.declared.Answer.{Answer}
+use Rattle.answer_numbers.specs.Numbers.{numbers}
+use Rattle.entries.specs.Writing.{Answers}
 use Rattle.model.specs.Definitions.Table.{tableOf}
 use Rattle.model.specs.Definitions.Content.{Content, contentOf, elements}
 use Rattle.model.specs.Definitions.Conformance.{Conforming}

@@ -1,5 +1,59 @@
 // The entries that a C program calls, each on any bytes. include/lafindry.h declares them.
-pub mod answer;
-pub mod bring_back;
-pub mod carry;
-pub mod judging;
+ghost use mathlib.Core.Path.{_≡_};
+ghost use Rattle.model.specs.Definitions.Entries as model;
+ghost use Rattle.answer_numbers.specs.Numbers.{numbers};
+use answer_numbers::Answer;
+
+// Judges a table: number of types.
+#[no_mangle]
+pub extern "C" fn lafindry_judge_table(table: &[u8]) -> Answer
+    ensures { λ r. ⌜ numbers r ≡ model.answerOf (model.judgeTable (now (table .entry))) ⌝ }
+{
+    entries::judge_table(table)
+}
+
+// Judges an embedding, after both tables: number of edges.
+#[no_mangle]
+pub extern "C" fn lafindry_judge_embedding(source: &[u8], target: &[u8], embedding: &[u8]) -> Answer
+    ensures { λ r. ⌜ numbers r ≡ model.answerOf (model.judgeEmbedding (now (source .entry)) (now (target .entry)) (now (embedding .entry))) ⌝ }
+{
+    entries::judge_embedding(source, target, embedding)
+}
+
+// Judges a tree, after its table: number of elements.
+#[no_mangle]
+pub extern "C" fn lafindry_judge_tree(table: &[u8], tree: &[u8]) -> Answer
+    ensures { λ r. ⌜ numbers r ≡ model.answerOf (model.judgeTree (now (table .entry)) (now (tree .entry))) ⌝ }
+{
+    entries::judge_tree(table, tree)
+}
+
+// Carries a document, after all documents are judged: length of the image and number of filler elements.
+#[no_mangle]
+pub extern "C" fn lafindry_carry<'a>(
+    source: &[u8],
+    target: &[u8],
+    embedding: &'a [u8],
+    tree: &'a [u8],
+    output: &mut [u8],
+) -> Answer
+    ensures answer { λ r. ⌜ numbers r ≡ model.answerOf (model.carry (now (source .entry)) (now (target .entry)) (now (embedding .entry)) (now (tree .entry)) (now (output .entry)) .result) ⌝ }
+    ensures output { λ r. ⌜ now (output .exit) ≡ model.carry (now (source .entry)) (now (target .entry)) (now (embedding .entry)) (now (tree .entry)) (now (output .entry)) .output ⌝ }
+{
+    entries::carry(source, target, embedding, tree, output)
+}
+
+// Brings a document back, after all documents are judged: length of the source document.
+#[no_mangle]
+pub extern "C" fn lafindry_bring_back<'a>(
+    source: &[u8],
+    target: &[u8],
+    embedding: &'a [u8],
+    tree: &'a [u8],
+    output: &mut [u8],
+) -> Answer
+    ensures answer { λ r. ⌜ numbers r ≡ model.answerOf (model.bringBack (now (source .entry)) (now (target .entry)) (now (embedding .entry)) (now (tree .entry)) (now (output .entry)) .result) ⌝ }
+    ensures output { λ r. ⌜ now (output .exit) ≡ model.bringBack (now (source .entry)) (now (target .entry)) (now (embedding .entry)) (now (tree .entry)) (now (output .entry)) .output ⌝ }
+{
+    entries::bring_back(source, target, embedding, tree, output)
+}

@@ -1,5 +1,5 @@
 -- The distances to closing bytes, filled from the last offset to the first.
-use mathlib.Core.Path.{_≡_, refl, sym, ap, _∙_, subst, subst₂}
+use mathlib.Core.Path.{_≡_, refl, sym, _∙_, subst, subst₂}
 use mathlib.Core.Bool.{Bool, true, false}
 use mathlib.Core.List.{List, _∷_}
 use Prim.Native.Nat.{ℕ, suc, _+_, _-_, _≤_, _<_}
@@ -10,7 +10,7 @@ use lib.Seq.{length-take-le, getD-take, getD-set-same, getD-set-other}
 use borrow.Author.Tests.{eqb-true, eqb-false}
 use Rattle.model.specs.Definitions.Content.{Content, end, char, elem, bytes}
 use Rattle.scanning.specs.Scanning.{At}
-use Rattle.scanning.specs.Laws.{content-within, Opens, opens, opens-next, Letters, letters, element-first, character-first, end-first}
+use Rattle.scanning.specs.Laws.{content-within, opens, opens-next, letters, element-first, character-first, end-first}
 use Rattle.scanning.specs.Spanning.{Spans, Bounded, SpanAt}
 
 -- ---- one offset

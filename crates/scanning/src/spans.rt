@@ -1,7 +1,7 @@
 // Lengths of contents, found once for a document, so that an element is passed over in one step.
 ghost use mathlib.Core.Path.{_≡_};
 ghost use Prim.Native.Nat.{_+_, _≤_, _<_};
-ghost use lib.ListN.{length, getD};
+ghost use lib.ListN.{length};
 ghost use Rattle.model.specs.Definitions.Content.{Content, bytes};
 ghost use Rattle.scanning.specs.Scanning.{At};
 ghost use Rattle.scanning.specs.Spanning.{Spans, Bounded, SpanAt};

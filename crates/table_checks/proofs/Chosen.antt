@@ -2,15 +2,16 @@
 use mathlib.Core.Path.{_≡_, refl, sym, _∙_}
 use mathlib.Core.Bool.{Bool, true, false, _||_}
 use mathlib.Core.List.{List, [], _∷_}
-use Prim.Native.Nat.{ℕ, zero, suc, _+_, _-_, _≤_, _<_}
+use Prim.Native.Nat.{ℕ, zero, suc, _<_}
 use lib.ListN.{length, getD, set, replicate, length-set}
 use lib.Seq.{getD-set-same, getD-set-other}
 use lib.Dec.{eqb}
 use borrow.Author.Tests.{eqb-true, eqb-false}
 use Rattle.model.specs.Definitions.Basics.{goes, stops, goesIf, memberOf}
-use Rattle.model.specs.Definitions.TableChecks.{Chosen, elsewhere, among, chooses, repeatStep, tableRepeats}
+use Rattle.model.specs.Definitions.TableChecks.{Chosen, elsewhere, among, chooses, tableRepeats}
 use Rattle.model.specs.Theorems.Tools.{true-false}
-use Rattle.table_checks.proofs.Loop.{rest, always, Turned}
+use Rattle.table_checks.proofs.Loop.{rest, Turned}
+use Rattle.table_checks.proofs.Machines.{repeat-machine}
 
 -- The state that the code is in: outside a choice, or in one whose members have their flags set.
 pub data Seen : Bool → List Bool → Chosen → Type 0 where
@@ -21,7 +22,7 @@ pub data Seen : Bool → List Bool → Chosen → Type 0 where
 pub record Kept (t : List ℕ) (within : Bool) (seen : List Bool) (at : ℕ) : Type 0 where
   pub state : Chosen
   pub stands : Seen within seen state
-  pub same : rest repeatStep always t state at ≡ tableRepeats t
+  pub same : rest repeat-machine t state at ≡ tableRepeats t
 
 no-flag : (n m : ℕ) → getD (replicate n false) m false ≡ false
 no-flag zero m = refl
@@ -72,14 +73,10 @@ added {seen = seen} m h (inside {ms = ms} l f) e unset = record {
 
 -- what holds after a turn over a command of so many bytes
 pub record After (t : List ℕ) (within : Bool) (seen : List Bool) (at w : ℕ) : Type 0 where
-  pub fits-in : at + w ≤ length t
-  pub falls : length t - (at + w) < length t - at
-  pub kept : Kept t within seen (at + w)
+  pub state : Chosen
+  pub stands : Seen within seen state
+  pub turned : Turned repeat-machine t state at w (tableRepeats t)
 
 pub after : {t : List ℕ} {within within′ : Bool} {seen seen′ : List Bool} {at w : ℕ} {s : Chosen}
-    → Turned repeatStep always t s at w (tableRepeats t) → Seen within seen s → within′ ≡ within → seen′ ≡ seen → After t within′ seen′ at w
-after {s = s} turned stands e f = record {
-  fits-in = turned .within;
-  falls = turned .falls;
-  kept = record { state = s; stands = rw (e, f) stands; same = turned .same };
-}
+    → Turned repeat-machine t s at w (tableRepeats t) → Seen within seen s → within′ ≡ within → seen′ ≡ seen → After t within′ seen′ at w
+after {s = s} turned stands e f = record { state = s; stands = rw (e, f) stands; turned = turned }

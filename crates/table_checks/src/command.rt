@@ -1,4 +1,11 @@
 // The commands of a table document.
+use codes::CHOICE_TYPE;
+use codes::EMPTY_TYPE;
+use codes::LIST_TYPE;
+use codes::MEMBER;
+use codes::SEQUENCE_TYPE;
+use codes::TABLE_END;
+use codes::TEXT_TYPE;
 ghost use mathlib.Core.Path.{_≡_};
 ghost use Prim.Native.Nat.{_<_};
 ghost use lib.ListN.{length};
@@ -25,25 +32,25 @@ pub fn command_at(t: &[u8], at: usize) -> TableCommand
 {
     let b = t[at];
     match b {
-        0x10 => TableCommand::Text,
-        0x11 => TableCommand::Empty,
-        0x12 => TableCommand::Sequence,
-        0x13 => TableCommand::Choice,
-        0x14 => {
+        TEXT_TYPE => TableCommand::Text,
+        EMPTY_TYPE => TableCommand::Empty,
+        SEQUENCE_TYPE => TableCommand::Sequence,
+        CHOICE_TYPE => TableCommand::Choice,
+        LIST_TYPE => {
             if at + 1 < t.len() {
                 TableCommand::List(t[at + 1])
             } else {
                 TableCommand::Alien
             }
         }
-        0x15 => {
+        MEMBER => {
             if at + 1 < t.len() {
                 TableCommand::Member(t[at + 1])
             } else {
                 TableCommand::Alien
             }
         }
-        0x1F => TableCommand::End,
+        TABLE_END => TableCommand::End,
         _ => TableCommand::Alien,
     }
 }
@@ -53,13 +60,7 @@ pub fn width(c: TableCommand) -> usize
     ensures { λ r. ⌜ r ≡ tableWidth (command c) ⌝ }
 {
     match c {
-        TableCommand::Text => 1,
-        TableCommand::Empty => 1,
-        TableCommand::Sequence => 1,
-        TableCommand::Choice => 1,
-        TableCommand::List(_) => 2,
-        TableCommand::Member(_) => 2,
-        TableCommand::End => 1,
-        TableCommand::Alien => 1,
+        TableCommand::List(_) | TableCommand::Member(_) => 2,
+        _ => 1,
     }
 }

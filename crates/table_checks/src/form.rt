@@ -30,12 +30,8 @@ fn begin(s: State, first: State) -> Next
     ensures { λ r. ⌜ next r ≡ tableMove (state s) (begins (state first)) ⌝ }
 {
     match s {
-        State::NoType => Next::Goes(first),
-        State::Whole => Next::Goes(first),
-        State::Enough => Next::Goes(first),
-        State::NeedsTwo => Next::Stops,
-        State::NeedsOne => Next::Stops,
-        State::Ended => Next::Stops,
+        State::NoType | State::Whole | State::Enough => Next::Goes(first),
+        State::NeedsTwo | State::NeedsOne | State::Ended => Next::Stops,
     }
 }
 
@@ -45,11 +41,8 @@ fn join(s: State) -> Next
 {
     match s {
         State::NeedsTwo => Next::Goes(State::NeedsOne),
-        State::NeedsOne => Next::Goes(State::Enough),
-        State::Enough => Next::Goes(State::Enough),
-        State::NoType => Next::Stops,
-        State::Whole => Next::Stops,
-        State::Ended => Next::Stops,
+        State::NeedsOne | State::Enough => Next::Goes(State::Enough),
+        State::NoType | State::Whole | State::Ended => Next::Stops,
     }
 }
 
@@ -58,12 +51,8 @@ fn finish(s: State) -> Next
     ensures { λ r. ⌜ next r ≡ tableMove (state s) finishes ⌝ }
 {
     match s {
-        State::Whole => Next::Goes(State::Ended),
-        State::Enough => Next::Goes(State::Ended),
-        State::NoType => Next::Stops,
-        State::NeedsTwo => Next::Stops,
-        State::NeedsOne => Next::Stops,
-        State::Ended => Next::Stops,
+        State::Whole | State::Enough => Next::Goes(State::Ended),
+        _ => Next::Stops,
     }
 }
 
@@ -72,11 +61,9 @@ fn step(s: State, c: TableCommand) -> Next
     ensures { λ r. ⌜ next r ≡ tableStep (state s) (command c) ⌝ }
 {
     match c {
-        TableCommand::Text => begin(s, State::Whole),
-        TableCommand::Empty => begin(s, State::Whole),
+        TableCommand::Text | TableCommand::Empty | TableCommand::List(_) => begin(s, State::Whole),
         TableCommand::Sequence => begin(s, State::NeedsOne),
         TableCommand::Choice => begin(s, State::NeedsTwo),
-        TableCommand::List(_) => begin(s, State::Whole),
         TableCommand::Member(_) => join(s),
         TableCommand::End => finish(s),
         TableCommand::Alien => Next::Stops,
@@ -89,11 +76,7 @@ fn complete(s: State) -> bool
 {
     match s {
         State::Ended => true,
-        State::NoType => false,
-        State::Whole => false,
-        State::NeedsTwo => false,
-        State::NeedsOne => false,
-        State::Enough => false,
+        _ => false,
     }
 }
 

@@ -3,15 +3,13 @@ use crate::command::TableCommand;
 use crate::command::command_at;
 use crate::command::width;
 use answers::Verdict;
+use codes::MAX_MEMBERS;
+use codes::MAX_TYPES;
 ghost use mathlib.Core.Path.{_≡_};
 ghost use Rattle.answers.specs.Answers.{verdict};
 ghost use Rattle.model.specs.Definitions.TableChecks.{tableLimits, limitStep, oneTypeMore};
 ghost use Rattle.table_checks.specs.Read.{command};
 ghost use Rattle.table_checks.specs.Limits.{counts, next, oneMemberMore};
-
-const MAX_TYPES: usize = 64;
-
-const MAX_MEMBERS: usize = 16;
 
 // Types so far, and members of the last one.
 struct Counts {
@@ -61,14 +59,10 @@ fn step(n: Counts, c: TableCommand) -> Next
     ensures { λ r. ⌜ next r ≡ limitStep (counts n) (command c) ⌝ }
 {
     match c {
-        TableCommand::Text => type_more(n),
-        TableCommand::Empty => type_more(n),
-        TableCommand::Sequence => type_more(n),
-        TableCommand::Choice => type_more(n),
-        TableCommand::List(_) => type_more(n),
         TableCommand::Member(_) => member_more(n),
         TableCommand::End => Next::Goes(n),
         TableCommand::Alien => Next::Stops,
+        _ => type_more(n),
     }
 }
 

@@ -14,14 +14,9 @@ fn named(types: usize, c: TableCommand) -> bool
     ensures { λ r. ⌜ goesIf r tt ≡ namesType types tt (command c) ⌝ }
 {
     match c {
-        TableCommand::Text => true,
-        TableCommand::Empty => true,
-        TableCommand::Sequence => true,
-        TableCommand::Choice => true,
-        TableCommand::List(t) => (t as usize) < types,
-        TableCommand::Member(t) => (t as usize) < types,
-        TableCommand::End => true,
+        TableCommand::List(t) | TableCommand::Member(t) => (t as usize) < types,
         TableCommand::Alien => false,
+        _ => true,
     }
 }
 

@@ -24,14 +24,11 @@ fn role_of(c: TableCommand) -> Role
     ensures { λ r. ⌜ ((s : Chosen) → does s r ≡ repeatStep s (command c)) ⌝ }
 {
     match c {
-        TableCommand::Text => Role::Leaves,
-        TableCommand::Empty => Role::Leaves,
-        TableCommand::Sequence => Role::Leaves,
         TableCommand::Choice => Role::Opens,
-        TableCommand::List(_) => Role::Leaves,
         TableCommand::Member(m) => Role::Joins(m),
         TableCommand::End => Role::Keeps,
         TableCommand::Alien => Role::Stops,
+        _ => Role::Leaves,
     }
 }
 

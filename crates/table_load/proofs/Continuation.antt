@@ -8,7 +8,7 @@ use native.Mathlib.Numerals.{add-one}
 use native.Mathlib.Omega.{arith}
 use lib.ListN.{length, take, drop, getD, set, length-drop}
 use lib.Seq.{getD-set-same, getD-set-other, take-set-le, drop-set-add, take-suc-set}
-use Rattle.dtd.specs.Loaded.{kindFrom, kindIn, tableFrom}
+use Rattle.loaded_table.specs.Loaded.{kindFrom, kindIn, tableFrom}
 use Rattle.model.specs.Definitions.Table.{Kind, text, empty, sequence, choice, list, Table, TableTail}
 
 -- a kind whose members go on

@@ -1,27 +1,54 @@
--- Room for a command and what it does, once it is known which one it is.
+-- What storing in the array does to what is loaded, and room for it.
 use mathlib.Core.Path.{_≡_, refl, sym, ap, _∙_, subst}
 use mathlib.Core.List.{List}
+use mathlib.Core.Logic.{inl, inr}
 use Prim.Native.Nat.{ℕ, _+_, _-_, _*_, _<_}
+use native.Mathlib.Nat.{zero-add}
 use native.Mathlib.Omega.{arith}
-use lib.ListN.{getD, set}
-use Rattle.table_load.specs.declared.Arrays.{Arrays}
+use lib.ListN.{length, getD, set, length-set}
 use Rattle.table_checks.specs.declared.command.TableCommand.{TableCommand as Command}
 use Rattle.table_checks.specs.Read.{command}
-use Rattle.table_load.specs.Loading.{begun, joined, puts, Begins, Joins, Room}
+use Rattle.model.specs.Definitions.Commands.{TableCommand, listType, member}
+use Rattle.loaded_table.specs.Loaded.{kindsOf, countsOf, section-kept, section-set}
+use Rattle.table_load.specs.Loading.{Arrays, loadedIn, begun, joined, puts, Begins, Joins, Room, Put}
 
 -- there is room for a command, known as another term
 pub told-room : (a : Arrays) {c d : Command} → c ≡ d → Room a (command c) → Room a (command d)
 told-room a e h = subst (λ x. Room a (command x)) e h
 
 -- what a command does, known as another term
-pub told-puts : (a : Arrays) {c d : Command} {r : Arrays} → c ≡ d → r ≡ puts a (command d) → r ≡ puts a (command c)
-told-puts a e h = h ∙ ap (λ x. puts a (command x)) (sym e)
+pub told-put : {types more : ℕ} {rows after : List ℕ} {c d : Command} → c ≡ d → Put types rows (command d) more after → Put types rows (command c) more after
+told-put {types} {more} {rows} {after} e h = subst (λ x. Put types rows (command x) more after) (sym e) h
 
 -- arrays of equal parts
-pub same-arrays : {types types′ : ℕ} {kinds kinds′ counts counts′ members members′ : List ℕ}
+same-arrays : {types types′ : ℕ} {kinds kinds′ counts counts′ members members′ : List ℕ}
     → types ≡ types′ → kinds ≡ kinds′ → counts ≡ counts′ → members ≡ members′
     → _≡_ {A = Arrays} (record { types = types; kinds = kinds; counts = counts; members = members }) (record { types = types′; kinds = kinds′; counts = counts′; members = members′ })
 same-arrays p q r s = rw (p, q, r, s) refl
+
+-- a kind stored behind the last type begins a type
+begun-in : (rows : List ℕ) (types kind : ℕ) → types < 64 → loadedIn (types + 1) (set rows types kind) ≡ begun (loadedIn types rows) kind
+unfolding begun
+begun-in rows types kind room =
+    let first : 0 + types ≡ types = zero-add types in
+    same-arrays refl
+    (ap (λ i. kindsOf (set rows i kind)) (sym first) ∙ section-set 0 64 rows types kind room)
+    (section-kept 64 64 rows types kind (inl (omega arith)))
+    (section-kept 256 1024 rows types kind (inl (omega arith)))
+
+-- a member and one count more stored for the last type join a member
+joined-in : (rows : List ℕ) (types t m : ℕ) → types - 1 ≡ t → t < 64 → getD (countsOf rows) t 0 < 16
+    → loadedIn types (set (set rows (256 + (t * 16 + getD (countsOf rows) t 0)) m) (64 + t) (getD (countsOf rows) t 0 + 1)) ≡ joined (loadedIn types rows) m
+unfolding joined
+joined-in rows types t m last few room =
+    let count = getD (countsOf rows) t 0 in
+    let place = t * 16 + count in
+    let stored = set rows (256 + place) m in
+    rw last
+    (same-arrays refl
+    (section-kept 0 64 stored (64 + t) (count + 1) (inr (omega arith)) ∙ section-kept 0 64 rows (256 + place) m (inr (omega arith)))
+    (section-set 64 64 stored t (count + 1) few ∙ ap (λ l. set l t (count + 1)) (section-kept 64 64 rows (256 + place) m (inr (omega arith))))
+    (section-kept 256 1024 stored (64 + t) (count + 1) (inl (omega arith)) ∙ section-set 256 1024 rows place m (omega arith)))
 
 -- a member of the last type has its place
 pub join-room : (a : Arrays) → Joins a → (a .types - 1 < 64) × (getD (a .counts) (a .types - 1) 0 < 16)
@@ -36,16 +63,47 @@ begun-joins a kind h =
     let types-few = h .room in
     record { some = omega arith; few = omega arith; room = omega arith }
 
--- its member has its place, by the number of types that there are then
-pub list-room : (a : Arrays) {n : ℕ} → n ≡ a .types + 1 → Begins a → (n - 1 < 64) × (getD (a .counts) (n - 1) 0 < 16)
-unfolding begun
-list-room a e h = rw e (join-room (begun a 4) (begun-joins a 4 h))
+-- a list that was just begun has room for its item
+pub list-room : (rows : List ℕ) (types : ℕ) {mid : List ℕ} → Begins (loadedIn types rows) → mid ≡ set rows types 4 → (types < 64) × (getD (countsOf mid) types 0 < 16)
+list-room rows types {mid} h e =
+    let kept : countsOf mid ≡ countsOf rows = ap countsOf e ∙ section-kept 64 64 rows types 4 (inl (omega (arith, h .room))) in
+    (h .room, rw kept (omega (arith, h .fresh)))
 
--- the arrays with one type more and its one member, by the number of types that there are then
-pub listed : (a : Arrays) (kind t : ℕ) {n : ℕ} {kinds counts members : List ℕ}
-    → n ≡ a .types + 1 → kinds ≡ set (a .kinds) (a .types) kind
-    → counts ≡ set (a .counts) (n - 1) (getD (a .counts) (n - 1) 0 + 1)
-    → members ≡ set (a .members) ((n - 1) * 16 + getD (a .counts) (n - 1) 0) t
-    → record { types = n; kinds = kinds; counts = counts; members = members } ≡ joined (begun a kind) t
-unfolding begun joined
-listed a kind t p q r s = rw (q, r, s, p) refl
+-- ---- commands put
+
+-- a command that begins a type of a kind
+pub begun-put : (rows : List ℕ) (types kind : ℕ) (c : TableCommand) {more : ℕ} {after : List ℕ} → puts (loadedIn types rows) c ≡ begun (loadedIn types rows) kind → types < 64
+    → (more ≡ types + 1) × (after ≡ set rows types kind) → Put types rows c more after
+begun-put rows types kind c does room (p, q) = rw (p, q) (record { same-size = length-set rows types kind; does = begun-in rows types kind room ∙ sym does })
+
+-- the array with one member more of type t
+abbrev pub memberStored : List ℕ → ℕ → ℕ → List ℕ
+memberStored rows t m = set (set rows (256 + (t * 16 + getD (countsOf rows) t 0)) m) (64 + t) (getD (countsOf rows) t 0 + 1)
+
+stored-size : (rows : List ℕ) (t m : ℕ) → length (memberStored rows t m) ≡ length rows
+stored-size rows t m =
+    let count = getD (countsOf rows) t 0 in
+    length-set (set rows (256 + (t * 16 + count)) m) (64 + t) (count + 1) ∙ length-set rows (256 + (t * 16 + count)) m
+
+-- a list and its item
+pub list-put : (rows : List ℕ) (types m : ℕ) {more : ℕ} {mid after : List ℕ} → Begins (loadedIn types rows)
+    → (more ≡ types + 1) × (mid ≡ set rows types 4) → after ≡ memberStored mid types m → Put types rows (listType m) more after
+unfolding puts
+list-put rows types m {more} {mid} {after} h (p, q) e =
+    let room = list-room rows types h q in
+    let last : types + 1 - 1 ≡ types = omega arith in
+    record {
+      same-size = ap length e ∙ stored-size mid types m ∙ ap length q ∙ length-set rows types 4;
+      does =
+          rw (e, p)
+          (joined-in mid (types + 1) types m last (room .0) (room .1)
+          ∙ ap (λ (l : List ℕ). joined (loadedIn (types + 1) l) m) q
+          ∙ ap (λ (a : Arrays). joined a m) (begun-in rows types 4 (room .0)));
+    }
+
+-- a member
+pub member-put : (rows : List ℕ) (types m : ℕ) {after : List ℕ} → Joins (loadedIn types rows) → after ≡ memberStored rows (types - 1) m → Put types rows (member m) types after
+unfolding puts
+member-put rows types m h e =
+    let room = join-room (loadedIn types rows) h in
+    rw e (record { same-size = stored-size rows (types - 1) m; does = joined-in rows types (types - 1) m refl (room .0) (room .1) })

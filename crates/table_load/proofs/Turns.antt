@@ -7,11 +7,11 @@ use mathlib.Core.Logic.{_⊎_, inl, inr}
 use Prim.Native.Nat.{ℕ, zero, suc, _+_, _-_, _*_, _≤_, _<_}
 use native.Mathlib.Numerals.{add-one}
 use native.Mathlib.Omega.{arith}
-use lib.ListN.{length, drop, getD, set, drop-of-length-le}
+use lib.ListN.{length, drop, getD, set, drop-of-length-le, length-set}
 use lib.Seq.{getD-set-same}
 use lib.Dec.{ltb}
 use borrow.Author.Tests.{ltb-true}
-use Rattle.dtd.specs.Loaded.{tableFrom, tableIn}
+use Rattle.loaded_table.specs.Loaded.{tableFrom, tableIn, typesIn, kindsOf, countsOf, membersIn, section-kept}
 use Rattle.model.specs.Definitions.Basics.{passes, Next, goes, stops, run, goesIf}
 use Rattle.model.specs.Definitions.Commands.{TableCommand, textType, emptyType, sequenceType, choiceType, listType, member, tableEnd, alien, tableCommand, tableCommands, tableWidth}
 use Rattle.model.specs.Definitions.Table.{Kind, text, empty, sequence, choice, list, Table, TableTail, withCommand, tableTail, tableOf}
@@ -19,10 +19,9 @@ use Rattle.model.specs.Definitions.TableChecks.{TableState, noType, whole, memb
 use Rattle.model.specs.Theorems.JudgedTables.{goes-if}
 use Rattle.model.specs.Theorems.Runs.{passes-fails, goes-stops}
 use Rattle.model.specs.Theorems.Reading.{rawAt, ReadsAt, left-stops, left-goes, table-reads, no-table-commands}
-use Rattle.table_load.specs.declared.Arrays.{Arrays}
-use Rattle.table_load.specs.Loading.{nothing, begun, joined, puts, Begins, Joins, Room, LoadedAs}
+use Rattle.table_load.specs.Loading.{Arrays, loadedIn, Cleared, begun, joined, puts, Begins, Joins, Room, Put, LoadedAs}
 use Rattle.table_load.proofs.Continuation.{kindMore, continued, continued-types, continued-begun, continued-joined, continued-list}
-use Rattle.table_load.proofs.Shapes.{Shaped, shaped-nothing, shaped-begun, shaped-joined}
+use Rattle.table_load.proofs.Shapes.{Shaped, shaped-cleared, shaped-begun, shaped-joined}
 use Rattle.table_load.proofs.Rooms.{begun-joins}
 
 -- ---- the two machines
@@ -120,12 +119,12 @@ grows-begun a code which shaped room =
 
 -- A type of kind κ begins, with members only after it.
 loaded-begun : {s then : TableState} {n later : TableCount} {a : Arrays} {r : TableTail} {T : Table} (code : ℕ) (κ : Kind) (first : TableState)
-    → code ≤ 4 → kindMore code 0 (drop (a .types * 16) (a .members)) (r .members) ≡ κ → (Shaped a → Begins a → InState first (begun a code) 0)
+    → kindMore code 0 (drop (a .types * 16) (a .members)) (r .members) ≡ κ → (Shaped a → Begins a → InState first (begun a code) 0)
     → tableMove s (begins first) ≡ goes then → oneTypeMore n ≡ goes later
     → Loaded s n a (record { members = []; kinds = κ ∷ r .kinds }) T
     → Begins a × Loaded then later (begun a code) r T
 unfolding begun
-loaded-begun {s} {then} {n} {later} {a} {r} {T} code κ first known same-kind there e f h =
+loaded-begun {s} {then} {n} {later} {a} {r} {T} code κ first same-kind there e f h =
     let facts = begins-there f h in
     let room = facts .0 in
     let same-state : first ≡ then = begins-state s first then e in
@@ -135,7 +134,7 @@ loaded-begun {s} {then} {n} {later} {a} {r} {T} code κ first known same-kind th
     now-loaded room =
         let shaped = h .shaped in
         record {
-          shaped = shaped-begun a code known (room .room) shaped;
+          shaped = shaped-begun a code (room .room) shaped;
           same-types = add-one (a .types) ∙ ap suc (h .same-types);
           in-state = there shaped room;
           whole-table =
@@ -175,7 +174,7 @@ loaded-list {s} {then} {n} {later} {a} {r} {T} m e f h =
         let few = room .room in
         let is = joined-is (begun a 4) m (a .types) (add-one (a .types)) in
         record {
-          shaped = shaped-joined (begun a 4) m (begun-joins a 4 room) (shaped-begun a 4 (omega arith) few shaped);
+          shaped = shaped-joined (begun a 4) m (begun-joins a 4 room) (shaped-begun a 4 few shaped);
           same-types = ap (λ b. b .types) is ∙ ap suc (h .same-types);
           in-state = tt;
           whole-table =
@@ -250,10 +249,10 @@ put-loaded : (c : TableCommand) {s then : TableState} {n later : TableCount} {a 
     → tableStep s c ≡ goes then → limitStep n c ≡ goes later → Loaded s n a (withCommand c r) T
     → Room a c × Loaded then later (puts a c) r T
 unfolding tableStep tableRole limitStep withCommand puts
-put-loaded textType e f h = loaded-begun 0 text whole (omega arith) refl (λ shaped room. tt) e f h
-put-loaded emptyType e f h = loaded-begun 1 empty whole (omega arith) refl (λ shaped room. tt) e f h
-put-loaded sequenceType {a = a} {r} e f h = loaded-begun 2 (sequence (r .members)) (members 1) (omega arith) refl (grows-begun a 2 (inl refl)) e f h
-put-loaded choiceType {a = a} {r} e f h = loaded-begun 3 (choice (r .members)) (members 2) (omega arith) refl (grows-begun a 3 (inr refl)) e f h
+put-loaded textType e f h = loaded-begun 0 text whole refl (λ shaped room. tt) e f h
+put-loaded emptyType e f h = loaded-begun 1 empty whole refl (λ shaped room. tt) e f h
+put-loaded sequenceType {a = a} {r} e f h = loaded-begun 2 (sequence (r .members)) (members 1) refl (grows-begun a 2 (inl refl)) e f h
+put-loaded choiceType {a = a} {r} e f h = loaded-begun 3 (choice (r .members)) (members 2) refl (grows-begun a 3 (inr refl)) e f h
 put-loaded (listType m) e f h = loaded-list m e f h
 put-loaded (member m) e f h = loaded-joined m e f h
 put-loaded tableEnd {s} {then} {n} {later} {a} {r} {T} e f h =
@@ -274,16 +273,20 @@ pub record Loading (bs : List ℕ) (a : Arrays) (at : ℕ) : Type 0 where
   limits-left : run tableWidth limitStep (λ n. true) count-state at (tableCommands (drop at bs)) ≡ passes
   loaded : Loaded form-state count-state a (tableTail (tableCommands (drop at bs))) (tableOf bs)
 
-pub loading-starts : {bs : List ℕ} → tableForm bs ≡ passes → tableLimits bs ≡ passes → Loading bs nothing 0
-unfolding tableForm tableLimits tableOf continued nothing
-loading-starts {bs} form limits =
+-- there are never too many types
+pub loading-few : {bs : List ℕ} {a : Arrays} {at : ℕ} → Loading bs a at → a .types ≤ 64
+loading-few h = h .loaded .shaped .few-types
+
+pub loading-starts : {bs : List ℕ} (rows : List ℕ) → tableForm bs ≡ passes → tableLimits bs ≡ passes → Cleared 64 rows → Loading bs (loadedIn 0 rows) 0
+unfolding tableForm tableLimits tableOf continued
+loading-starts {bs} rows form limits cleared =
     record {
       within = omega arith;
       form-state = noType;
       count-state = record { types = 0; members = 0 };
       form-left = form;
       limits-left = limits;
-      loaded = record { shaped = shaped-nothing; same-types = refl; in-state = tt; whole-table = refl };
+      loaded = record { shaped = shaped-cleared rows cleared; same-types = refl; in-state = tt; whole-table = refl };
     }
 
 -- what a turn needs and gives
@@ -336,22 +339,34 @@ pub turn : (bs : List ℕ) (a : Arrays) (at : ℕ) {c : TableCommand} → at < l
 turn bs a at {c} more e h = turn-at bs a at c (subst (ReadsAt tableCommands tableWidth alien bs at) (sym e) (table-reads bs at more)) h
 
 -- the invariant behind a command, at the values that the code has
-pub turned : {bs : List ℕ} {a : Arrays} {at : ℕ} {c : TableCommand} {r : Arrays} {w : ℕ} → Turn bs a at c → r ≡ puts a c → w ≡ tableWidth c → Loading bs r (at + w)
-turned {bs} {a} {at} {c} {r} {w} h p q = rw (p, q) (h .next)
+pub turned : {bs rows after : List ℕ} {types more at w : ℕ} {c : TableCommand} → Turn bs (loadedIn types rows) at c → Put types rows c more after → w ≡ tableWidth c
+    → Loading bs (loadedIn more after) (at + w)
+turned {bs} {rows} {after} {types} {more} {at} {w} {c} h p q = rw (p .does, q) (h .next)
 
--- behind the last command the arrays stand for the whole table
-pub loading-ends : {bs : List ℕ} {a : Arrays} {at : ℕ} → length bs ≤ at → Loading bs a at → LoadedAs bs a
+-- behind the last command, the number of types stored, the array stands for the whole table
+pub loading-ends : {bs : List ℕ} (rows : List ℕ) (types : ℕ) {at : ℕ} → length rows ≡ 1281 → length bs ≤ at → Loading bs (loadedIn types rows) at → LoadedAs bs (set rows 1280 types)
 unfolding tableIn tableTail
-loading-ends {bs} {a} {at} last h =
+loading-ends {bs} rows types {at} size last h =
+    let a = loadedIn types rows in
+    let after = set rows 1280 types in
     let shaped = h .loaded .shaped in
     let nothing-left : tableTail (tableCommands (drop at bs)) ≡ record { members = []; kinds = [] }
     = ap tableTail (ap tableCommands (drop-of-length-le bs last) ∙ no-table-commands) in
+    let number : typesIn after ≡ types = getD-set-same rows 1280 types 0 (omega arith) in
+    let kinds-kept : kindsOf after ≡ kindsOf rows = section-kept 0 64 rows 1280 types (inr (omega arith)) in
+    let counts-kept : countsOf after ≡ countsOf rows = section-kept 64 64 rows 1280 types (inr (omega arith)) in
+    let members-kept : membersIn after ≡ membersIn rows = section-kept 256 1024 rows 1280 types (inr (omega arith)) in
     record {
       same-table =
-          sym (append-nil (tableFrom (a .kinds) (a .counts) (a .members) 0 (a .types)))
-          ∙ sym (continued-types (a .kinds) (a .counts) (a .members) (a .types) [])
+          rw (number, kinds-kept, counts-kept, members-kept)
+          (sym (append-nil (tableFrom (a .kinds) (a .counts) (a .members) 0 types))
+          ∙ sym (continued-types (a .kinds) (a .counts) (a .members) types [])
           ∙ sym (ap (continuedBy a) nothing-left)
-          ∙ h .loaded .whole-table;
-      bounded = record { few-types = shaped .few-types; few-members = shaped .few-counts };
-      few-kinds = shaped .few-kinds;
+          ∙ h .loaded .whole-table);
+      bounded =
+          record {
+            size = length-set rows 1280 types ∙ size;
+            few-types = rw number (shaped .few-types);
+            few-members = λ t. rw counts-kept (shaped .few-counts t);
+          };
     }

@@ -1,18 +1,32 @@
--- What each command of a table document does to the arrays that it is loaded into, and what `load` gives.
+-- What each command of a table document does to the array that it is loaded into, and what `load` gives.
 use mathlib.Core.Path.{_≡_}
 use mathlib.Core.List.{List}
 use Prim.Native.Nat.{ℕ, _+_, _-_, _*_, _≤_, _<_}
-use lib.ListN.{getD, set, replicate}
-use Rattle.table_load.specs.declared.Arrays.{Arrays}
-use Rattle.dtd.specs.Loaded.{tableIn, Bounded}
+use lib.ListN.{length, getD, set}
+use Rattle.loaded_table.specs.Loaded as loaded_table
+use Rattle.loaded_table.specs.Loaded.{kindsOf, countsOf, membersIn, Bounded}
 use Rattle.model.specs.Definitions.Commands.{TableCommand, textType, emptyType, sequenceType, choiceType, listType, member, tableEnd, alien}
 use Rattle.model.specs.Definitions.Table.{tableOf}
 
--- ---- what a command does
+-- ---- what is loaded so far
 
--- the arrays with no type
-unfoldable pub nothing : Arrays
-nothing = record { types = 0; kinds = replicate 64 0; counts = replicate 64 0; members = replicate 1024 0 }
+-- so many types, and the sections that say what they are
+pub record Arrays : Type 0 where
+  pub types : ℕ
+  pub kinds : List ℕ
+  pub counts : List ℕ
+  pub members : List ℕ
+
+-- those of an array with so many types
+abbrev pub loadedIn : ℕ → List ℕ → Arrays
+loadedIn types rows = record { types = types; kinds = kindsOf rows; counts = countsOf rows; members = membersIn rows }
+
+-- the array has all its places, and the types below n have no members
+pub record Cleared (n : ℕ) (rows : List ℕ) : Type 0 where
+  pub size : length rows ≡ 1281
+  pub none : (t : ℕ) → t < n → getD (countsOf rows) t 0 ≡ 0
+
+-- ---- what a command does
 
 -- one type more, of a kind by its code
 unfoldable pub begun : Arrays → ℕ → Arrays
@@ -26,7 +40,7 @@ joined a t =
     let count = getD (a .counts) last 0 in
     record { types = a .types; kinds = a .kinds; counts = set (a .counts) last (count + 1); members = set (a .members) (last * 16 + count) t }
 
--- what the arrays are after a command; the kinds' codes are those of crate dtd
+-- what the arrays are after a command; the kinds' codes are those of crate loaded_table
 unfoldable pub puts : Arrays → TableCommand → Arrays
 puts a textType = begun a 0
 puts a emptyType = begun a 1
@@ -62,8 +76,12 @@ Room a alien = Unit {0}
 
 -- ---- what is loaded
 
--- the arrays stand for the table that a document writes, within bounds, with known kinds only
-pub record LoadedAs (bs : List ℕ) (a : Arrays) : Type 0 where
-  pub same-table : tableIn (a .types) (a .kinds) (a .counts) (a .members) ≡ tableOf bs
-  pub bounded : Bounded (a .types) (a .counts)
-  pub few-kinds : (t : ℕ) → getD (a .kinds) t 0 ≤ 4
+-- a command is put: the array then has so many types
+pub record Put (types : ℕ) (rows : List ℕ) (c : TableCommand) (more : ℕ) (after : List ℕ) : Type 0 where
+  pub same-size : length after ≡ length rows
+  pub does : loadedIn more after ≡ puts (loadedIn types rows) c
+
+-- the array stands for the table that a document writes, within bounds
+pub record LoadedAs (bs rows : List ℕ) : Type 0 where
+  pub same-table : loaded_table.tableBy rows ≡ tableOf bs
+  pub bounded : Bounded rows

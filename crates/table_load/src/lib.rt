@@ -1,82 +1,99 @@
-// Loading a table document into flat arrays, one command at a time. specs/Loading.antt says what a command does to the
-// arrays, and proves that what is loaded, continued by what the rest of the document says, is the document's table.
-use dtd::CHOICE;
-use dtd::EMPTY;
-use dtd::LIST;
-use dtd::SEQUENCE;
-use dtd::TEXT;
+// Loading a table document into one array, one command at a time. specs/Loading.antt says what a command does to the array,
+// and proves that what is loaded, continued by what the rest of the document says, is the document's table.
+use codes::MAX_TYPES;
+use loaded_table::CHOICE;
+use loaded_table::EMPTY;
+use loaded_table::LIST;
+use loaded_table::SEQUENCE;
+use loaded_table::TABLE;
+use loaded_table::TEXT;
+use loaded_table::count;
+use loaded_table::set_count;
+use loaded_table::set_kind;
+use loaded_table::set_member;
+use loaded_table::set_types;
 use table_checks::command::TableCommand;
 use table_checks::command::command_at;
 use table_checks::command::width;
 ghost use mathlib.Core.Path.{_≡_};
-ghost use Prim.Native.Nat.{_+_, _*_, _<_};
-ghost use lib.ListN.{getD, set};
+ghost use Prim.Native.Nat.{_+_, _*_, _≤_, _<_};
+ghost use lib.ListN.{length, getD, set};
+ghost use Rattle.loaded_table.specs.Loaded.{countsOf};
 ghost use Rattle.model.specs.Definitions.Basics.{passes};
 ghost use Rattle.model.specs.Definitions.TableChecks.{tableForm, tableLimits};
-ghost use Rattle.table_load.specs.Loading.{LoadedAs};
+ghost use Rattle.table_checks.specs.Read.{command};
+ghost use Rattle.table_load.specs.Loading.{loadedIn, Cleared, Room, Put, LoadedAs};
 
-// The types loaded so far: type t has the kind kinds[t] and the counts[t] members members[t * 16 ..]; a list's one member
-// is its item type. Entries that no command wrote are 0.
-pub struct Arrays {
-    pub types: usize,
-    pub kinds: [u8; 64],
-    pub counts: [u8; 64],
-    pub members: [u8; 1024],
+// Stores that no type has members. The loop has stored it for the types below t.
+fn clear_counts(table: &mut [u16; TABLE])
+    requires { ⌜ length (now table) ≡ 1281 ⌝ }
+    ensures { λ r. ⌜ Cleared 64 (now (table .exit)) ⌝ }
+{
+    let mut t = 0;
+    while t < MAX_TYPES {
+        set_count(table, t, 0);
+        t += 1;
+    }
 }
 
-// One type more, of a kind and without members, behind so many: how many types there are then.
-fn begin(kinds: &mut [u8; 64], types: usize, kind: u8) -> usize
-    requires { ⌜ types < 64 ⌝ }
-    ensures { λ r. ⌜ (r ≡ types + 1) × (now (kinds .exit) ≡ set (now (kinds .entry)) types kind) ⌝ }
+// One type more, of a kind, behind so many: how many types there are then.
+fn begin(table: &mut [u16; TABLE], types: usize, kind: usize) -> usize
+    requires { ⌜ (types < 64) × (kind ≤ 4) ⌝ }
+    ensures { λ r. ⌜ (r ≡ types + 1) × (now (table .exit) ≡ set (now (table .entry)) types kind) ⌝ }
 {
-    kinds[types] = kind;
+    set_kind(table, types, kind as u16);
     types + 1
 }
 
-// One member more of a type.
-fn join(counts: &mut [u8; 64], members: &mut [u8; 1024], t: usize, member: u8)
-    requires { ⌜ (t < 64) × (getD (now counts) t 0 < 16) ⌝ }
-    ensures { λ r. ⌜ (now (counts .exit) ≡ set (now (counts .entry)) t (getD (now (counts .entry)) t 0 + 1)) × (now (members .exit) ≡ set (now (members .entry)) (t * 16 + getD (now (counts .entry)) t 0) member) ⌝ }
+// One member more of type t.
+fn join(table: &mut [u16; TABLE], t: usize, member: u8)
+    requires { ⌜ (t < 64) × (getD (countsOf (now table)) t 0 < 16) ⌝ }
+    ensures { λ r. ⌜ now (table .exit) ≡ set (set (now (table .entry)) (256 + (t * 16 + getD (countsOf (now (table .entry))) t 0)) member) (64 + t) (getD (countsOf (now (table .entry))) t 0 + 1) ⌝ }
 {
-    let count = counts[t];
-    let place = t * 16 + count as usize;
-    members[place] = member;
-    counts[t] = count + 1;
+    let i = count(table, t);
+    set_member(table, t, i, member as u16);
+    set_count(table, t, i as u16 + 1);
 }
 
-// The table that a document of the right form and within the limits writes. Each turn of the loop puts one command: what
-// is loaded, continued by what the commands from `at` on say, stays the document's table.
-pub fn load(t: &[u8]) -> Arrays
+// What a command does to the array with so many types: how many there are then.
+fn put(table: &mut [u16; TABLE], types: usize, c: TableCommand) -> usize
+    requires { ⌜ Room (loadedIn types (now table)) (command c) ⌝ }
+    ensures { λ r. ⌜ Put types (now (table .entry)) (command c) r (now (table .exit)) ⌝ }
+{
+    match c {
+        TableCommand::Text => begin(table, types, TEXT),
+        TableCommand::Empty => begin(table, types, EMPTY),
+        TableCommand::Sequence => begin(table, types, SEQUENCE),
+        TableCommand::Choice => begin(table, types, CHOICE),
+        TableCommand::List(m) => {
+            let more = begin(table, types, LIST);
+            join(table, types, m);
+            more
+        }
+        TableCommand::Member(m) => {
+            join(table, types - 1, m);
+            types
+        }
+        TableCommand::End => types,
+        TableCommand::Alien => types,
+    }
+}
+
+// Loads the table that a document of the right form and within the limits writes. Each turn of the loop puts one command:
+// what is loaded, continued by what the commands from `at` on say, stays the document's table.
+pub fn load(t: &[u8], table: &mut [u16; TABLE])
+    requires { ⌜ length (now table) ≡ 1281 ⌝ }
     requires { ⌜ tableForm (now t) ≡ passes ⌝ }
     requires { ⌜ tableLimits (now t) ≡ passes ⌝ }
-    ensures { λ r. ⌜ LoadedAs (now (t .entry)) r ⌝ }
+    ensures { λ r. ⌜ LoadedAs (now (t .entry)) (now (table .exit)) ⌝ }
 {
+    clear_counts(table);
     let mut types: usize = 0;
-    let mut kinds = [0u8; 64];
-    let mut counts = [0u8; 64];
-    let mut members = [0u8; 1024];
     let mut at: usize = 0;
     while at < t.len() {
         let c = command_at(t, at);
-        match c {
-            TableCommand::Text => types = begin(&mut kinds, types, TEXT),
-            TableCommand::Empty => types = begin(&mut kinds, types, EMPTY),
-            TableCommand::Sequence => types = begin(&mut kinds, types, SEQUENCE),
-            TableCommand::Choice => types = begin(&mut kinds, types, CHOICE),
-            TableCommand::List(m) => {
-                types = begin(&mut kinds, types, LIST);
-                join(&mut counts, &mut members, types - 1, m);
-            }
-            TableCommand::Member(m) => join(&mut counts, &mut members, types - 1, m),
-            TableCommand::End => {}
-            TableCommand::Alien => {}
-        }
+        types = put(table, types, c);
         at += width(c);
     }
-    Arrays {
-        types: types,
-        kinds: kinds,
-        counts: counts,
-        members: members,
-    }
+    set_types(table, types as u16);
 }

@@ -1,4 +1,1 @@
 pub mod Copying
-pub mod Choosing
-pub mod Holding
-pub mod Filling

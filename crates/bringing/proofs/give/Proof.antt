@@ -1,30 +1,33 @@
--- `give` meets its contract: the document that was read is the source exactly where the given document is its image.
+-- `give` meets its contract: by what the comparison answers.
 use Rattle.bringing.proofs.Comparing.{denied, confirmed}
-use Rattle.bringing.proofs.Answering.{usable-with, source-read, other-image, source-no-room, source-copied}
+use Rattle.bringing.proofs.Answering.{source-read, other-image, source-no-room, source-copied}
 use borrow.Author.Needs.{needs}
 use Rattle.bringing.proofs.give.Statement.{statement}
 use Rattle.bringing.proofs.give.Tie as tie
 
+fill-spans-requires : tie.Need-fill-spans-requires
+fill-spans-requires c κs = search needs
+
 is-image-requires : tie.Need-is-image-requires
 is-image-requires c κs =
-    let given = c .before .before .before .before .before .before .pre in
-    (usable-with (given .0) _ (given .1 .1 .1 .0 .short), (given .1 .0, (source-read (given .0) (given .1 .1 .0) (given .1 .1 .1 .0), (given .1 .1 .0 .short, given .1 .1 .1 .1))))
+    let given = c .before .before .before .before .before .before .before .before .before .before .pre in
+    (given .0, (source-read _ (given .0 .valid) (given .1 .0) (given .1 .1 .0), c .before .before .before .fill-spans .ensures))
 
 same-length : tie.Need-same-length
 same-length c = search needs
 
 returns : tie.Need-returns
 returns c =
-    let given = c .before .before .before .before .before .before .before .before .before .before .pre in
-    other-image (given .0) (given .1 .1 .0) (given .1 .1 .1 .0) _ (denied _ (c .before .before .before .is-image .ensures) (c .if1 .taken))
+    let given = c .before .before .before .before .before .before .before .before .before .before .before .before .pre in
+    other-image _ (given .0 .valid) (given .1 .0) (given .1 .1 .0) _ (denied _ (c .before .is-image .ensures) (c .if1 .taken))
 
 same-length-2 : tie.Need-same-length-2
 same-length-2 c = search needs
 
 returns-2 : tie.Need-returns-2
 returns-2 c =
-    let given = c .before .before .before .before .before .before .before .before .before .before .before .pre in
-    source-no-room (given .0) (given .1 .1 .0) (given .1 .1 .1 .0) _ (confirmed _ (c .before .before .before .before .is-image .ensures) (c .before .if1 .left)) (c .if2 .taken)
+    let given = c .before .before .before .before .before .before .before .before .before .before .before .before .before .pre in
+    source-no-room _ (given .0 .valid) (given .1 .0) (given .1 .1 .0) _ (confirmed _ (c .before .before .is-image .ensures) (c .before .if1 .left)) (c .if2 .taken)
 
 copy-requires : tie.Need-copy-requires
 copy-requires c κs = search needs
@@ -37,13 +40,14 @@ same-length-4 c = search needs
 
 returns-3 : tie.Need-returns-3
 returns-3 c =
-    let given = c .before .before .before .before .before .before .before .before .before .before .before .before .before .before .before .pre in
-    source-copied (given .0) (given .1 .1 .0) (given .1 .1 .1 .0) _ (confirmed _ (c .before .before .before .before .before .before .before .before .is-image .ensures) (c .before .before .before .before .before .if1 .left)) (c .before .before .before .before .if2 .left) (c .before .before .copy .ensures)
+    let given = c .before .before .before .before .before .before .before .before .before .before .before .before .before .before .before .before .before .pre in
+    source-copied _ (given .0 .valid) (given .1 .0) (given .1 .1 .0) _ (confirmed _ (c .before .before .before .before .before .before .is-image .ensures) (c .before .before .before .before .before .if1 .left)) (c .before .before .before .before .if2 .left) (c .before .before .copy .ensures)
 
 pub give-spec : {M : Type 1} → statement M
 give-spec =
     tie.close
     (tie.spec
+    fill-spans-requires
     is-image-requires
     same-length
     returns

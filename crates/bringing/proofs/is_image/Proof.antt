@@ -1,51 +1,128 @@
--- `is_image` meets its contract: an image of another length is not the given document, and one of its length is written and compared.
-use mathlib.Core.Path.{sym}
-use lib.Seq.{length-take-le}
+-- `is_image` meets its contract: each pool is long enough.
+use native.Mathlib.Omega.{arith}
+use Rattle.preparing.specs.Most.{room-most}
+use Rattle.pools.specs.Pools.{no-rows, places-enough}
+use Rattle.bringing.proofs.Answering.{image-asked}
 use borrow.Author.Needs.{needs}
-use Rattle.bringing.proofs.Imaging.{sizes-differ, image-room, image-within, image-compared}
 use Rattle.bringing.proofs.is_image.Statement.{statement}
 use Rattle.bringing.proofs.is_image.Tie as tie
 
-measure-requires : tie.Need-measure-requires
-measure-requires c κs =
-    let given = c .before .before .before .before .pre in
-    (given .0 .ready, (given .1 .0 .fill-at, (given .1 .1 .0 .form, given .1 .1 .0 .holds)))
+room-requires : tie.Need-room-requires
+room-requires c κs = search needs
+
+types-requires : tie.Need-types-requires
+types-requires c κs = search needs
+
+is-small-requires : tie.Need-is-small-requires
+is-small-requires c κs = search needs
+
+slice-aggregate-prepare : tie.Need-slice-aggregate-prepare
+slice-aggregate-prepare c = search needs
+
+slice-aggregate-prepare-2 : tie.Need-slice-aggregate-prepare-2
+slice-aggregate-prepare-2 c = search needs
+
+prepare-requires : tie.Need-prepare-requires
+prepare-requires c κs =
+    let given = c .before .before .before .before .before .before .before .before .before .before .pre in
+    let small = c .before .before .before .is-small .ensures (c .before .before .if1 .taken) in
+    (given .0, ((omega (arith, c .before .before .before .before .before .room .ensures, small .1), omega arith, omega (arith, c .before .before .before .before .types .ensures .0, small .0)), λ row. no-rows 600 2048 row))
+
+slice-aggregate-is-image : tie.Need-slice-aggregate-is-image
+slice-aggregate-is-image c = search needs
+
+slice-aggregate-is-image-2 : tie.Need-slice-aggregate-is-image-2
+slice-aggregate-is-image-2 c = search needs
+
+is-image-requires : tie.Need-is-image-requires
+is-image-requires c κs =
+    let given = c .before .before .before .before .before .before .before .before .before .before .before .before .before .before .before .pre in
+    (given .1 .1, (_, image-asked (given .0) (given .1 .0) (c .before .before .before .before .prepare .ensures)))
 
 returns : tie.Need-returns
 returns c =
-    let given = c .before .before .before .before .before .before .before .pre in
-    sizes-differ _ _ _ (c .before .before .measure .ensures .1) (given .1 .1 .1 .0) (c .if1 .taken)
+    let given = c .before .before .before .before .before .before .before .before .before .before .before .before .before .before .before .before .pre in
+    c .is-image .ensures _ (image-asked (given .0) (given .1 .0) (c .before .before .before .before .before .prepare .ensures))
 
-write-image-requires : tie.Need-write-image-requires
-write-image-requires c κs =
-    let given = c .before .before .before .before .before .before .before .before .pre in
-    (given .0, (given .1 .1 .0, image-room _ _ _ _ (c .before .before .before .measure .ensures .1) (given .1 .1 .1) (c .before .if1 .left)))
+slice-aggregate-prepare-3 : tie.Need-slice-aggregate-prepare-3
+slice-aggregate-prepare-3 c = search needs
 
-slice-reshare-prefix-same-bytes : tie.Need-slice-reshare-prefix-same-bytes
-slice-reshare-prefix-same-bytes c = image-within (c .before .before .write-image .ensures) (write-image-requires (c .before .before .before) (c .before .before .before .before .before .before .before .before .before .before .before .κs) .1 .1)
+slice-aggregate-prepare-4 : tie.Need-slice-aggregate-prepare-4
+slice-aggregate-prepare-4 c = search needs
 
-slice-aggregate-same-bytes : tie.Need-slice-aggregate-same-bytes
-slice-aggregate-same-bytes c = sym (length-take-le _ _ (slice-reshare-prefix-same-bytes (c .before)))
+prepare-requires-2 : tie.Need-prepare-requires-2
+prepare-requires-2 c κs =
+    let given = c .before .before .before .before .before .before .before .before .before .before .before .pre in
+    (given .0, ((omega (arith, c .before .before .before .before .before .before .room .ensures, c .before .before .if2 .taken), omega arith, places-enough (given .0 .source-bounded)), λ row. no-rows 3456 16384 row))
 
-same-bytes-requires : tie.Need-same-bytes-requires
-same-bytes-requires c κs = search needs
+slice-aggregate-is-image-3 : tie.Need-slice-aggregate-is-image-3
+slice-aggregate-is-image-3 c = search needs
 
-same-length : tie.Need-same-length
-same-length c = search needs
+slice-aggregate-is-image-4 : tie.Need-slice-aggregate-is-image-4
+slice-aggregate-is-image-4 c = search needs
+
+is-image-requires-2 : tie.Need-is-image-requires-2
+is-image-requires-2 c κs =
+    let given = c .before .before .before .before .before .before .before .before .before .before .before .before .before .before .before .before .pre in
+    (given .1 .1, (_, image-asked (given .0) (given .1 .0) (c .before .before .before .before .prepare2 .ensures)))
 
 returns-2 : tie.Need-returns-2
 returns-2 c =
-    image-compared (c .before .before .before .before .write-image .ensures) (write-image-requires (c .before .before .before .before .before) (c .before .before .before .before .before .before .before .before .before .before .before .before .before .κs) .1 .1) (c .same-bytes .ensures)
+    let given = c .before .before .before .before .before .before .before .before .before .before .before .before .before .before .before .before .before .pre in
+    c .is-image2 .ensures _ (image-asked (given .0) (given .1 .0) (c .before .before .before .before .before .prepare2 .ensures))
+
+slice-aggregate-prepare-5 : tie.Need-slice-aggregate-prepare-5
+slice-aggregate-prepare-5 c = search needs
+
+slice-aggregate-prepare-6 : tie.Need-slice-aggregate-prepare-6
+slice-aggregate-prepare-6 c = search needs
+
+prepare-requires-3 : tie.Need-prepare-requires-3
+prepare-requires-3 c κs =
+    let given = c .before .before .before .before .before .before .before .before .before .before .before .pre in
+    (given .0, ((room-most _ _ _ (given .0 .source-bounded) (given .0 .target-bounded) (given .0 .paths-bounded .short), omega arith, places-enough (given .0 .source-bounded)), λ row. no-rows 3456 226304 row))
+
+slice-aggregate-is-image-5 : tie.Need-slice-aggregate-is-image-5
+slice-aggregate-is-image-5 c = search needs
+
+slice-aggregate-is-image-6 : tie.Need-slice-aggregate-is-image-6
+slice-aggregate-is-image-6 c = search needs
+
+is-image-requires-3 : tie.Need-is-image-requires-3
+is-image-requires-3 c κs =
+    let given = c .before .before .before .before .before .before .before .before .before .before .before .before .before .before .before .before .pre in
+    (given .1 .1, (_, image-asked (given .0) (given .1 .0) (c .before .before .before .before .prepare3 .ensures)))
+
+returns-3 : tie.Need-returns-3
+returns-3 c =
+    let given = c .before .before .before .before .before .before .before .before .before .before .before .before .before .before .before .before .before .pre in
+    c .is-image3 .ensures _ (image-asked (given .0) (given .1 .0) (c .before .before .before .before .before .prepare3 .ensures))
 
 pub is-image-spec : {M : Type 1} → statement M
 is-image-spec =
     tie.close
     (tie.spec
-    measure-requires
+    room-requires
+    types-requires
+    is-small-requires
+    slice-aggregate-prepare
+    slice-aggregate-prepare-2
+    prepare-requires
+    slice-aggregate-is-image
+    slice-aggregate-is-image-2
+    is-image-requires
     returns
-    write-image-requires
-    slice-reshare-prefix-same-bytes
-    slice-aggregate-same-bytes
-    same-bytes-requires
-    same-length
-    returns-2)
+    slice-aggregate-prepare-3
+    slice-aggregate-prepare-4
+    prepare-requires-2
+    slice-aggregate-is-image-3
+    slice-aggregate-is-image-4
+    is-image-requires-2
+    returns-2
+    slice-aggregate-prepare-5
+    slice-aggregate-prepare-6
+    prepare-requires-3
+    slice-aggregate-is-image-5
+    slice-aggregate-is-image-6
+    is-image-requires-3
+    returns-3)

@@ -1,48 +1,153 @@
+-- `carry` meets its contract: each pool is long enough.
+use mathlib.Core.Path.{refl}
+use native.Mathlib.Omega.{arith}
+use Rattle.preparing.specs.Most.{room-most}
+use Rattle.pools.specs.Pools.{no-rows, places-enough}
+use Rattle.carrying.proofs.Carrying.{carriable, carries-by}
 use borrow.Author.Needs.{needs}
-use Rattle.carrying.proofs.Carrying.{too-deep, too-long, no-room, has-room, carries}
 use Rattle.carrying.proofs.carry.Statement.{statement}
 use Rattle.carrying.proofs.carry.Tie as tie
-use Rattle.carrying.proofs.carry.Reads as reads
-use Rattle.carrying.proofs.carry.Lts as lts
-use Rattle.images.proofs.write_image.Reads as write-image-reads
-use Rattle.measures.proofs.measure.Reads as measure-reads
 
--- src/lib.rt:41:9
-measure-requires : tie.Need-measure-requires
-measure-requires c κs = (c .before .before .before .pre .0 .ready, (c .before .before .before .pre .1 .0 .fill-at, (c .before .before .before .pre .1 .1 .form, c .before .before .before .pre .1 .1 .holds)))
+room-requires : tie.Need-room-requires
+room-requires c κs = search needs
 
--- src/lib.rt:59:9
-returns : tie.Need-returns
-returns c = too-deep _ _ _ (c .before .before .measure .ensures .0) (c .if1 .taken)
+types-requires : tie.Need-types-requires
+types-requires c κs = search needs
 
--- src/lib.rt:62:9
-returns-2 : tie.Need-returns-2
-returns-2 c = too-long _ _ _ _ (c .before .before .before .before .measure .ensures .0) (c .before .before .before .before .measure .ensures .1) (c .before .before .if1 .left) (c .if2 .taken)
+is-small-requires : tie.Need-is-small-requires
+is-small-requires c κs = search needs
 
--- src/lib.rt:65:9
-returns-3 : tie.Need-returns-3
-returns-3 c = no-room _ _ _ _ (c .before .before .before .before .before .before .measure .ensures .0) (c .before .before .before .before .before .before .measure .ensures .1) (c .before .before .before .before .if1 .left) (c .before .before .if2 .left) (c .if3 .taken)
+slice-aggregate-prepare-sized : tie.Need-slice-aggregate-prepare-sized
+slice-aggregate-prepare-sized c = search needs
 
--- src/lib.rt:67:9
-write-image-requires : tie.Need-write-image-requires
-write-image-requires c κs = (c .before .before .before .before .before .before .before .before .before .before .before .pre .0, (c .before .before .before .before .before .before .before .before .before .before .before .pre .1 .1, has-room _ (c .before .before .before .before .before .before .before .before .before .before .before .args .out .now) _ _ (c .before .before .before .before .before .before .before .measure .ensures .0) (c .before .before .before .before .before .before .before .measure .ensures .1) (c .before .before .before .before .before .if1 .left) (c .before .before .before .if2 .left) (c .before .if3 .left)))
+slice-aggregate-prepare-sized-2 : tie.Need-slice-aggregate-prepare-sized-2
+slice-aggregate-prepare-sized-2 c = search needs
 
--- src/lib.rt:18:1
+slice-aggregate-prepare-sized-3 : tie.Need-slice-aggregate-prepare-sized-3
+slice-aggregate-prepare-sized-3 c = search needs
+
+prepare-sized-requires : tie.Need-prepare-sized-requires
+prepare-sized-requires c κs =
+    let given = c .before .before .before .before .before .before .before .before .before .before .pre in
+    let small = c .before .before .before .before .is-small .ensures (c .before .before .before .if1 .taken) in
+    (given .0, ((omega (arith, c .before .before .before .before .before .before .room .ensures, small .1), omega arith, omega (arith, c .before .before .before .before .before .types .ensures .0, small .0), refl), λ row. no-rows 600 2048 row))
+
+slice-aggregate-carry-by : tie.Need-slice-aggregate-carry-by
+slice-aggregate-carry-by c = search needs
+
+slice-aggregate-carry-by-2 : tie.Need-slice-aggregate-carry-by-2
+slice-aggregate-carry-by-2 c = search needs
+
+slice-aggregate-carry-by-3 : tie.Need-slice-aggregate-carry-by-3
+slice-aggregate-carry-by-3 c = search needs
+
+carry-by-requires : tie.Need-carry-by-requires
+carry-by-requires c κs = carriable (c .before .before .before .before .before .before .before .before .before .before .before .before .before .before .before .before .before .before .pre .0) (c .before .before .before .before .before .before .before .before .before .before .before .before .before .before .before .before .before .before .pre .1) (c .before .before .before .before .before .before .before .prepare-sized .ensures)
+
 same-length : tie.Need-same-length
 same-length c = search needs
 
--- src/lib.rt:18:1
-returns-4 : tie.Need-returns-4
-returns-4 c = carries _ _ _ _ (c .before .before .before .before .before .before .before .before .before .before .measure .ensures .0) (c .before .before .before .before .before .before .before .before .before .before .measure .ensures .1) (c .before .before .before .before .before .before .before .before .if1 .left) (c .before .before .before .before .before .before .if2 .left) _ _ (c .before .before .before .before .if3 .left) (c .before .before .write-image .ensures)
+returns : tie.Need-returns
+returns c = carries-by (c .before .before .before .before .before .before .before .before .before .before .before .before .before .before .before .before .before .before .before .before .before .pre .0) (c .before .before .before .before .before .before .before .before .before .before .before .before .before .before .before .before .before .before .before .before .before .pre .1) (c .before .before .before .before .before .before .before .before .before .before .prepare-sized .ensures) (c .before .before .carry-by .ensures)
+
+slice-aggregate-prepare-sized-4 : tie.Need-slice-aggregate-prepare-sized-4
+slice-aggregate-prepare-sized-4 c = search needs
+
+slice-aggregate-prepare-sized-5 : tie.Need-slice-aggregate-prepare-sized-5
+slice-aggregate-prepare-sized-5 c = search needs
+
+slice-aggregate-prepare-sized-6 : tie.Need-slice-aggregate-prepare-sized-6
+slice-aggregate-prepare-sized-6 c = search needs
+
+prepare-sized-requires-2 : tie.Need-prepare-sized-requires-2
+prepare-sized-requires-2 c κs =
+    let given = c .before .before .before .before .before .before .before .before .before .before .before .pre in
+    (given .0, ((omega (arith, c .before .before .before .before .before .before .before .room .ensures, c .before .before .before .if2 .taken), omega arith, places-enough (given .0 .source-bounded), refl), λ row. no-rows 3456 16384 row))
+
+slice-aggregate-carry-by-4 : tie.Need-slice-aggregate-carry-by-4
+slice-aggregate-carry-by-4 c = search needs
+
+slice-aggregate-carry-by-5 : tie.Need-slice-aggregate-carry-by-5
+slice-aggregate-carry-by-5 c = search needs
+
+slice-aggregate-carry-by-6 : tie.Need-slice-aggregate-carry-by-6
+slice-aggregate-carry-by-6 c = search needs
+
+carry-by-requires-2 : tie.Need-carry-by-requires-2
+carry-by-requires-2 c κs = carriable (c .before .before .before .before .before .before .before .before .before .before .before .before .before .before .before .before .before .before .before .pre .0) (c .before .before .before .before .before .before .before .before .before .before .before .before .before .before .before .before .before .before .before .pre .1) (c .before .before .before .before .before .before .before .prepare-sized2 .ensures)
+
+same-length-2 : tie.Need-same-length-2
+same-length-2 c = search needs
+
+returns-2 : tie.Need-returns-2
+returns-2 c = carries-by (c .before .before .before .before .before .before .before .before .before .before .before .before .before .before .before .before .before .before .before .before .before .before .pre .0) (c .before .before .before .before .before .before .before .before .before .before .before .before .before .before .before .before .before .before .before .before .before .before .pre .1) (c .before .before .before .before .before .before .before .before .before .before .prepare-sized2 .ensures) (c .before .before .carry-by2 .ensures)
+
+slice-aggregate-prepare-sized-7 : tie.Need-slice-aggregate-prepare-sized-7
+slice-aggregate-prepare-sized-7 c = search needs
+
+slice-aggregate-prepare-sized-8 : tie.Need-slice-aggregate-prepare-sized-8
+slice-aggregate-prepare-sized-8 c = search needs
+
+slice-aggregate-prepare-sized-9 : tie.Need-slice-aggregate-prepare-sized-9
+slice-aggregate-prepare-sized-9 c = search needs
+
+prepare-sized-requires-3 : tie.Need-prepare-sized-requires-3
+prepare-sized-requires-3 c κs =
+    let given = c .before .before .before .before .before .before .before .before .before .before .before .pre in
+    (given .0, ((room-most _ _ _ (given .0 .source-bounded) (given .0 .target-bounded) (given .0 .paths-bounded .short), omega arith, places-enough (given .0 .source-bounded), refl), λ row. no-rows 3456 226304 row))
+
+slice-aggregate-carry-by-7 : tie.Need-slice-aggregate-carry-by-7
+slice-aggregate-carry-by-7 c = search needs
+
+slice-aggregate-carry-by-8 : tie.Need-slice-aggregate-carry-by-8
+slice-aggregate-carry-by-8 c = search needs
+
+slice-aggregate-carry-by-9 : tie.Need-slice-aggregate-carry-by-9
+slice-aggregate-carry-by-9 c = search needs
+
+carry-by-requires-3 : tie.Need-carry-by-requires-3
+carry-by-requires-3 c κs = carriable (c .before .before .before .before .before .before .before .before .before .before .before .before .before .before .before .before .before .before .before .pre .0) (c .before .before .before .before .before .before .before .before .before .before .before .before .before .before .before .before .before .before .before .pre .1) (c .before .before .before .before .before .before .before .prepare-sized3 .ensures)
+
+same-length-3 : tie.Need-same-length-3
+same-length-3 c = search needs
+
+returns-3 : tie.Need-returns-3
+returns-3 c = carries-by (c .before .before .before .before .before .before .before .before .before .before .before .before .before .before .before .before .before .before .before .before .before .before .pre .0) (c .before .before .before .before .before .before .before .before .before .before .before .before .before .before .before .before .before .before .before .before .before .before .pre .1) (c .before .before .before .before .before .before .before .before .before .before .prepare-sized3 .ensures) (c .before .before .carry-by3 .ensures)
 
 pub carry-spec : {M : Type 1} → statement M
 carry-spec =
     tie.close
     (tie.spec
-    measure-requires
-    returns
-    returns-2
-    returns-3
-    write-image-requires
+    room-requires
+    types-requires
+    is-small-requires
+    slice-aggregate-prepare-sized
+    slice-aggregate-prepare-sized-2
+    slice-aggregate-prepare-sized-3
+    prepare-sized-requires
+    slice-aggregate-carry-by
+    slice-aggregate-carry-by-2
+    slice-aggregate-carry-by-3
+    carry-by-requires
     same-length
-    returns-4)
+    returns
+    slice-aggregate-prepare-sized-4
+    slice-aggregate-prepare-sized-5
+    slice-aggregate-prepare-sized-6
+    prepare-sized-requires-2
+    slice-aggregate-carry-by-4
+    slice-aggregate-carry-by-5
+    slice-aggregate-carry-by-6
+    carry-by-requires-2
+    same-length-2
+    returns-2
+    slice-aggregate-prepare-sized-7
+    slice-aggregate-prepare-sized-8
+    slice-aggregate-prepare-sized-9
+    prepare-sized-requires-3
+    slice-aggregate-carry-by-7
+    slice-aggregate-carry-by-8
+    slice-aggregate-carry-by-9
+    carry-by-requires-3
+    same-length-3
+    returns-3)

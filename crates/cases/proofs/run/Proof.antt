@@ -3,212 +3,154 @@ use lib.Seq.{length-take-le}
 use mathlib.Core.Path.{sym}
 use Rattle.cases.proofs.run.Statement.{statement}
 use Rattle.cases.proofs.run.Tie as tie
-use Rattle.cases.proofs.run.Reads as reads
-use Rattle.cases.proofs.run.Lts as lts
-use Rattle.cases.proofs.answers_of.print.Reads as print-reads
-use Rattle.cases.proofs.documents.read.Reads as read-reads
-use Rattle.cases.proofs.documents.room.Reads as room-reads
-use Rattle.cases.proofs.write.Reads as write-reads
-use Rattle.lafindry.proofs.judging.lafindry_judge_embedding.Reads as lafindry-judge-embedding-reads
-use Rattle.lafindry.proofs.judging.lafindry_judge_table.Reads as lafindry-judge-table-reads
-use Rattle.lafindry.proofs.judging.lafindry_judge_tree.Reads as lafindry-judge-tree-reads
 
--- src/main.rt:25:9
 read-requires : tie.Need-read-requires
 read-requires c κs = search needs
 
--- src/main.rt:27:55
 slice-reshare-prefix-lafindry-judge-table : tie.Need-slice-reshare-prefix-lafindry-judge-table
 slice-reshare-prefix-lafindry-judge-table c = search needs
 
--- src/main.rt:27:55
 slice-aggregate-lafindry-judge-table : tie.Need-slice-aggregate-lafindry-judge-table
 slice-aggregate-lafindry-judge-table c = sym (length-take-le _ _ (c .before .before .before .before .read .ensures))
 
--- src/main.rt:27:15
 lafindry-judge-table-requires : tie.Need-lafindry-judge-table-requires
 lafindry-judge-table-requires c κs = search needs
 
--- src/main.rt:27:9
 print-requires : tie.Need-print-requires
 print-requires c κs = search needs
 
--- src/main.rt:28:9
 same-length : tie.Need-same-length
 same-length c = search needs
 
--- src/main.rt:28:9
 returns : tie.Need-returns
 returns c = search needs
 
--- src/main.rt:30:9
 read-requires-2 : tie.Need-read-requires-2
 read-requires-2 c κs = search needs
 
--- src/main.rt:32:54
 slice-reshare-prefix-lafindry-judge-tree : tie.Need-slice-reshare-prefix-lafindry-judge-tree
 slice-reshare-prefix-lafindry-judge-tree c = search needs
 
--- src/main.rt:32:54
 slice-aggregate-lafindry-judge-tree : tie.Need-slice-aggregate-lafindry-judge-tree
 slice-aggregate-lafindry-judge-tree c = sym (length-take-le _ _ (c .before .before .before .before .before .before .before .before .before .read .ensures))
 
--- src/main.rt:32:64
 slice-reshare-prefix-lafindry-judge-tree-2 : tie.Need-slice-reshare-prefix-lafindry-judge-tree-2
 slice-reshare-prefix-lafindry-judge-tree-2 c = search needs
 
--- src/main.rt:32:64
 slice-aggregate-lafindry-judge-tree-2 : tie.Need-slice-aggregate-lafindry-judge-tree-2
 slice-aggregate-lafindry-judge-tree-2 c = sym (length-take-le _ _ (c .before .before .before .before .before .read2 .ensures))
 
--- src/main.rt:32:15
 lafindry-judge-tree-requires : tie.Need-lafindry-judge-tree-requires
 lafindry-judge-tree-requires c κs = search needs
 
--- src/main.rt:32:9
 print-requires-2 : tie.Need-print-requires-2
 print-requires-2 c κs = search needs
 
--- src/main.rt:33:9
 same-length-2 : tie.Need-same-length-2
 same-length-2 c = search needs
 
--- src/main.rt:33:9
 same-length-3 : tie.Need-same-length-3
 same-length-3 c = search needs
 
--- src/main.rt:33:9
 returns-2 : tie.Need-returns-2
 returns-2 c = search needs
 
--- src/main.rt:35:9
 read-requires-3 : tie.Need-read-requires-3
 read-requires-3 c κs = search needs
 
--- src/main.rt:37:59
 slice-reshare-prefix-lafindry-judge-embedding :
     tie.Need-slice-reshare-prefix-lafindry-judge-embedding
 slice-reshare-prefix-lafindry-judge-embedding c = search needs
 
--- src/main.rt:37:59
 slice-aggregate-lafindry-judge-embedding : tie.Need-slice-aggregate-lafindry-judge-embedding
 slice-aggregate-lafindry-judge-embedding c = sym (length-take-le _ _ (c .before .before .before .before .before .before .before .before .before .before .before .before .before .before .read .ensures))
 
--- src/main.rt:37:69
 slice-reshare-prefix-lafindry-judge-embedding-2 :
     tie.Need-slice-reshare-prefix-lafindry-judge-embedding-2
 slice-reshare-prefix-lafindry-judge-embedding-2 c = search needs
 
--- src/main.rt:37:69
 slice-aggregate-lafindry-judge-embedding-2 : tie.Need-slice-aggregate-lafindry-judge-embedding-2
 slice-aggregate-lafindry-judge-embedding-2 c = sym (length-take-le _ _ (c .before .before .before .before .before .before .before .before .before .before .read2 .ensures))
 
--- src/main.rt:37:79
 slice-reshare-prefix-lafindry-judge-embedding-3 :
     tie.Need-slice-reshare-prefix-lafindry-judge-embedding-3
 slice-reshare-prefix-lafindry-judge-embedding-3 c = search needs
 
--- src/main.rt:37:79
 slice-aggregate-lafindry-judge-embedding-3 : tie.Need-slice-aggregate-lafindry-judge-embedding-3
 slice-aggregate-lafindry-judge-embedding-3 c = sym (length-take-le _ _ (c .before .before .before .before .before .before .read3 .ensures))
 
--- src/main.rt:37:15
 lafindry-judge-embedding-requires : tie.Need-lafindry-judge-embedding-requires
 lafindry-judge-embedding-requires c κs = search needs
 
--- src/main.rt:37:9
 print-requires-3 : tie.Need-print-requires-3
 print-requires-3 c κs = search needs
 
--- src/main.rt:38:9
 same-length-4 : tie.Need-same-length-4
 same-length-4 c = search needs
 
--- src/main.rt:38:9
 same-length-5 : tie.Need-same-length-5
 same-length-5 c = search needs
 
--- src/main.rt:38:9
 same-length-6 : tie.Need-same-length-6
 same-length-6 c = search needs
 
--- src/main.rt:38:9
 returns-3 : tie.Need-returns-3
 returns-3 c = search needs
 
--- src/main.rt:40:9
 read-requires-4 : tie.Need-read-requires-4
 read-requires-4 c κs = search needs
 
--- src/main.rt:41:9
 room-requires : tie.Need-room-requires
 room-requires c κs = search needs
 
--- src/main.rt:42:18
 slice-reshare-prefix-write : tie.Need-slice-reshare-prefix-write
 slice-reshare-prefix-write c = search needs
 
--- src/main.rt:42:18
 slice-aggregate-write : tie.Need-slice-aggregate-write
 slice-aggregate-write c = sym (length-take-le _ _ (c .before .before .before .before .before .before .before .before .before .before .before .before .before .before .before .before .before .before .before .before .read .ensures))
 
--- src/main.rt:42:28
 slice-reshare-prefix-write-2 : tie.Need-slice-reshare-prefix-write-2
 slice-reshare-prefix-write-2 c = search needs
 
--- src/main.rt:42:28
 slice-aggregate-write-2 : tie.Need-slice-aggregate-write-2
 slice-aggregate-write-2 c = sym (length-take-le _ _ (c .before .before .before .before .before .before .before .before .before .before .before .before .before .before .before .before .read2 .ensures))
 
--- src/main.rt:42:38
 slice-reshare-prefix-write-3 : tie.Need-slice-reshare-prefix-write-3
 slice-reshare-prefix-write-3 c = search needs
 
--- src/main.rt:42:38
 slice-aggregate-write-3 : tie.Need-slice-aggregate-write-3
 slice-aggregate-write-3 c = sym (length-take-le _ _ (c .before .before .before .before .before .before .before .before .before .before .before .before .read3 .ensures))
 
--- src/main.rt:42:48
 slice-reshare-prefix-write-4 : tie.Need-slice-reshare-prefix-write-4
 slice-reshare-prefix-write-4 c = search needs
 
--- src/main.rt:42:48
 slice-aggregate-write-4 : tie.Need-slice-aggregate-write-4
 slice-aggregate-write-4 c = sym (length-take-le _ _ (c .before .before .before .before .before .before .before .before .read4 .ensures))
 
--- src/main.rt:42:58
 slice-relend-prefix-write : tie.Need-slice-relend-prefix-write
 slice-relend-prefix-write c = search needs
 
--- src/main.rt:42:58
 slice-aggregate-write-5 : tie.Need-slice-aggregate-write-5
 slice-aggregate-write-5 c = sym (length-take-le _ _ (c .before .before .before .before .before .room .ensures))
 
--- src/main.rt:42:5
 write-requires : tie.Need-write-requires
 write-requires c κs = search needs
 
--- src/main.rt:24:1
 same-length-7 : tie.Need-same-length-7
 same-length-7 c = search needs
 
--- src/main.rt:24:1
 same-length-8 : tie.Need-same-length-8
 same-length-8 c = search needs
 
--- src/main.rt:24:1
 same-length-9 : tie.Need-same-length-9
 same-length-9 c = search needs
 
--- src/main.rt:24:1
 same-length-10 : tie.Need-same-length-10
 same-length-10 c = search needs
 
--- src/main.rt:24:1
 same-length-11 : tie.Need-same-length-11
 same-length-11 c = search needs
 
--- src/main.rt:24:1
 returns-4 : tie.Need-returns-4
 returns-4 c = search needs
 

@@ -1,42 +1,48 @@
--- `table_load::join` meets its contract: the place of the new member lies in the type's row.
-use mathlib.Core.Path.{refl}
+-- `join` meets its contract: the place of the new member lies in the type's row.
+use mathlib.Core.Path.{ap, _∙_}
+use mathlib.Core.List.{List}
+use Prim.Native.Nat.{ℕ, _+_, _*_}
+use lib.ListN.{set}
 use borrow.Author.Needs.{needs}
 use Rattle.table_load.proofs.join.Statement.{statement}
 use Rattle.table_load.proofs.join.Tie as tie
 
-element-copy-out-count : tie.Need-element-copy-out-count
-element-copy-out-count c = search needs
+-- src/lib.rt:53:9
+count-requires : tie.Need-count-requires
+count-requires c κs = search needs
 
-mul-place : tie.Need-mul-place
-mul-place c = search needs
+-- src/lib.rt:54:5
+set-member-requires : tie.Need-set-member-requires
+set-member-requires c κs = search needs
 
-cast-place : tie.Need-cast-place
-cast-place c = search needs
+-- src/lib.rt:55:25
+cast-set-count : tie.Need-cast-set-count
+cast-set-count c = search needs
 
-add-place : tie.Need-add-place
-add-place c = search needs
+-- src/lib.rt:55:25
+add-set-count : tie.Need-add-set-count
+add-set-count c = search needs
 
-element-write-members : tie.Need-element-write-members
-element-write-members c = search needs
+-- src/lib.rt:55:5
+set-count-requires : tie.Need-set-count-requires
+set-count-requires c κs = search needs
 
-add-counts : tie.Need-add-counts
-add-counts c = search needs
-
-element-write-counts : tie.Need-element-write-counts
-element-write-counts c = search needs
-
+-- src/lib.rt:49:1
 returns : tie.Need-returns
-returns c = (refl, refl)
+returns c =
+    let a = c .before .before .before .before .before .before .args in
+    let n = c .before .before .before .before .count in
+    c .set-count .ensures
+    ∙ ap (λ (l : List ℕ). set l (64 + a .t) (n .result + 1)) (c .before .before .set-member .ensures)
+    ∙ ap (λ (k : ℕ). set (set (a .table .now) (256 + (a .t * 16 + k)) (a .member)) (64 + a .t) (k + 1)) (n .ensures .0)
 
 pub join-spec : {M : Type 1} → statement M
 join-spec =
     tie.close
     (tie.spec
-    element-copy-out-count
-    mul-place
-    cast-place
-    add-place
-    element-write-members
-    add-counts
-    element-write-counts
+    count-requires
+    set-member-requires
+    cast-set-count
+    add-set-count
+    set-count-requires
     returns)

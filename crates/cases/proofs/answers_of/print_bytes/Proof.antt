@@ -3,10 +3,6 @@ use Prim.Native.Nat.{_≤_, _-_}
 use lib.ListN.{length}
 use Rattle.cases.proofs.answers_of.print_bytes.Statement.{statement}
 use Rattle.cases.proofs.answers_of.print_bytes.Tie as tie
-use Rattle.cases.proofs.answers_of.print_bytes.Reads as reads
-use Rattle.cases.proofs.answers_of.print_bytes.Lts as lts
-use Rattle.cases.proofs.answers_of.digit.Reads as digit-reads
-use Rattle.io.proofs.write_all.Reads as write-all-reads
 
 abbrev Inv-loop : tie.InvT-loop
 Inv-loop bytes i₀ i = i ≤ length bytes

@@ -3,14 +3,6 @@ use lib.Seq.{length-take-le}
 use mathlib.Core.Path.{sym}
 use Rattle.cases.proofs.answers_of.print_written.Statement.{statement}
 use Rattle.cases.proofs.answers_of.print_written.Tie as tie
-use Rattle.cases.proofs.answers_of.print_written.Reads as reads
-use Rattle.cases.proofs.answers_of.print_written.Lts as lts
-use Rattle.cases.proofs.answers_of.accepted.Reads as accepted-reads
-use Rattle.cases.proofs.answers_of.print_bytes.Reads as print-bytes-reads
-use Rattle.cases.proofs.answers_of.within.Reads as within-reads
-use Rattle.console.proofs.end_line.Reads as end-line-reads
-use Rattle.console.proofs.refused.Reads as refused-reads
-use Rattle.io.proofs.write_all.Reads as write-all-reads
 
 -- src/answers_of.rt:61:9
 accepted-requires : tie.Need-accepted-requires

@@ -3,10 +3,6 @@ use lib.Seq.{length-take-le}
 use mathlib.Core.Path.{sym}
 use Rattle.cases.proofs.documents.read.Statement.{statement}
 use Rattle.cases.proofs.documents.read.Tie as tie
-use Rattle.cases.proofs.documents.read.Reads as reads
-use Rattle.cases.proofs.documents.read.Lts as lts
-use Rattle.cases.proofs.documents.read_length.Reads as read-length-reads
-use Rattle.io.proofs.read_full.Reads as read-full-reads
 
 -- src/documents.rt:35:9
 read-length-requires : tie.Need-read-length-requires

@@ -2,7 +2,7 @@
 use borrow.Author.Needs.{needs}
 use mathlib.Core.Path.{sym, ap}
 use Rattle.model.specs.Definitions.Commands.{embeddingWidth}
-use Rattle.embedding_checks.specs.Commands.{command, widthOf}
+use Rattle.embedding_checks.specs.Commands.{widthOf}
 use Rattle.embedding_checks.proofs.command.width.Statement.{statement}
 use Rattle.embedding_checks.proofs.command.width.Tie as tie
 

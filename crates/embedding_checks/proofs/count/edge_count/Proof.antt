@@ -1,34 +1,37 @@
 -- `edge_count` meets its contract. The loop's invariant: the sum so far, at most 16 for each type passed, and the edges of the
 -- types to come make the whole.
-use mathlib.Core.Path.{_≡_}
+use mathlib.Core.Path.{_≡_, sym, _∙_}
 use Prim.Native.Nat.{_+_, _-_, _*_, _≤_}
 use native.Mathlib.Nat.{zero-add}
 use native.Mathlib.Omega.{arith}
-use lib.ListN.{drop}
-use Rattle.dtd.specs.Loaded.{tableIn}
+use lib.ListN.{length, drop}
+use Rattle.loaded_table.specs.Loaded.{tableBy, length-of}
 use Rattle.model.specs.Definitions.Entries.{edgeCount}
 use Rattle.embedding_checks.proofs.Counts.{count-on, count-end}
 use Rattle.embedding_checks.proofs.count.edge_count.Statement.{statement}
 use Rattle.embedding_checks.proofs.count.edge_count.Tie as tie
 
 abbrev Inv-loop : tie.InvT-loop
-Inv-loop types kinds counts members sum₀ t₀ sum t =
-    (t ≤ types) × (sum ≤ 16 * t) × (sum + edgeCount (drop t (tableIn types kinds counts members)) ≡ edgeCount (tableIn types kinds counts members))
+Inv-loop source types sum₀ t₀ sum t =
+    (types ≡ length (tableBy source)) × (t ≤ types) × (sum ≤ 16 * t) × (sum + edgeCount (drop t (tableBy source)) ≡ edgeCount (tableBy source))
 
 abbrev μ-loop : tie.MeasureT-loop
-μ-loop types kinds counts members sum₀ t₀ sum t = types - t
+μ-loop source types sum₀ t₀ sum t = types - t
+
+types-requires : tie.Need-types-requires Inv-loop μ-loop
+types-requires c κs = tt
 
 loop-holds : tie.Need-loop-holds Inv-loop μ-loop
-loop-holds c = (omega arith, omega arith, zero-add _)
+loop-holds c = (c .types .ensures .0 ∙ sym (length-of (c .before .args .source .now)), omega arith, omega arith, zero-add _)
 
 edges-of-requires : tie.Need-edges-of-requires Inv-loop μ-loop
-edges-of-requires c κs = let bounded = c .before .before .pre in (omega (arith, bounded .few-types), bounded .few-members (c .before .loop .t))
+edges-of-requires c κs = let pre = c .before .before .before .pre in (pre, omega (arith, c .loop-test .taken, c .before .before .types .ensures .0))
 
 add-sum : tie.Need-add-sum Inv-loop μ-loop
-add-sum c = omega (arith, c .before .before .before .pre .few-types)
+add-sum c = omega (arith, c .before .before .before .before .pre .few-types, c .before .before .before .types .ensures .0)
 
 add-t : tie.Need-add-t Inv-loop μ-loop
-add-t c = omega (arith, c .before .before .before .pre .few-types)
+add-t c = omega (arith, c .before .before .before .before .pre .few-types, c .before .before .before .types .ensures .0)
 
 loop-less : tie.Need-loop-less Inv-loop μ-loop
 loop-less c = omega arith
@@ -36,16 +39,15 @@ loop-less c = omega arith
 loop-again : tie.Need-loop-again Inv-loop μ-loop
 loop-again c =
     let here = c .before .before .loop in
-    let a = c .before .before .before .args in
     let few = c .edges-of .ensures .1 in (
+      here .inv .0,
       omega arith,
       omega arith,
-      count-on (a .types) (a .kinds .now) (a .counts .now) (a .members .now) (here .t) (here .sum) _ (c .edges-of .result) (c .before .loop-test .taken) (c .edges-of .ensures .0) (here .inv .2),
+      count-on (tableBy (c .before .before .before .before .args .source .now)) (here .t) (here .sum) _ (c .edges-of .result) (omega (arith, here .inv .0, c .before .loop-test .taken)) (c .edges-of .ensures .0) (here .inv .3),
     )
 
 returns : tie.Need-returns Inv-loop μ-loop
-returns c = let a = c .before .before .args in
-    count-end (a .types) (a .kinds .now) (a .counts .now) (a .members .now) (c .before .loop .t) _ _ (c .loop-test .left) (c .before .loop .inv .2)
+returns c = let here = c .before .loop in count-end (tableBy (c .before .before .before .args .source .now)) (here .t) _ _ (omega (arith, here .inv .0, c .loop-test .left)) (here .inv .3)
 
 pub edge-count-spec : {M : Type 1} → statement M
 edge-count-spec =
@@ -53,6 +55,7 @@ edge-count-spec =
     (tie.spec
     Inv-loop
     μ-loop
+    types-requires
     loop-holds
     edges-of-requires
     add-sum

@@ -1,60 +1,46 @@
 -- `edges_of` meets its contract: each arm knows the kind's code, and a row of members has room for all that are counted.
 use native.Mathlib.Omega.{arith}
 use Rattle.embedding_checks.proofs.Types.{text-edge, empty-edge, sequence-edges, choice-edges, list-edge}
-use borrow.Author.Needs.{needs}
 use Rattle.embedding_checks.proofs.edges.edges_of.Statement.{statement}
 use Rattle.embedding_checks.proofs.edges.edges_of.Tie as tie
 
-element-copy-out-kind : tie.Need-element-copy-out-kind
-element-copy-out-kind c = search needs
+kind-requires : tie.Need-kind-requires
+kind-requires c κs = omega (arith, c .pre .1, c .pre .0 .few-types)
 
-element-copy-out-result : tie.Need-element-copy-out-result
-element-copy-out-result c = search needs
+count-requires : tie.Need-count-requires
+count-requires c κs = let start = c .before .before in omega (arith, start .pre .1, start .pre .0 .few-types)
 
-cast-result : tie.Need-cast-result
-cast-result c = search needs
-
-element-copy-out-result-2 : tie.Need-element-copy-out-result-2
-element-copy-out-result-2 c = search needs
-
-cast-result-2 : tie.Need-cast-result-2
-cast-result-2 c = search needs
+count-requires-2 : tie.Need-count-requires-2
+count-requires-2 c κs = let start = c .before .before in omega (arith, start .pre .1, start .pre .0 .few-types)
 
 returns : tie.Need-returns
-returns c = let a = c .before .before .before .args in
-    (text-edge (a .kinds .now) (a .counts .now) (a .members .now) (a .t) (c .match .keys1), omega arith)
+returns c = (text-edge (c .before .before .args .table .now) _ (c .before .before .pre .1) (c .before .kind .ensures .0) (c .match .keys1), omega arith)
 
 returns-2 : tie.Need-returns-2
-returns-2 c = let a = c .before .before .before .args in
-    (empty-edge (a .kinds .now) (a .counts .now) (a .members .now) (a .t) (c .match .keys2), omega arith)
+returns-2 c = (empty-edge (c .before .before .args .table .now) _ (c .before .before .pre .1) (c .before .kind .ensures .0) (c .match .keys2), omega arith)
 
 returns-3 : tie.Need-returns-3
 returns-3 c =
-    let entry = c .before .before .before .before in
-    let a = entry .args in
-    (sequence-edges (a .kinds .now) (a .counts .now) (a .members .now) (a .t) (c .before .before .before .rows .given .0) (entry .pre .0) (entry .pre .1) (c .before .match .keys3), entry .pre .1)
+    let pre = c .before .before .before .pre in
+    (sequence-edges (c .before .before .before .args .table .now) _ (pre .1) (c .before .before .kind .ensures .0) (pre .0) (c .count .ensures .0) (c .before .match .keys3), rw (c .count .ensures .0) (pre .0 .few-members (c .before .before .before .args .t)))
 
 returns-4 : tie.Need-returns-4
 returns-4 c =
-    let entry = c .before .before .before .before in
-    let a = entry .args in
-    (choice-edges (a .kinds .now) (a .counts .now) (a .members .now) (a .t) (c .before .before .before .rows .given .0) (entry .pre .0) (entry .pre .1) (c .before .match .keys4), entry .pre .1)
+    let pre = c .before .before .before .pre in
+    (choice-edges (c .before .before .before .args .table .now) _ (pre .1) (c .before .before .kind .ensures .0) (pre .0) (c .count2 .ensures .0) (c .before .match .keys4), rw (c .count2 .ensures .0) (pre .0 .few-members (c .before .before .before .args .t)))
 
 returns-5 : tie.Need-returns-5
 returns-5 c =
-    let a = c .before .before .before .args in
     let rest = c .match .rest in
-    (list-edge (a .kinds .now) (a .counts .now) (a .members .now) (a .t) (rest .0 .0 .0 .1) (rest .0 .0 .1) (rest .0 .1) (rest .1), omega arith)
+    (list-edge (c .before .before .args .table .now) _ (c .before .before .pre .1) (c .before .kind .ensures .0) (rest .0 .0 .0 .1) (rest .0 .0 .1) (rest .0 .1) (rest .1), omega arith)
 
 pub edges-of-spec : {M : Type 1} → statement M
 edges-of-spec =
     tie.close
     (tie.spec
-    element-copy-out-kind
-    element-copy-out-result
-    cast-result
-    element-copy-out-result-2
-    cast-result-2
+    kind-requires
+    count-requires
+    count-requires-2
     returns
     returns-2
     returns-3

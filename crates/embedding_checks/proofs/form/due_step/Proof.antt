@@ -15,8 +15,8 @@ on-type-requires c κs = search needs
 enum-told-2 : tie.Need-enum-told-2
 enum-told-2 c = search needs
 
-sub-t12 : tie.Need-sub-t12
-sub-t12 c = search needs
+sub-t9 : tie.Need-sub-t9
+sub-t9 c = search needs
 
 enum-told-3 : tie.Need-enum-told-3
 enum-told-3 c = search needs
@@ -58,7 +58,7 @@ due-step-spec =
     enum-told
     on-type-requires
     enum-told-2
-    sub-t12
+    sub-t9
     enum-told-3
     enum-told-4
     on-end-requires

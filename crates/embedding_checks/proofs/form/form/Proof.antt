@@ -4,7 +4,7 @@ use Prim.Native.Nat.{_-_}
 use native.Mathlib.Omega.{arith}
 use borrow.Author.Needs.{needs}
 use lib.ListN.{length}
-use Rattle.dtd.specs.Loaded.{tableIn}
+use Rattle.loaded_table.specs.Loaded.{tableBy}
 use Rattle.model.specs.Definitions.Basics.{pick}
 use Rattle.model.specs.Definitions.EmbeddingChecks.{embeddingStep, embeddingComplete, embeddingForm}
 use Rattle.embedding_checks.specs.States.{formState, formNext}
@@ -14,11 +14,11 @@ use Rattle.embedding_checks.proofs.form.form.Statement.{statement}
 use Rattle.embedding_checks.proofs.form.form.Tie as tie
 
 abbrev Inv-loop : tie.InvT-loop
-Inv-loop types kinds counts members e at₀ state₀ at state =
-    Runs embeddingStep embeddingComplete (embeddingForm (tableIn types kinds counts members) e) e (formState (tableIn types kinds counts members) state) at
+Inv-loop table e at₀ state₀ at state =
+    Runs embeddingStep embeddingComplete (embeddingForm (tableBy table) e) e (formState (tableBy table) state) at
 
 abbrev μ-loop : tie.MeasureT-loop
-μ-loop types kinds counts members e at₀ state₀ at state = length e - at
+μ-loop table e at₀ state₀ at state = length e - at
 
 loop-holds : tie.Need-loop-holds Inv-loop μ-loop
 unfolding embeddingForm

@@ -1,5 +1,6 @@
 -- `on_type` meets its contract: what the machine does at a type's command, by whether an edge is due and whether a type is next.
 use native.Mathlib.Omega.{arith}
+use Rattle.loaded_table.specs.Loaded.{tableBy, length-of}
 use Rattle.embedding_checks.proofs.Forms.{type-early, type-next, type-none}
 use borrow.Author.Needs.{needs}
 use Rattle.embedding_checks.proofs.form.on_type.Statement.{statement}
@@ -8,21 +9,25 @@ use Rattle.embedding_checks.proofs.form.on_type.Tie as tie
 returns : tie.Need-returns
 returns c = λ on t. type-early _ on _ t (c .if1 .taken)
 
-edges-of-requires : tie.Need-edges-of-requires
-edges-of-requires c κs = let bounded = c .before .before .pre in (omega (arith, bounded .few-types), bounded .few-members (c .before .before .args .s))
+types-requires : tie.Need-types-requires
+types-requires c κs = search needs
 
-add-t9 : tie.Need-add-t9
-add-t9 c = search needs
+edges-of-requires : tie.Need-edges-of-requires
+edges-of-requires c κs = let start = c .before .before .before in (start .pre, omega (arith, c .if2 .taken, c .before .types .ensures .0))
+
+add-t7 : tie.Need-add-t7
+add-t7 c = search needs
 
 returns-2 : tie.Need-returns-2
 returns-2 c = λ on t.
-    let a = c .before .before .before .args in
-    type-next (a .types) (a .kinds .now) (a .counts .now) (a .members .now) (a .s) on (a .due) t _ (c .before .before .if1 .left) (c .before .if2 .taken) (c .edges-of .ensures .0)
+    let told = c .before .before .types .ensures .0 in
+    type-next (tableBy (c .before .before .before .before .args .source .now)) _ on _ t _ (c .before .before .before .if1 .left) (omega (arith, told, length-of (c .before .before .before .before .args .source .now), c .before .if2 .taken)) (c .edges-of .ensures .0)
 
 returns-3 : tie.Need-returns-3
 returns-3 c = λ on t.
-    let a = c .before .before .args in
-    type-none (a .types) (a .kinds .now) (a .counts .now) (a .members .now) (a .s) on (a .due) t (c .before .if1 .left) (c .if2 .left)
+    let told = c .before .types .ensures .0 in
+    type-none (tableBy (c .before .before .before .args .source .now)) (c .before .before .before .args .s) on _ t (c .before .before .if1 .left) (omega (arith, told, length-of (c .before .before .before .args .source .now), c .if2 .left))
 
 pub on-type-spec : {M : Type 1} → statement M
-on-type-spec = tie.close (tie.spec returns edges-of-requires add-t9 returns-2 returns-3)
+on-type-spec =
+    tie.close (tie.spec returns types-requires edges-of-requires add-t7 returns-2 returns-3)

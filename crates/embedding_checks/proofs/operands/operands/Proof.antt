@@ -6,7 +6,7 @@ use Prim.Native.Nat.{_-_}
 use native.Mathlib.Omega.{arith}
 use borrow.Author.Needs.{needs}
 use lib.ListN.{length}
-use Rattle.dtd.specs.Loaded.{tableIn, length-in}
+use Rattle.loaded_table.specs.Loaded.{tableBy, length-of}
 use Rattle.model.specs.Definitions.Basics.{pick}
 use Rattle.model.specs.Definitions.EmbeddingChecks.{pathStep, embeddingOperands}
 use Rattle.embedding_checks.specs.States.{reached, reachNext}
@@ -17,12 +17,12 @@ use Rattle.embedding_checks.proofs.operands.operands.Statement.{stateme
 use Rattle.embedding_checks.proofs.operands.operands.Tie as tie
 
 abbrev Inv-loop : tie.InvT-loop
-Inv-loop types kinds counts members e at₀ start₀ here₀ at start here =
-    Runs (pathStep (tableIn types kinds counts members)) (λ r. true) (embeddingOperands (tableIn types kinds counts members) e) e (reached start here) at
-    × InTable (tableIn types kinds counts members) (reached start here)
+Inv-loop table e at₀ start₀ here₀ at start here =
+    Runs (pathStep (tableBy table)) (λ r. true) (embeddingOperands (tableBy table) e) e (reached start here) at
+    × InTable (tableBy table) (reached start here)
 
 abbrev μ-loop : tie.MeasureT-loop
-μ-loop types kinds counts members e at₀ start₀ here₀ at start here = length e - at
+μ-loop table e at₀ start₀ here₀ at start here = length e - at
 
 loop-holds : tie.Need-loop-holds Inv-loop μ-loop
 unfolding embeddingOperands
@@ -35,7 +35,7 @@ command-at-requires c κs = search needs
 path-step-requires : tie.Need-path-step-requires Inv-loop μ-loop
 path-step-requires c κs =
     let a = c .before .before .before .before .args in
-    (c .before .before .before .before .pre .0, rw (length-in (a .types) (a .kinds .now) (a .counts .now) (a .members .now)) at (c .before .before .loop .inv .1 .now-in))
+    (c .before .before .before .before .pre .0, rw (length-of (a .target .now)) at (c .before .before .loop .inv .1 .now-in))
 
 enum-known-s : tie.Need-enum-known-s Inv-loop μ-loop
 enum-known-s c = search needs
@@ -46,7 +46,7 @@ width-requires c κs = search needs
 loop-again : tie.Need-loop-again Inv-loop μ-loop
 loop-again c =
     let a = c .before .before .before .before .before .before .before .before .before .args in
-    let table = tableIn (a .types) (a .kinds .now) (a .counts .now) (a .members .now) in
+    let table = tableBy (a .target .now) in
     let turned = c .before .before .before .before .before .before in
     let onward = sym (c .before .before .before .before .path-step .ensures) ∙ ap reachNext (c .before .before .s .given .1) in (
       turn (pathStep table) (λ r. true) (reach-stops table) (turned .before .loop .inv .0) (turned .loop-test .taken) (c .before .before .before .before .before .command-at .ensures) _ (c .width .ensures) onward,
@@ -59,7 +59,7 @@ add-at c = let within = loop-again c .0 .within in omega arith
 loop-less : tie.Need-loop-less Inv-loop μ-loop
 loop-less c =
     let a = c .before .before .before .before .before .before .before .before .before .args in
-    let table = tableIn (a .types) (a .kinds .now) (a .counts .now) (a .members .now) in
+    let table = tableBy (a .target .now) in
     let turned = c .before .before .before .before .before .before in
     less (pathStep table) (λ r. true) (reach-stops table) (turned .before .loop .inv .0) (turned .loop-test .taken) (c .before .before .before .before .before .command-at .ensures) (c .width .ensures)
 
@@ -69,7 +69,7 @@ enum-told c = search needs
 returns : tie.Need-returns Inv-loop μ-loop
 returns c =
     let a = c .before .before .before .before .before .before .before .args in
-    let table = tableIn (a .types) (a .kinds .now) (a .counts .now) (a .members .now) in
+    let table = tableBy (a .target .now) in
     let turned = c .before .before .before .before in
     refusal (pathStep table) (λ r. true) (reach-stops table) (turned .before .loop .inv .0) (turned .loop-test .taken) (c .before .before .before .command-at .ensures)
     (sym (c .before .before .path-step .ensures) ∙ ap reachNext (c .enum-told .given .1))
@@ -78,7 +78,7 @@ returns-2 : tie.Need-returns-2 Inv-loop μ-loop
 unfolding pick
 returns-2 c =
     let a = c .before .before .before .args in
-    let table = tableIn (a .types) (a .kinds .now) (a .counts .now) (a .members .now) in
+    let table = tableBy (a .target .now) in
     finish (pathStep table) (λ r. true) (reach-stops table) (c .before .loop .inv .0) (c .loop-test .left)
 
 pub operands-spec : {M : Type 1} → statement M

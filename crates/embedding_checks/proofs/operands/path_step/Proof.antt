@@ -1,6 +1,7 @@
 -- `path_step` meets its contract, by cases on the command and on where a step goes.
 use mathlib.Core.Path.{sym, ap, _∙_}
 use native.Mathlib.Omega.{arith}
+use Rattle.loaded_table.specs.Loaded.{tableBy, length-of}
 use Rattle.embedding_checks.specs.States.{stepped}
 use Rattle.embedding_checks.proofs.Machines.{reach-stops}
 use Rattle.embedding_checks.proofs.Paths.{maps-known, maps-unknown, path-again, end-stays, step-taken, step-missing}
@@ -14,16 +15,26 @@ enum-known-c c = search needs
 cast-if1 : tie.Need-cast-if1
 cast-if1 c = search needs
 
+types-requires : tie.Need-types-requires
+types-requires c κs = search needs
+
+cast-t13 : tie.Need-cast-t13
+cast-t13 c = search needs
+
+cast-t14 : tie.Need-cast-t14
+cast-t14 c = search needs
+
 enum-told : tie.Need-enum-told
 enum-told c = search needs
 
 enum-known-c-2 : tie.Need-enum-known-c-2
 enum-known-c-2 c = search needs
 
+cast-step-from : tie.Need-cast-step-from
+cast-step-from c = search needs
+
 step-from-requires : tie.Need-step-from-requires
-step-from-requires c κs =
-    let bounded = c .before .before .before .pre .0 in
-    (omega (arith, bounded .few-types), bounded .few-members (c .before .before .before .args .here))
+step-from-requires c κs = c .before .before .before .pre
 
 enum-known-m : tie.Need-enum-known-m
 enum-known-m c = search needs
@@ -38,34 +49,26 @@ enum-told-4 : tie.Need-enum-told-4
 enum-told-4 c = search needs
 
 returns : tie.Need-returns
-returns c = let a = c .before .before .before .before .args in
-    rw (c .before .before .c .given .1) (maps-known (a .types) (a .kinds .now) (a .counts .now) (a .members .now) (a .start) (a .here) _ (c .if1 .taken))
+returns c = rw (c .before .before .before .c .given .1) (maps-known (tableBy (c .before .before .before .before .before .args .target .now)) _ _ _ (omega (arith, c .if1 .taken, c .before .types .ensures .0, length-of (c .before .before .before .before .before .args .target .now))))
 
 returns-2 : tie.Need-returns-2
-returns-2 c = let a = c .before .before .before .before .args in
-    rw (c .before .before .c .given .1) (maps-unknown (a .types) (a .kinds .now) (a .counts .now) (a .members .now) (a .start) (a .here) _ (c .if1 .left))
+returns-2 c = rw (c .before .before .before .c .given .1) (maps-unknown (tableBy (c .before .before .before .before .before .args .target .now)) _ _ _ (omega (arith, c .if1 .left, c .before .types .ensures .0, length-of (c .before .before .before .before .before .args .target .now))))
 
 returns-3 : tie.Need-returns-3
-returns-3 c = let a = c .before .before .args in
-    rw (c .enum-told .given .1) (path-again (a .types) (a .kinds .now) (a .counts .now) (a .members .now) (a .start) (a .here))
+returns-3 c = rw (c .enum-told .given .1) (path-again (tableBy (c .before .before .args .target .now)) _ _)
 
 returns-4 : tie.Need-returns-4
 returns-4 c =
-    let entry = c .before .before .before .before .before .before .before in
-    let a = entry .args in
     rw (c .before .before .before .before .before .c2 .given .1)
-    (step-taken (a .types) (a .kinds .now) (a .counts .now) (a .members .now) (a .start) (a .here) _ _ (entry .pre .1) (sym (ap stepped (c .before .m .given .1)) ∙ c .before .before .before .step-from .ensures))
+    (step-taken (tableBy (c .before .before .before .before .before .before .before .args .target .now)) _ _ _ _ (sym (ap stepped (c .before .m .given .1)) ∙ c .before .before .before .step-from .ensures))
 
 returns-5 : tie.Need-returns-5
 returns-5 c =
-    let entry = c .before .before .before .before .before .before in
-    let a = entry .args in
     rw (c .before .before .before .before .c2 .given .1)
-    (step-missing (a .types) (a .kinds .now) (a .counts .now) (a .members .now) (a .start) (a .here) _ (entry .pre .1) (sym (ap stepped (c .enum-told2 .given .1)) ∙ c .before .before .step-from .ensures))
+    (step-missing (tableBy (c .before .before .before .before .before .before .args .target .now)) _ _ _ (sym (ap stepped (c .enum-told2 .given .1)) ∙ c .before .before .step-from .ensures))
 
 returns-6 : tie.Need-returns-6
-returns-6 c = let a = c .before .before .args in
-    rw (c .enum-told3 .given .1) (end-stays (a .types) (a .kinds .now) (a .counts .now) (a .members .now) (a .start) (a .here))
+returns-6 c = rw (c .enum-told3 .given .1) (end-stays (tableBy (c .before .before .args .target .now)) _ _)
 
 returns-7 : tie.Need-returns-7
 returns-7 c = rw (c .enum-told4 .given .1) (sym (reach-stops _ _))
@@ -76,8 +79,12 @@ path-step-spec =
     (tie.spec
     enum-known-c
     cast-if1
+    types-requires
+    cast-t13
+    cast-t14
     enum-told
     enum-known-c-2
+    cast-step-from
     step-from-requires
     enum-known-m
     enum-told-2

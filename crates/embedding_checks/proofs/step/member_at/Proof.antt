@@ -1,5 +1,8 @@
 -- `member_at` meets its contract: a row of members has room for all that are counted, so member p stands at p - 1.
-use Rattle.embedding_checks.proofs.Types.{member-none, member-there, member-past}
+use mathlib.Core.Path.{ap, _∙_}
+use mathlib.Core.Option.{some}
+use native.Mathlib.Omega.{arith}
+use Rattle.embedding_checks.proofs.Types.{member-none, member-there, member-past, members-whole}
 use borrow.Author.Needs.{needs}
 use Rattle.embedding_checks.proofs.step.member_at.Statement.{statement}
 use Rattle.embedding_checks.proofs.step.member_at.Tie as tie
@@ -7,39 +10,27 @@ use Rattle.embedding_checks.proofs.step.member_at.Tie as tie
 returns : tie.Need-returns
 returns c = member-none _ _ (c .if1 .taken)
 
-element-copy-out-if2 : tie.Need-element-copy-out-if2
-element-copy-out-if2 c = search needs
+count-requires : tie.Need-count-requires
+count-requires c κs = search needs
 
-mul-i : tie.Need-mul-i
-mul-i c = search needs
+sub-member : tie.Need-sub-member
+sub-member c = search needs
 
-sub-i : tie.Need-sub-i
-sub-i c = search needs
-
-add-i : tie.Need-add-i
-add-i c = search needs
-
-shared-slice-read-t16 : tie.Need-shared-slice-read-t16
-shared-slice-read-t16 c = search needs
+member-requires : tie.Need-member-requires
+member-requires c κs =
+    let pre = c .before .before .before .pre in
+    (pre .1, omega (arith, c .if2 .taken, c .before .before .if1 .left, c .before .count .ensures .0, pre .0 .few-members (c .before .before .before .args .t)))
 
 returns-2 : tie.Need-returns-2
 returns-2 c =
-    let entry = c .before .before .before .before .before in
-    let a = entry .args in
-    member-there (a .members .now) (a .t) _ (a .p) (c .before .rows .given .0) (entry .pre .0) (entry .pre .1) (c .before .before .before .before .if1 .left) (c .before .before .if2 .taken)
+    let start = c .before .before .before .before in
+    let pre = start .pre in
+    ap some (c .member .ensures .0)
+    ∙ member-there _ _ _ _ (members-whole (start .args .table .now) (pre .0)) (pre .1) (pre .0 .few-members (start .args .t)) (c .before .before .before .if1 .left) (rw (c .before .before .count .ensures .0) at (c .before .if2 .taken))
 
 returns-3 : tie.Need-returns-3
-returns-3 c = member-past _ _ _ (c .if2 .left)
+returns-3 c = member-past _ _ _ (rw (c .before .count .ensures .0) at (c .if2 .left))
 
 pub member-at-spec : {M : Type 1} → statement M
 member-at-spec =
-    tie.close
-    (tie.spec
-    returns
-    element-copy-out-if2
-    mul-i
-    sub-i
-    add-i
-    shared-slice-read-t16
-    returns-2
-    returns-3)
+    tie.close (tie.spec returns count-requires sub-member member-requires returns-2 returns-3)

@@ -4,8 +4,6 @@ use mathlib.Core.Path.{ap}
 use native.Mathlib.Omega.{arith}
 use Rattle.scanning.proofs.spans.close_of.Statement.{statement}
 use Rattle.scanning.proofs.spans.close_of.Tie as tie
-use Rattle.scanning.proofs.spans.close_of.Reads as reads
-use Rattle.scanning.proofs.spans.close_of.Lts as lts
 
 -- src/spans.rt:59:12
 mul-result : tie.Need-mul-result

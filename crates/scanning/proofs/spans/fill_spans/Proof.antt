@@ -5,9 +5,6 @@ use borrow.Author.Needs.{needs}
 use native.Mathlib.Omega.{arith}
 use Rattle.scanning.proofs.spans.fill_spans.Statement.{statement}
 use Rattle.scanning.proofs.spans.fill_spans.Tie as tie
-use Rattle.scanning.proofs.spans.fill_spans.Reads as reads
-use Rattle.scanning.proofs.spans.fill_spans.Lts as lts
-use Rattle.scanning.proofs.spans.span_at.Reads as span-at-reads
 
 abbrev Inv-loop : tie.InvT-loop
 Inv-loop tr spans₀ n o₀ spans o = Filled tr n o spans₀ spans

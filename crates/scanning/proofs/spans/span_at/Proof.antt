@@ -3,8 +3,6 @@ use Rattle.scanning.proofs.Spanning.{inside-within, behind-within, elem
 use native.Mathlib.Omega.{arith}
 use Rattle.scanning.proofs.spans.span_at.Statement.{statement}
 use Rattle.scanning.proofs.spans.span_at.Tie as tie
-use Rattle.scanning.proofs.spans.span_at.Reads as reads
-use Rattle.scanning.proofs.spans.span_at.Lts as lts
 
 -- src/spans.rt:17:26
 add-inside : tie.Need-add-inside

@@ -1,64 +1,19 @@
--- `join` meets its contract: in each arm the state is known.
+-- `join` meets its contract: the states of an arm move as it answers.
+use mathlib.Core.List.{[], _∷_}
 use borrow.Author.Needs.{needs}
-use Rattle.model.specs.Definitions.TableChecks.{tableMove}
+use Rattle.model.specs.Definitions.TableChecks.{joins, tableMove}
+use Rattle.table_checks.specs.Forms.{state}
+use Rattle.table_checks.proofs.Arms.{in-arm}
+use Rattle.table_checks.proofs.form.State.{enum}
 use Rattle.table_checks.proofs.form.join.Statement.{statement}
 use Rattle.table_checks.proofs.form.join.Tie as tie
 
-enum-told : tie.Need-enum-told
-enum-told c = c .match .keys1
-
-enum-told-2 : tie.Need-enum-told-2
-enum-told-2 c = c .match .keys2
-
-enum-told-3 : tie.Need-enum-told-3
-enum-told-3 c = c .match .keys3
-
-enum-told-4 : tie.Need-enum-told-4
-enum-told-4 c = c .match .keys4
-
-enum-told-5 : tie.Need-enum-told-5
-enum-told-5 c = c .match .keys5
-
-enum-told-6 : tie.Need-enum-told-6
-enum-told-6 c = c .match .keys6
-
-returns : tie.Need-returns
-unfolding tableMove
-returns c = rw (c .enum-told .given .1)
-
-returns-2 : tie.Need-returns-2
-unfolding tableMove
-returns-2 c = rw (c .enum-told2 .given .1)
-
-returns-3 : tie.Need-returns-3
-unfolding tableMove
-returns-3 c = rw (c .enum-told3 .given .1)
-
-returns-4 : tie.Need-returns-4
-unfolding tableMove
-returns-4 c = rw (c .enum-told4 .given .1)
-
-returns-5 : tie.Need-returns-5
-unfolding tableMove
-returns-5 c = rw (c .enum-told5 .given .1)
-
-returns-6 : tie.Need-returns-6
-unfolding tableMove
-returns-6 c = rw (c .enum-told6 .given .1)
-
 pub join-spec : {M : Type 1} → statement M
+unfolding tableMove
 join-spec =
     tie.close
     (tie.spec
-    enum-told
-    enum-told-2
-    enum-told-3
-    enum-told-4
-    enum-told-5
-    enum-told-6
-    returns
-    returns-2
-    returns-3
-    returns-4
-    returns-5
-    returns-6)
+    (λ c. c .match .keys1)
+    (λ c. rw (c .enum-told .given .1))
+    (λ c. in-arm enum (λ s. tableMove (state s) joins) _ (3 ∷ 4 ∷ []) (search needs) (c .before .args .s) (c .match .keys2))
+    (λ c. in-arm enum (λ s. tableMove (state s) joins) _ (0 ∷ 1 ∷ 5 ∷ []) (search needs) (c .before .args .s) (c .match .keys3)))

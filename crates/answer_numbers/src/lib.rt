@@ -1,0 +1,89 @@
+// An answer as five numbers, as paper 01 numbers refusals, documents and marks.
+ghost use mathlib.Core.Path.{_≡_};
+ghost use Rattle.model.specs.Definitions.Entries.{answerOf};
+ghost use Rattle.model.specs.Definitions.Entries as model;
+ghost use Rattle.answers.specs.Answers.{carriedResult, broughtResult};
+ghost use Rattle.answer_numbers.specs.Numbers.{numbers, ForFault};
+use answers::Brought;
+use answers::Carried;
+use answers::Fault;
+use codes::OUTPUT;
+use codes::TREE;
+
+// Fields that don't apply are 0; so is `refusal` where the input is accepted.
+#[repr(C)]
+pub struct Answer {
+    pub refusal: u64,
+    pub document: u64,
+    pub mark: u64,
+    pub value: u64,
+    pub filler: u64,
+}
+
+// The answer of acceptance.
+pub fn accepting(value: u64, filler: u64) -> Answer
+    ensures { λ r. ⌜ numbers r ≡ answerOf (model.accepted value filler) ⌝ }
+{
+    Answer {
+        refusal: 0,
+        document: 0,
+        mark: 0,
+        value,
+        filler,
+    }
+}
+
+// The answer of refusal by a number, a document and a mark.
+fn refusing(refusal: u64, document: u64, mark: u64) -> Answer
+    ensures { λ r. ⌜ numbers r ≡ record { refusal = refusal; document = document; mark = mark; value = 0; filler = 0 } ⌝ }
+{
+    Answer {
+        refusal,
+        document,
+        mark,
+        value: 0,
+        filler: 0,
+    }
+}
+
+// The answer for a fault of a document, which is given by its number.
+pub fn faulting(f: Fault, document: u64) -> Answer
+    ensures { λ r. ⌜ ForFault f document r ⌝ }
+{
+    match f {
+        Fault::TooLong => refusing(codes::TOO_LONG, document, 0),
+        Fault::BadForm(at) => refusing(codes::BAD_FORM, document, at as u64),
+        Fault::OverLimit(at) => refusing(codes::OVER_LIMIT, document, at as u64),
+        Fault::BadOperand(at) => refusing(codes::BAD_OPERAND, document, at as u64),
+        Fault::RepeatedMember(at) => refusing(codes::REPEATED_MEMBER, document, at as u64),
+        Fault::NoFiniteInstance(t) => refusing(codes::NO_FINITE_INSTANCE, document, t as u64),
+        Fault::RootMoved => refusing(codes::ROOT_MOVED, document, 0),
+        Fault::WrongEnd(at) => refusing(codes::WRONG_END, document, at as u64),
+        Fault::WrongSteps(at) => refusing(codes::WRONG_STEPS, document, at as u64),
+        Fault::PathClash(at) => refusing(codes::PATH_CLASH, document, at as u64),
+        Fault::Unexpected(at) => refusing(codes::UNEXPECTED, document, at as u64),
+    }
+}
+
+// The answer for each outcome of carrying.
+pub fn carried(c: Carried) -> Answer
+    ensures { λ r. ⌜ numbers r ≡ answerOf (carriedResult c) ⌝ }
+{
+    match c {
+        Carried::TooDeep => refusing(codes::IMAGE_TOO_DEEP, OUTPUT, 0),
+        Carried::TooLong => refusing(codes::IMAGE_TOO_LONG, OUTPUT, 0),
+        Carried::NoRoom => refusing(codes::OUTPUT_TOO_SHORT, OUTPUT, 0),
+        Carried::Written(length, filler) => accepting(length as u64, filler as u64),
+    }
+}
+
+// The answer for each outcome of bringing back.
+pub fn brought(b: Brought) -> Answer
+    ensures { λ r. ⌜ numbers r ≡ answerOf (broughtResult b) ⌝ }
+{
+    match b {
+        Brought::NoImage => refusing(codes::NO_IMAGE, TREE, 0),
+        Brought::NoRoom => refusing(codes::OUTPUT_TOO_SHORT, OUTPUT, 0),
+        Brought::Written(length) => accepting(length as u64, 0),
+    }
+}

@@ -1,0 +1,126 @@
+-- The children of a source element before the first of them is read, by the kind of its type.
+use mathlib.Core.Path.{_≡_, refl, sym, ap, _∙_}
+use mathlib.Core.List.{List}
+use mathlib.Core.Option.{none, some}
+use Prim.Native.Nat.{ℕ, zero, suc, _+_, _-_, _*_, _≤_, _<_}
+use native.Mathlib.Nat.{add-zero}
+use native.Mathlib.Numerals.{add-one}
+use native.Mathlib.Omega.{arith}
+use lib.ListN.{length, take, drop, getD}
+use Rattle.model.specs.Definitions.Table.{Kind, kindOf, edgesOf}
+use Rattle.model.specs.Definitions.Content.{Content}
+use Rattle.model.specs.Definitions.Embedding.{targetOf, pathsOf, Divided, divide}
+use Rattle.model.specs.Definitions.Image.{Setting, onlyPath}
+use Rattle.model.specs.Definitions.Inverse.{follow}
+use Rattle.loaded_table.specs.Loaded.{kindFrom, typesIn, kindsOf, countsOf, membersIn}
+use Rattle.loaded_embedding.specs.Loaded.{targetsOf, startsOf, lengthsOf, stepsFrom}
+use Rattle.loaded_setting.specs.Ready.{settingIn, Ready}
+use Rattle.scanning.specs.Finding.{Begins}
+use Rattle.paths.specs.declared.Cut.{Cut}
+use Rattle.paths.specs.Following.{Followable, Cuts, pathsFrom}
+use Rattle.paths.specs.Cutting.{before-follows, rest-follows}
+use Rattle.paths.specs.Edges.{target-is, paths-are, kind-is, is-sequence, is-choice, row-edges, is-list, list-edge-one, list-follows, list-less, list-member}
+use Rattle.children.specs.Parts.{Parts, done, broken, listParts, kindParts, childParts}
+use Rattle.children.specs.Cursors.{membersLeft, pathsLeft, LeftEdges, LeftChoice, LeftItems}
+
+module _ {source target map em : List ℕ} (ready : Ready source target map em) {σ : ℕ} (exists : σ < typesIn source) where
+  abbrev X : Setting
+  X = settingIn source target map em
+
+  abbrev count : ℕ
+  count = getD (countsOf source) σ 0
+
+  abbrev tau : ℕ
+  tau = getD (targetsOf map) σ 0
+
+  -- the children by the arrays
+  abbrev κ : Kind
+  κ = kindOf (X .source) σ
+
+  module _ (k : Content) where
+    abbrev whole : Parts
+    whole = childParts X σ k
+
+    parts-by : (kind : Kind) (n : ℕ) → κ ≡ kind → edgesOf κ ≡ n → whole ≡ kindParts (X .target) kind tau (pathsFrom em map (σ * 16) n) k
+    parts-by kind n is edges =
+        ap (λ (q : ℕ). kindParts (X .target) κ q (pathsOf (X .embedding) σ) k) (target-is ready exists)
+        ∙ ap (λ (l : List (List ℕ)). kindParts (X .target) κ tau l k) (paths-are ready exists ∙ ap (pathsFrom em map (σ * 16)) edges)
+        ∙ ap (λ (x : Kind). kindParts (X .target) x tau (pathsFrom em map (σ * 16) n) k) is
+
+    -- a text or an empty type has none
+    pub begin-none : getD (kindsOf source) σ 0 < 2 → whole ≡ done
+    begin-none low = ap (λ (x : Kind). kindParts (X .target) x (targetOf (X .embedding) σ) (pathsOf (X .embedding) σ) k) (kind-is ready exists) ∙ go (getD (kindsOf source) σ 0) low
+      where
+        go : (c : ℕ) → c < 2 → kindParts (X .target) (kindFrom c count (drop (σ * 16) (membersIn source))) (targetOf (X .embedding) σ) (pathsOf (X .embedding) σ) k ≡ done
+        go zero h = unfold kindParts in refl
+        go (suc zero) h = unfold kindParts in refl
+        go (suc (suc c)) h = absurd (omega arith)
+
+    -- all edges from edge 0 on
+    all-members : membersLeft source σ 0 ≡ take count (drop (σ * 16) (membersIn source))
+    all-members =
+        let left : count - 0 ≡ count = omega arith in
+        rw (left, add-zero (σ * 16))
+
+    all-paths : pathsLeft source map em σ 0 ≡ pathsFrom em map (σ * 16) count
+    all-paths =
+        let left : count - 0 ≡ count = omega arith in
+        rw (left, add-zero (σ * 16))
+
+    pub begin-sequence : getD (kindsOf source) σ 0 ≡ 2 → LeftEdges source target map em σ k 0 whole
+    unfolding kindParts
+    begin-sequence code =
+        record {
+          is-sequence = code;
+          high = omega arith;
+          are = parts-by _ count (is-sequence ready exists code) (row-edges ready exists (omega arith) (omega arith)) ∙ sym (rw (all-members, all-paths));
+        }
+
+    pub begin-choice : getD (kindsOf source) σ 0 ≡ 3 → LeftChoice source target map em σ k whole
+    unfolding kindParts
+    begin-choice code =
+        record { is-choice = code; are = parts-by _ count (is-choice ready exists code) (row-edges ready exists (omega arith) (omega arith)) ∙ sym (rw (all-members, all-paths)) }
+
+  -- a list, whose path is read from the arrays
+  module _ (code : 4 ≤ getD (kindsOf source) σ 0) {first steps τ : ℕ}
+      (is-first : first ≡ getD (startsOf map) (σ * 16) 0) (is-steps : steps ≡ getD (lengthsOf map) (σ * 16) 0) (is-target : τ ≡ tau) where
+    abbrev path : List ℕ
+    path = stepsFrom em (first + 2) steps
+
+    abbrev d : Divided
+    d = divide (X .target) τ path
+
+    pub list-path : Followable target em first steps τ
+    list-path = rw (is-first, is-steps, is-target) (list-follows ready exists code)
+
+    begin-parts : (k : Content) → childParts X σ k ≡ listParts (X .target) d (getD (membersIn source) (σ * 16) 0) (follow (X .target) τ (d .before) k)
+    unfolding kindParts pathsFrom onlyPath
+    begin-parts k = rw (is-first, is-steps, is-target) (parts-by k _ 1 (is-list ready exists code) (list-edge-one ready exists code))
+
+    module _ {r : Cut} (cut : Cuts em first steps d r) where
+      pub cut-less : r .depth < steps
+      cut-less = let less : length (d .before) < steps = rw (is-first, is-steps, is-target) (list-less ready exists code) in omega (arith, cut .depth)
+
+      pub list-before : Followable target em first (r .depth) τ
+      list-before = before-follows list-path cut
+
+      pub begin-lost : (k : Content) → follow (X .target) τ (stepsFrom em (first + 2) (r .depth)) k ≡ none → childParts X σ k ≡ broken
+      unfolding listParts
+      begin-lost k miss =
+          let gone : follow (X .target) τ (d .before) k ≡ none = rw (sym (cut .before)) miss in
+          begin-parts k ∙ rw gone
+
+      pub begin-items : (k : Content) {tr : List ℕ} {o : ℕ} → Begins tr o (follow (X .target) τ (stepsFrom em (first + 2) (r .depth)) k) → {m : ℕ} → m ≡ getD (membersIn source) (σ * 16 + 0) 0
+          → LeftItems source target em tr (record { at = o; item = r .item; start = first + 2 * (r .depth + 1); steps = steps - (r .depth + 1); child = m }) (childParts X σ k)
+      unfolding listParts
+      begin-items k found {m} is =
+          let here : follow (X .target) τ (d .before) k ≡ some (found .content) = rw (sym (cut .before)) (found .is) in
+          let child : m ≡ getD (membersIn source) (σ * 16) 0 = is ∙ ap (λ (i : ℕ). getD (membersIn source) i 0) (add-zero (σ * 16)) in
+          let next : r .depth + 1 ≡ suc (r .depth) = add-one (r .depth) in
+          record {
+            items = found .content;
+            there = found .there;
+            child-type = omega (arith, child, list-member ready exists code);
+            followable = rw next (rest-follows list-path cut cut-less);
+            are = begin-parts k ∙ rw (here, next, child, cut .item, cut .rest);
+          }

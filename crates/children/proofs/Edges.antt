@@ -1,0 +1,125 @@
+-- The next child of a sequence or a choice, by its edges.
+use mathlib.Core.Path.{_≡_, refl, _∙_}
+use mathlib.Core.List.{List, _∷_}
+use mathlib.Core.Option.{Option, none}
+use Prim.Native.Nat.{ℕ, suc, _+_, _-_, _*_, _≤_, _<_}
+use native.Mathlib.Omega.{arith}
+use lib.ListN.{drop, getD}
+use lib.Seq.{drop-cons}
+use Rattle.model.specs.Definitions.Content.{Content}
+use Rattle.loaded_table.specs.Loaded.{typesIn, kindsOf, countsOf, membersIn}
+use Rattle.loaded_embedding.specs.Loaded.{targetsOf, startsOf, lengthsOf}
+use Rattle.loaded_setting.specs.Ready.{Ready}
+use Rattle.scanning.specs.Scanning.{At}
+use Rattle.scanning.specs.Finding.{Begins}
+use Rattle.paths.specs.Following.{Followable, pathAt, pathsFrom}
+use Rattle.paths.specs.Edges.{small, members-long, few, row-follows, row-member}
+use Rattle.children.specs.declared.Cursor.the-variants as cursor
+use Rattle.children.specs.Parts.{Parts, done, broken, partOf, ifThere, memberParts, choiceParts}
+use Rattle.children.specs.Cursors.{membersLeft, pathsLeft, along, LeftEdges, LeftChoice, GivesOne}
+use Rattle.children.proofs.Finding.{part-none, part-some, there-none, there-some}
+
+-- the invariant of the loop over the edges of a choice: the paths before edge i are not there
+pub record Choosing (source target map em : List ℕ) (σ : ℕ) (tr : List ℕ) (from i : ℕ) : Type 0 where
+  pub left : (k : Content) (parts : Parts) → At tr from k → LeftChoice source target map em σ k parts
+      → parts ≡ choiceParts (along target map σ k) (membersLeft source σ i) (pathsLeft source map em σ i)
+
+module _ {source target map em : List ℕ} (ready : Ready source target map em) {σ : ℕ} (exists : σ < typesIn source) where
+  abbrev count : ℕ
+  count = getD (countsOf source) σ 0
+
+  abbrev F : Content → List ℕ → Option Content
+  F = along target map σ
+
+  abbrev ms : ℕ → List ℕ
+  ms = membersLeft source σ
+
+  abbrev ps : ℕ → List (List ℕ)
+  ps = pathsLeft source map em σ
+
+  -- an edge, and those after it
+  module _ (i : ℕ) (less : i < count) where
+    abbrev place : ℕ
+    place = σ * 16 + i
+
+    abbrev m : ℕ
+    m = getD (membersIn source) place 0
+
+    left-one : count - i ≡ suc (count - (i + 1))
+    left-one = omega arith
+
+    place-on : suc place ≡ σ * 16 + (i + 1)
+    place-on = omega arith
+
+    members-here : ms i ≡ m ∷ ms (i + 1)
+    members-here =
+        let first : drop place (membersIn source) ≡ m ∷ drop (suc place) (membersIn source) =
+        drop-cons (membersIn source) place 0 (omega (arith, small ready exists, few ready exists, members-long ready exists)) in
+        rw (left-one, first, place-on)
+
+    paths-here : ps i ≡ pathAt em map place ∷ ps (i + 1)
+    unfolding pathsFrom
+    paths-here = rw (left-one, place-on)
+
+    sequence-here : (k : Content) → memberParts (F k) (ms i) (ps i) ≡ partOf m (F k (pathAt em map place)) (memberParts (F k) (ms (i + 1)) (ps (i + 1)))
+    unfolding memberParts
+    sequence-here k = rw (members-here, paths-here)
+
+    choice-here : (k : Content) → choiceParts (F k) (ms i) (ps i) ≡ ifThere m (F k (pathAt em map place)) (choiceParts (F k) (ms (i + 1)) (ps (i + 1)))
+    unfolding choiceParts
+    choice-here k = rw (members-here, paths-here)
+
+  -- ---- a sequence
+  module _ {k : Content} {i : ℕ} {parts : Parts} (now : LeftEdges source target map em σ k i parts) where
+    pub edges-done : i ≡ count → parts ≡ done
+    unfolding memberParts pathsFrom
+    edges-done all = let none-left : count - i ≡ 0 = omega arith in now .are ∙ rw none-left
+
+    module _ (other : i ≡ count → ⊥) where
+      pub edges-less : i < count
+      edges-less = omega (arith, now .high)
+
+      pub edges-follow : Followable target em (getD (startsOf map) (σ * 16 + i) 0) (getD (lengthsOf map) (σ * 16 + i) 0) (getD (targetsOf map) σ 0)
+      edges-follow = row-follows ready exists (omega (arith, now .is-sequence)) (omega (arith, now .is-sequence)) i edges-less
+
+      pub edges-broken : F k (pathAt em map (σ * 16 + i)) ≡ none → parts ≡ broken
+      edges-broken e = now .are ∙ sequence-here i edges-less k ∙ part-none _ _ e
+
+      pub edges-one : {tr : List ℕ} {o : ℕ} → Begins tr o (F k (pathAt em map (σ * 16 + i)))
+          → GivesOne source target map em σ tr k (17 - i) (getD (membersIn source) (σ * 16 + i) 0) o (cursor.Edges (i + 1)) parts
+      edges-one found =
+          record {
+            inside = found .content;
+            rest = memberParts (F k) (ms (i + 1)) (ps (i + 1));
+            is = now .are ∙ sequence-here i edges-less k ∙ part-some _ _ (found .content) (found .is);
+            there = found .there;
+            on = record { is-sequence = now .is-sequence; high = omega (arith, edges-less); are = refl };
+            less = omega (arith, edges-less, few ready exists);
+            is-type = row-member ready exists (omega (arith, now .is-sequence)) (omega (arith, now .is-sequence)) i edges-less;
+          }
+
+  -- ---- a choice
+
+  pub choice-none : (k : Content) (i : ℕ) → count ≤ i → choiceParts (F k) (ms i) (ps i) ≡ broken
+  unfolding choiceParts pathsFrom
+  choice-none k i over = let none-left : count - i ≡ 0 = omega arith in rw none-left
+
+  module _ (code : getD (kindsOf source) σ 0 ≡ 3) (i : ℕ) (less : i < count) where
+    pub choice-follow : Followable target em (getD (startsOf map) (σ * 16 + i) 0) (getD (lengthsOf map) (σ * 16 + i) 0) (getD (targetsOf map) σ 0)
+    choice-follow = row-follows ready exists (omega arith) (omega arith) i less
+
+    pub choice-on : (k : Content) → F k (pathAt em map (σ * 16 + i)) ≡ none → choiceParts (F k) (ms i) (ps i) ≡ choiceParts (F k) (ms (i + 1)) (ps (i + 1))
+    choice-on k e = choice-here i less k ∙ there-none _ _ e
+
+    pub choice-one : {tr : List ℕ} {o : ℕ} {k : Content} {parts : Parts} → parts ≡ choiceParts (F k) (ms i) (ps i) → Begins tr o (F k (pathAt em map (σ * 16 + i)))
+        → GivesOne source target map em σ tr k 1 (getD (membersIn source) (σ * 16 + i) 0) o cursor.Last parts
+    choice-one {k = k} are found =
+        record {
+          inside = found .content;
+          rest = done;
+          is = are ∙ choice-here i less k ∙ there-some _ _ (found .content) (found .is);
+          there = found .there;
+          on = refl;
+          less = omega arith;
+          is-type = row-member ready exists (omega arith) (omega arith) i less;
+        }

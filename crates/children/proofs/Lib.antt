@@ -1,0 +1,6 @@
+pub mod Entering
+pub mod Onward
+pub mod Finding
+pub mod Edges
+pub mod Items
+pub mod Beginning

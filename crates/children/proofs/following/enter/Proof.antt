@@ -1,0 +1,47 @@
+-- `enter` meets its contract, by the code of the kind.
+use native.Mathlib.Omega.{arith}
+use borrow.Author.Needs.{needs}
+use Rattle.children.proofs.Entering.{enter-text, enter-empty, enter-sequence, enter-choice, enter-list}
+use Rattle.children.proofs.following.enter.Statement.{statement}
+use Rattle.children.proofs.following.enter.Tie as tie
+
+child-requires : tie.Need-child-requires
+child-requires c κs = (c .before .before .before .pre .0, search needs)
+
+cast-child-of-type : tie.Need-cast-child-of-type
+cast-child-of-type c = omega (arith, c .before .before .before .pre .1 .0)
+
+child-of-type-requires : tie.Need-child-of-type-requires
+child-of-type-requires c κs = search needs
+
+child-requires-2 : tie.Need-child-requires-2
+child-requires-2 c κs = (c .before .before .before .pre .0, search needs)
+
+returns : tie.Need-returns
+returns c = λ k a count row. enter-text _ _ _ k count row (c .match .keys1)
+
+returns-2 : tie.Need-returns-2
+returns-2 c = λ k a count row. enter-empty _ _ _ k count row (c .match .keys2)
+
+returns-3 : tie.Need-returns-3
+returns-3 c = λ k a count row. rw (enter-sequence _ _ _ k count row (c .before .match .keys3)) (c .child .ensures k a)
+
+returns-4 : tie.Need-returns-4
+returns-4 c = λ k a count row. rw (enter-choice _ _ _ k count row (c .before .match .keys4)) (c .child-of-type .ensures k a)
+
+returns-5 : tie.Need-returns-5
+returns-5 c = λ k a count row. rw (enter-list _ _ _ k count row (c .before .match .rest .0 .0 .0 .1) (c .before .match .rest .0 .0 .1) (c .before .match .rest .0 .1) (c .before .match .rest .1)) (c .child2 .ensures k a)
+
+pub enter-spec : {M : Type 1} → statement M
+enter-spec =
+    tie.close
+    (tie.spec
+    child-requires
+    cast-child-of-type
+    child-of-type-requires
+    child-requires-2
+    returns
+    returns-2
+    returns-3
+    returns-4
+    returns-5)

@@ -1,0 +1,81 @@
+-- Which children of a source element are still to be read, by a cursor.
+use mathlib.Core.Path.{_≡_}
+use mathlib.Core.List.{List}
+use mathlib.Core.Option.{Option}
+use Prim.Native.Nat.{ℕ, _+_, _-_, _*_, _≤_, _<_}
+use lib.ListN.{length, take, drop, getD}
+use Rattle.model.specs.Definitions.Content.{Content}
+use Rattle.model.specs.Definitions.Inverse.{follow}
+use Rattle.loaded_table.specs.Loaded.{typesIn, kindsOf, countsOf, membersIn, tableBy}
+use Rattle.loaded_embedding.specs.Loaded.{targetsOf, stepsFrom}
+use Rattle.paths.specs.Following.{Followable, pathsFrom}
+use Rattle.scanning.specs.Scanning.{At}
+use Rattle.children.specs.declared.Rest.{Rest}
+use Rattle.children.specs.declared.Cursor.{Cursor}
+use Rattle.children.specs.declared.Cursor.the-variants as cursor
+use Rattle.children.specs.declared.Part.{Part}
+use Rattle.children.specs.declared.Part.the-variants as given
+use Rattle.children.specs.Parts.{Parts, done, broken, part, memberParts, choiceParts, itemParts}
+
+-- ---- the children of an element of source type σ, whose image holds k
+
+-- its members from edge i on, and their paths
+abbrev pub membersLeft : List ℕ → ℕ → ℕ → List ℕ
+membersLeft source σ i = take (getD (countsOf source) σ 0 - i) (drop (σ * 16 + i) (membersIn source))
+
+abbrev pub pathsLeft : List ℕ → List ℕ → List ℕ → ℕ → ℕ → List (List ℕ)
+pathsLeft source map em σ i = pathsFrom em map (σ * 16 + i) (getD (countsOf source) σ 0 - i)
+
+-- what stands at the end of a path from the image
+abbrev pub along : List ℕ → List ℕ → ℕ → Content → List ℕ → Option Content
+along target map σ k path = follow (tableBy target) (getD (targetsOf map) σ 0) path k
+
+-- of a sequence those from edge i on are left
+pub record LeftEdges (source target map em : List ℕ) (σ : ℕ) (k : Content) (i : ℕ) (parts : Parts) : Type 0 where
+  pub is-sequence : getD (kindsOf source) σ 0 ≡ 2
+  pub high : i ≤ getD (countsOf source) σ 0
+  pub are : parts ≡ memberParts (along target map σ k) (membersLeft source σ i) (pathsLeft source map em σ i)
+
+-- the member of a choice is left
+pub record LeftChoice (source target map em : List ℕ) (σ : ℕ) (k : Content) (parts : Parts) : Type 0 where
+  pub is-choice : getD (kindsOf source) σ 0 ≡ 3
+  pub are : parts ≡ choiceParts (along target map σ k) (membersLeft source σ 0) (pathsLeft source map em σ 0)
+
+-- the items of the target list from an offset on are left
+pub record LeftItems (source target em tr : List ℕ) (r : Rest) (parts : Parts) : Type 0 where
+  pub items : Content
+  pub there : At tr (r .at) items
+  pub child-type : r .child < typesIn source
+  pub followable : Followable target em (r .start) (r .steps) (r .item)
+  pub are : parts ≡ itemParts (follow (tableBy target) (r .item) (stepsFrom em (r .start + 2) (r .steps))) (r .child) items
+
+-- a cursor tells which children are left
+abbrev pub Shows : List ℕ → List ℕ → List ℕ → List ℕ → ℕ → List ℕ → Content → Cursor → Parts → Type 0
+Shows source target map em σ tr k (cursor.Edges i) parts = LeftEdges source target map em σ k i parts
+Shows source target map em σ tr k cursor.Choice parts = LeftChoice source target map em σ k parts
+Shows source target map em σ tr k (cursor.Items r) parts = LeftItems source target em tr r parts
+Shows source target map em σ tr k cursor.Last parts = parts ≡ done
+Shows source target map em σ tr k cursor.Lost parts = parts ≡ broken
+
+-- a number that falls with each child
+abbrev pub weight : List ℕ → Cursor → ℕ
+weight tr (cursor.Edges i) = 17 - i
+weight tr cursor.Choice = 1
+weight tr (cursor.Items r) = 1 + (length tr - r .at)
+weight tr cursor.Last = 0
+weight tr cursor.Lost = 0
+
+-- the next child: its source type m, where what it is read from begins, and the cursor after it
+pub record GivesOne (source target map em : List ℕ) (σ : ℕ) (tr : List ℕ) (k : Content) (bound m o : ℕ) (then : Cursor) (parts : Parts) : Type 0 where
+  pub inside : Content
+  pub rest : Parts
+  pub is : parts ≡ part m inside rest
+  pub there : At tr o inside
+  pub on : Shows source target map em σ tr k then rest
+  pub less : weight tr then < bound
+  pub is-type : m < typesIn source
+
+abbrev pub Gives : List ℕ → List ℕ → List ℕ → List ℕ → ℕ → List ℕ → Content → ℕ → Part → Parts → Type 0
+Gives source target map em σ tr k bound (given.One m o then) parts = GivesOne source target map em σ tr k bound m o then parts
+Gives source target map em σ tr k bound given.Done parts = parts ≡ done
+Gives source target map em σ tr k bound given.Broken parts = parts ≡ broken

@@ -1,0 +1,4 @@
+pub mod Following
+pub mod Arrays
+pub mod ClashLaws
+pub mod Before

@@ -1,0 +1,174 @@
+-- Laws of a loop that makes one check after another, and the model's checks of types and of edges as such loops.
+use mathlib.Core.Path.{_≡_, refl, sym, ap, _∙_}
+use mathlib.Core.Bool.{Bool, true, false, not}
+use mathlib.Core.List.{List, [], _∷_}
+use Prim.Native.Nat.{ℕ, zero, suc, _+_, _-_, _≤_, _<_}
+use native.Mathlib.Nat.{sub-zero}
+use native.Mathlib.Numerals.{add-one}
+use native.Mathlib.Omega.{arith}
+use lib.ListN.{length, getD}
+use lib.Dec.{eqb}
+use Rattle.model.specs.Definitions.Basics.{Verdict, passes, fails, pick, orElse, some-of}
+use Rattle.model.specs.Definitions.Table.{Kind, text, empty, sequence, choice, list, Table, kindOf, edgesOf}
+use Rattle.model.specs.Definitions.Embedding.{Edge, TypeMap, Embedding, noMap, targetOf, endOf, leaves}
+use Rattle.model.specs.Definitions.EmbeddingChecks.{eachType, firstEdge, endsAt, endsAtText, endsOf, rightSteps, stepsOf, firstClash, clashesOf, clash, wrongEnd, wrongSteps, pathClash}
+use Rattle.model.specs.Theorems.Tools.{pick-true, pick-false}
+use Rattle.embedding_clash.specs.Edges.{noEdge, edgeOf, passed, clashesBelow, clashesAt}
+use Rattle.embedding_ends.specs.declared.checks.Check.{Check}
+use Rattle.embedding_ends.specs.declared.checks.Check.the-variants.{Ends, Steps, Clashes}
+use Rattle.embedding_ends.specs.Tests.{eachFrom, endRight, stepsRight, edgeRight, typeFault, firstFault}
+
+-- ---- a loop over checks i to n
+
+left-over : (n i : ℕ) → i < n → n - i ≡ suc (n - (i + 1))
+left-over n i h = omega arith
+
+none-left : (n i : ℕ) → n ≤ i → n - i ≡ 0
+none-left n i h = omega arith
+
+each-next : (check : ℕ → Verdict) (i n : ℕ) → i < n → eachFrom check i (n - i) ≡ orElse (check i) (eachFrom check (i + 1) (n - (i + 1)))
+unfolding eachFrom
+each-next check i n h =
+    ap (eachFrom check i) (left-over n i h) ∙ ap (λ (k : ℕ). orElse (check i) (eachFrom check k (n - (i + 1)))) (sym (add-one i))
+
+-- a check that passes leaves the verdict to those behind it
+pub each-passes : (check : ℕ → Verdict) (i n : ℕ) → i < n → check i ≡ passes → eachFrom check (i + 1) (n - (i + 1)) ≡ eachFrom check i (n - i)
+unfolding orElse
+each-passes check i n h e = sym (each-next check i n h ∙ ap (λ (v : Verdict). orElse v (eachFrom check (i + 1) (n - (i + 1)))) e)
+
+-- one that fails is the verdict
+pub each-fails : (check : ℕ → Verdict) (i n at : ℕ) → i < n → check i ≡ fails at → eachFrom check i (n - i) ≡ fails at
+unfolding orElse
+each-fails check i n at h e = each-next check i n h ∙ ap (λ (v : Verdict). orElse v (eachFrom check (i + 1) (n - (i + 1)))) e
+
+-- and after the last all have passed
+pub each-ends : (check : ℕ → Verdict) (i n : ℕ) → n ≤ i → eachFrom check i (n - i) ≡ passes
+unfolding eachFrom
+each-ends check i n h = ap (eachFrom check i) (none-left n i h)
+
+-- at the start all are left
+pub each-starts : (check : ℕ → Verdict) {n m : ℕ} → n ≡ m → eachFrom check 0 (n - 0) ≡ eachFrom check 0 m
+each-starts check {n} {m} e = ap (eachFrom check 0) (sub-zero n ∙ e)
+
+-- the verdict of one edge, by its test
+pub right-passes : {b : Bool} (at : ℕ) → b ≡ true → pick b passes (fails at) ≡ passes
+right-passes {b} at e = pick-true b passes (fails at) e
+
+pub wrong-fails : {b : Bool} {at place : ℕ} → b ≡ false → at ≡ place → pick b passes (fails at) ≡ fails place
+wrong-fails {b} {at} e q = pick-false b passes (fails at) e ∙ ap fails q
+
+-- ---- the model's checks as such loops
+
+each-shift : (check : ℕ → Verdict) (i k : ℕ) → eachFrom check (suc i) k ≡ eachFrom (λ (j : ℕ). check (suc j)) i k
+unfolding eachFrom
+each-shift check i zero = refl
+each-shift check i (suc k) = ap (orElse (check (suc i))) (each-shift check (suc i) k)
+
+-- the verdict of source type s
+abbrev pub typeVerdict : (Kind → TypeMap → Verdict) → Table → Embedding → ℕ → Verdict
+typeVerdict check S E s = check (kindOf S s) (getD E s noMap)
+
+-- every source type
+types-each : (check : Kind → TypeMap → Verdict) (S : Table) (E : Embedding) → length E ≡ length S
+    → eachType check S E ≡ eachFrom (typeVerdict check S E) 0 (length S)
+unfolding eachType eachFrom kindOf
+types-each check [] E h = refl
+types-each check (κ ∷ S) [] h = absurd (omega arith)
+types-each check (κ ∷ S) (f ∷ E) h =
+    ap (orElse (check κ f)) (types-each check S E (omega arith) ∙ sym (each-shift (λ (s : ℕ). check (kindOf (κ ∷ S) s) (getD (f ∷ E) s noMap)) 0 (length S)))
+
+pick-else : (b : Bool) (at : ℕ) (v : Verdict) → pick b v (fails at) ≡ orElse (pick b passes (fails at)) v
+unfolding pick orElse
+pick-else true at v = refl
+pick-else false at v = refl
+
+-- every edge, by a test of its own
+edges-each : (right : Edge → Bool) (es : List Edge)
+    → firstEdge right es ≡ eachFrom (λ (i : ℕ). pick (right (getD es i noEdge)) passes (fails (getD es i noEdge .at))) 0 (length es)
+unfolding firstEdge eachFrom
+edges-each right [] = refl
+edges-each right (e ∷ es) =
+    pick-else (right e) (e .at) (firstEdge right es)
+    ∙ ap (orElse (pick (right e) passes (fails (e .at))))
+    (edges-each right es ∙ sym (each-shift (λ (i : ℕ). pick (right (getD (e ∷ es) i noEdge)) passes (fails (getD (e ∷ es) i noEdge .at))) 0 (length es)))
+
+-- every edge, by its member
+members-each : (E : Embedding) (T : Table) (τ : ℕ) (ms : List ℕ) (es : List Edge) → length es ≡ length ms
+    → endsAt E T τ ms es
+    ≡ eachFrom (λ (i : ℕ). pick (eqb (endOf T τ (getD es i noEdge .steps)) (targetOf E (getD ms i 0))) passes (fails (getD es i noEdge .at))) 0 (length ms)
+unfolding endsAt eachFrom
+members-each E T τ [] es h = refl
+members-each E T τ (m ∷ ms) [] h = absurd (omega arith)
+members-each E T τ (m ∷ ms) (e ∷ es) h =
+    pick-else (eqb (endOf T τ (e .steps)) (targetOf E m)) (e .at) (endsAt E T τ ms es)
+    ∙ ap (orElse (pick (eqb (endOf T τ (e .steps)) (targetOf E m)) passes (fails (e .at))))
+    (members-each E T τ ms es (omega arith)
+    ∙ sym
+    (each-shift
+    (λ (i : ℕ). pick (eqb (endOf T τ (getD (e ∷ es) i noEdge .steps)) (targetOf E (getD (m ∷ ms) i 0))) passes (fails (getD (e ∷ es) i noEdge .at)))
+    0
+    (length ms)))
+
+-- check 8 of a type
+ends-each : (E : Embedding) (T : Table) (κ : Kind) (f : TypeMap) → length (f .edges) ≡ edgesOf κ
+    → endsOf E T κ f ≡ eachFrom (λ (i : ℕ). pick (endRight E T κ f i) passes (fails (edgeOf f i .at))) 0 (edgesOf κ)
+unfolding endsOf edgesOf endRight edgeOf endsAtText eachFrom
+ends-each E T text f h = edges-each (endsAtText T (f .target)) (f .edges) ∙ ap (eachFrom _ 0) h
+ends-each E T empty f h = refl
+ends-each E T (sequence ms) f h = members-each E T (f .target) ms (f .edges) h
+ends-each E T (choice ms) f h = members-each E T (f .target) ms (f .edges) h
+ends-each E T (list m) f h = members-each E T (f .target) (m ∷ []) (f .edges) h
+
+-- check 9 of a type
+steps-each : (T : Table) (κ : Kind) (f : TypeMap) → length (f .edges) ≡ edgesOf κ
+    → stepsOf T κ f ≡ eachFrom (λ (i : ℕ). pick (stepsRight T κ f i) passes (fails (edgeOf f i .at))) 0 (edgesOf κ)
+unfolding stepsOf stepsRight edgeOf
+steps-each T κ f h = edges-each (λ (d : Edge). rightSteps κ (leaves T (f .target) (d .steps))) (f .edges) ∙ ap (eachFrom _ 0) h
+
+-- ---- clashes of one type
+
+clash-else : (b : Bool) (at : ℕ) (v : Verdict) → pick b (fails at) v ≡ orElse (pick (not b) passes (fails at)) v
+unfolding pick orElse
+clash-else true at v = refl
+clash-else false at v = refl
+
+-- the verdict of edge i after others
+abbrev clashVerdict : Table → Kind → ℕ → List Edge → List Edge → ℕ → Verdict
+clashVerdict T κ τ earlier es i =
+    pick (not (some-of (λ (d : Edge). clash T κ τ (d .steps) (getD es i noEdge .steps)) (passed i es earlier))) passes (fails (getD es i noEdge .at))
+
+clashes-from : (T : Table) (κ : Kind) (τ : ℕ) (earlier es : List Edge)
+    → firstClash T κ τ earlier es ≡ eachFrom (clashVerdict T κ τ earlier es) 0 (length es)
+unfolding firstClash eachFrom passed
+clashes-from T κ τ earlier [] = refl
+clashes-from T κ τ earlier (e ∷ es) =
+    clash-else (some-of (λ (d : Edge). clash T κ τ (d .steps) (e .steps)) earlier) (e .at) (firstClash T κ τ (e ∷ earlier) es)
+    ∙ ap (orElse (pick (not (some-of (λ (d : Edge). clash T κ τ (d .steps) (e .steps)) earlier)) passes (fails (e .at))))
+    (clashes-from T κ τ (e ∷ earlier) es ∙ sym (each-shift (clashVerdict T κ τ earlier (e ∷ es)) 0 (length es)))
+
+-- check 10 of a type
+clashes-each : (T : Table) (κ : Kind) (f : TypeMap) → length (f .edges) ≡ edgesOf κ
+    → clashesOf T κ f ≡ eachFrom (λ (i : ℕ). pick (not (clashesAt T κ f i)) passes (fails (edgeOf f i .at))) 0 (edgesOf κ)
+unfolding clashesOf clashesAt clashesBelow edgeOf
+clashes-each T κ f h = clashes-from T κ (f .target) [] (f .edges) ∙ ap (eachFrom _ 0) h
+
+-- ---- the three checks
+
+-- the verdict of edge i
+abbrev pub edgeVerdict : Check → Embedding → Table → Kind → TypeMap → ℕ → Verdict
+edgeVerdict check E T κ f i = pick (edgeRight check E T κ f i) passes (fails (edgeOf f i .at))
+
+-- a check of a type goes through its edges
+pub type-each : (check : Check) (E : Embedding) (T : Table) (κ : Kind) (f : TypeMap) → length (f .edges) ≡ edgesOf κ
+    → typeFault check E T κ f ≡ eachFrom (edgeVerdict check E T κ f) 0 (edgesOf κ)
+type-each Ends E T κ f h = ends-each E T κ f h
+type-each Steps E T κ f h = steps-each T κ f h
+type-each Clashes E T κ f h = clashes-each T κ f h
+
+-- a check of all goes through the types
+pub all-each : (check : Check) (S T : Table) (E : Embedding) → length E ≡ length S
+    → firstFault check S T E ≡ eachFrom (typeVerdict (typeFault check E T) S E) 0 (length S)
+unfolding wrongEnd wrongSteps pathClash
+all-each Ends S T E h = types-each (typeFault Ends E T) S E h
+all-each Steps S T E h = types-each (typeFault Steps E T) S E h
+all-each Clashes S T E h = types-each (typeFault Clashes E T) S E h

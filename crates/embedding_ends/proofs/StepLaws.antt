@@ -1,0 +1,163 @@
+-- Check 9 for one path: the choices and lists that its steps leave decide.
+use mathlib.Core.Path.{_≡_, refl, sym, ap, _∙_}
+use mathlib.Core.Bool.{Bool, true, false, not, _||_}
+use mathlib.Core.List.{List, [], _∷_}
+use mathlib.Core.Option.{some}
+use Prim.Native.Nat.{ℕ, zero, suc, _+_, _*_, _<_}
+use native.Mathlib.Omega.{arith}
+use lib.ListN.{length, getD, take, drop}
+use lib.Dec.{ltb}
+use borrow.Author.Tests.{lt-ltb, le-ltb}
+use Rattle.model.specs.Definitions.Basics.{some-of}
+use Rattle.model.specs.Definitions.Table.{Kind, text, empty, sequence, choice, list, Table, kindOf, stepFrom, edgesOf, isSequence, isChoice, isList}
+use Rattle.model.specs.Definitions.Embedding.{next, leaves}
+use Rattle.loaded_embedding.specs.Loaded.{targetsOf, startsOf, lengthsOf, stepsFrom, edgeIn}
+use Rattle.model.specs.Definitions.EmbeddingChecks.{rightSteps, leavesOnly, sequenceOrList, sequenceOrChoice}
+use Rattle.model.specs.Theorems.Facts.{Walks, arrived, onward}
+use Rattle.loaded_table.specs.Loaded.{kindFrom, kindIn, tableBy, typesIn, kindsOf, countsOf, membersIn, kind-of}
+use Rattle.embedding_ends.specs.declared.steps.Left.{Left}
+use Rattle.embedding_clash.specs.Paths.{pathOf}
+use Rattle.embedding_clash.specs.Ready.{mapOf, Ready}
+use Rattle.embedding_clash.specs.Edges.{edgeOf}
+use Rattle.embedding_ends.specs.Tests.{stepsRight}
+use Rattle.embedding_clash.proofs.Arrays.{type-at, edge-at}
+use Rattle.embedding_ends.specs.Kinds.{withKind, rightBy, LeftAll}
+use Rattle.embedding_clash.proofs.Following.{steps-length, path-steps, StepAt, goes-on, none-from-text, none-from}
+
+-- ---- collecting
+
+or-true : (a : Bool) → (a || true) ≡ true
+or-true true = refl
+or-true false = refl
+
+or-false : (a : Bool) → (a || false) ≡ a
+or-false true = refl
+or-false false = refl
+
+more-choice : (code count : ℕ) (row : List ℕ) (left : Left) (b : Bool)
+    → (withKind left code .choice || b) ≡ (left .choice || (isChoice (kindFrom code count row) || b))
+unfolding isChoice
+more-choice zero count row left b = refl
+more-choice (suc zero) count row left b = refl
+more-choice (suc (suc zero)) count row left b = refl
+more-choice (suc (suc (suc zero))) count row left b = sym (or-true (left .choice))
+more-choice (suc (suc (suc (suc code)))) count row left b = refl
+
+more-list : (code count : ℕ) (row : List ℕ) (left : Left) (b : Bool)
+    → (withKind left code .list || b) ≡ (left .list || (isList (kindFrom code count row) || b))
+unfolding isList
+more-list zero count row left b = refl
+more-list (suc zero) count row left b = refl
+more-list (suc (suc zero)) count row left b = refl
+more-list (suc (suc (suc zero))) count row left b = refl
+more-list (suc (suc (suc (suc code)))) count row left b = sym (or-true (left .list))
+
+-- on the way along a path: what was collected, with what is left, is what the whole path leaves
+pub record Leaving (T : Table) (from : ℕ) (whole : List ℕ) (t : ℕ) (rest : List ℕ) (left : Left) : Type 0 where
+  pub walks : Walks T t rest
+  pub choices : (left .choice || some-of isChoice (leaves T t rest)) ≡ some-of isChoice (leaves T from whole)
+  pub lists : (left .list || some-of isList (leaves T t rest)) ≡ some-of isList (leaves T from whole)
+
+leaving-on : {T : Table} {from : ℕ} {whole : List ℕ} {t p : ℕ} {ps : List ℕ} {left : Left} → Leaving T from whole t (p ∷ ps) left
+    → (code count : ℕ) (row : List ℕ) → kindOf T t ≡ kindFrom code count row → Leaving T from whole (next T t p) ps (withKind left code)
+unfolding some-of leaves
+leaving-on {T} {t = t} {p} {ps} {left} w code count row e = record {
+  walks = goes-on (w .walks) .onwards;
+  choices = more-choice code count row left (some-of isChoice (leaves T (next T t p) ps)) ∙ (rw e at (w .choices));
+  lists = more-list code count row left (some-of isList (leaves T (next T t p) ps)) ∙ (rw e at (w .lists));
+}
+
+pub leaving-in : {target : List ℕ} {from : ℕ} {whole : List ℕ} {t p : ℕ} {ps : List ℕ} {left : Left}
+    → StepAt target t p → Leaving (tableBy target) from whole t (p ∷ ps) left
+    → Leaving (tableBy target) from whole (next (tableBy target) t p) ps (withKind left (getD (kindsOf target) t 0))
+leaving-in {target} {t = t} s w =
+    leaving-on w (getD (kindsOf target) t 0) (getD (countsOf target) t 0) (drop (t * 16) (membersIn target)) (kind-of target t (s .inside))
+
+pub leaving-ends : {T : Table} {from : ℕ} {whole : List ℕ} {t : ℕ} {rest : List ℕ} {left : Left} → Leaving T from whole t rest left → rest ≡ [] → LeftAll left T from whole
+unfolding some-of leaves
+leaving-ends {left = left} w e = record { choices = sym (or-false (left .choice)) ∙ (rw e at (w .choices)); lists = sym (or-false (left .list)) ∙ (rw e at (w .lists)) }
+
+-- ---- deciding
+
+-- a kind that a step leaves is none of a sequence and a list exactly where it is a choice, and so with the two changed
+not-choice : (κ : Kind) (p m : ℕ) → stepFrom κ p ≡ some m → not (sequenceOrList κ) ≡ isChoice κ
+unfolding sequenceOrList isSequence isList isChoice
+not-choice text p m e = absurd (none-from-text p m e)
+not-choice empty p m e = absurd (none-from p m e)
+not-choice (sequence ms) p m e = refl
+not-choice (choice ms) p m e = refl
+not-choice (list x) p m e = refl
+
+not-list : (κ : Kind) (p m : ℕ) → stepFrom κ p ≡ some m → not (sequenceOrChoice κ) ≡ isList κ
+unfolding sequenceOrChoice isSequence isList isChoice
+not-list text p m e = absurd (none-from-text p m e)
+not-list empty p m e = absurd (none-from p m e)
+not-list (sequence ms) p m e = refl
+not-list (choice ms) p m e = refl
+not-list (list x) p m e = refl
+
+-- two tests that agree on kinds that steps leave agree on a path
+same-some : (f g : Kind → Bool) → ((κ : Kind) (p m : ℕ) → stepFrom κ p ≡ some m → f κ ≡ g κ)
+    → {T : Table} {τ : ℕ} {ps : List ℕ} → Walks T τ ps → some-of f (leaves T τ ps) ≡ some-of g (leaves T τ ps)
+unfolding some-of leaves
+same-some f g same arrived = refl
+same-some f g same {T} {τ} (onward {p = p} {ps} e w) =
+    ap (λ (b : Bool). b || some-of f (leaves T (next T τ p) ps)) (same (kindOf T τ) p (next T τ p) e)
+    ∙ ap (λ (b : Bool). g (kindOf T τ) || b) (same-some f g same w)
+
+-- so a path leaves nothing else than sequences and lists exactly where it leaves no choice
+only-lists : {T : Table} {τ : ℕ} {ps : List ℕ} → Walks T τ ps → leavesOnly sequenceOrList (leaves T τ ps) ≡ not (some-of isChoice (leaves T τ ps))
+unfolding leavesOnly
+only-lists w = ap not (same-some (λ (κ : Kind). not (sequenceOrList κ)) isChoice not-choice w)
+
+-- and nothing else than sequences and choices exactly where it leaves no list
+only-choices : {T : Table} {τ : ℕ} {ps : List ℕ} → Walks T τ ps → leavesOnly sequenceOrChoice (leaves T τ ps) ≡ not (some-of isList (leaves T τ ps))
+unfolding leavesOnly
+only-choices w = ap not (same-some (λ (κ : Kind). not (sequenceOrChoice κ)) isList not-list w)
+
+-- it leaves something exactly where it has steps
+some-step : (T : Table) (τ : ℕ) (ps : List ℕ) → some-of (λ (κ : Kind). true) (leaves T τ ps) ≡ ltb 0 (length ps)
+unfolding some-of leaves
+some-step T τ [] = sym (le-ltb 0 0 (omega arith))
+some-step T τ (p ∷ ps) = sym (lt-ltb 0 (suc (length ps)) (omega arith))
+
+-- the decision from what was collected is the model's
+pub right-by : {T : Table} {τ : ℕ} {ps : List ℕ} {left : Left} → Walks T τ ps → LeftAll left T τ ps
+    → (code count : ℕ) (row : List ℕ) → rightBy code left (length ps) ≡ rightSteps (kindFrom code count row) (leaves T τ ps)
+unfolding rightSteps
+right-by w l zero count row = rw (l .choices, only-lists w)
+right-by w l (suc zero) count row = refl
+right-by {T} {τ} {ps} w l (suc (suc zero)) count row = rw (l .choices, only-lists w, some-step T τ ps)
+right-by w l (suc (suc (suc zero))) count row = rw (l .choices, l .lists, only-choices w)
+right-by w l (suc (suc (suc (suc code)))) count row = rw (l .choices, l .lists, only-lists w)
+
+module _ {source target em map : List ℕ}
+    (r : Ready source target em map)
+    (s i : ℕ) (hs : s < typesIn source) (hi : i < edgesOf (kindOf (tableBy source) s)) where
+  -- the kinds that an edge leaves in the model
+  same-leaves : leaves (tableBy target)
+      (mapOf source em map s .target)
+      (edgeOf (mapOf source em map s) i .steps)
+      ≡ leaves (tableBy target) (getD (targetsOf map) s 0) (stepsFrom em (getD (startsOf map) (s * 16 + i) 0 + 2) (getD (lengthsOf map) (s * 16 + i) 0))
+  unfolding edgeIn
+  same-leaves = rw (edge-at r s i hs hi .edge-is, type-at r s hs .target-is)
+
+  -- what the code decides of an edge
+  pub edge-right : {left : Left} {kind from count : ℕ} {path : List ℕ} → kind ≡ getD (kindsOf source) s 0 → from ≡ getD (targetsOf map) s 0 → count ≡ getD (lengthsOf map) (s * 16 + i) 0
+      → path ≡ pathOf em map (s * 16 + i)
+      → LeftAll left (tableBy target) from (take count path)
+      → rightBy kind left count
+      ≡ stepsRight (tableBy target) (kindOf (tableBy source) s)
+      (mapOf source em map s) i
+  unfolding stepsRight
+  edge-right {left} {count = count} {path} ek ef ec ep l =
+      let all : LeftAll left (tableBy target) (getD (targetsOf map) s 0) (stepsFrom em (getD (startsOf map) (s * 16 + i) 0 + 2) (getD (lengthsOf map) (s * 16 + i) 0)) =
+      rw (ef, ec, ep, path-steps em (getD (startsOf map) (s * 16 + i) 0) (getD (lengthsOf map) (s * 16 + i) 0)) at l in
+      let decided : rightBy (getD (kindsOf source) s 0) left (length (stepsFrom em (getD (startsOf map) (s * 16 + i) 0 + 2) (getD (lengthsOf map) (s * 16 + i) 0)))
+      ≡ rightSteps (kindIn (kindsOf source) (countsOf source) (membersIn source) s)
+      (leaves (tableBy target) (getD (targetsOf map) s 0) (stepsFrom em (getD (startsOf map) (s * 16 + i) 0 + 2) (getD (lengthsOf map) (s * 16 + i) 0))) =
+      right-by (edge-at r s i hs hi .walks) all (getD (kindsOf source) s 0) (getD (countsOf source) s 0) (drop (s * 16) (membersIn source)) in
+      ap (λ (k : ℕ). rightBy k left count) ek
+      ∙ ap (rightBy (getD (kindsOf source) s 0) left) (ec ∙ sym (steps-length em (getD (startsOf map) (s * 16 + i) 0 + 2) (getD (lengthsOf map) (s * 16 + i) 0)))
+      ∙ decided
+      ∙ rw (same-leaves, type-at r s hs .kind-is)

@@ -1,0 +1,107 @@
+-- The loop's invariant: the verdict of the edges that are left is the verdict of all.
+use mathlib.Core.Path.{_≡_, sym, _∙_}
+use Prim.Native.Nat.{_-_, _≤_, _<_}
+use native.Mathlib.Omega.{arith}
+use borrow.Author.Tests.{not-true, not-false}
+use Rattle.loaded_table.specs.Loaded.{tableBy}
+use Rattle.loaded_embedding.specs.Loaded.{embeddingBy}
+use Rattle.model.specs.Definitions.Table.{kindOf, edgesOf}
+use Rattle.embedding_clash.specs.Ready.{mapOf}
+use Rattle.embedding_clash.proofs.Arrays.{TypeAt, EdgeAt, type-at, edge-at}
+use Rattle.embedding_ends.specs.Tests.{eachFrom, typeFault}
+use Rattle.embedding_ends.proofs.Each.{edgeVerdict, each-starts, each-passes, each-fails, each-ends, right-passes, wrong-fails, type-each}
+use Rattle.embedding_ends.proofs.checks.type_fault.Statement.{statement}
+use Rattle.embedding_ends.proofs.checks.type_fault.Tie as tie
+
+abbrev Inv-loop : tie.InvT-loop
+Inv-loop check source target em map s n paths i₀ i =
+    (i ≤ n) × (eachFrom (edgeVerdict check (embeddingBy em (tableBy source) map) (tableBy target) (kindOf (tableBy source) s) (mapOf source em map s)) i (n - i) ≡ typeFault check (embeddingBy em (tableBy source) map) (tableBy target) (kindOf (tableBy source) s) (mapOf source em map s))
+
+abbrev μ-loop : tie.MeasureT-loop
+μ-loop check source target em map s n paths i₀ i = n - i
+
+-- what is known of the source type
+type-here : (c : tie.Start Inv-loop μ-loop) → TypeAt (c .args .source .now) (c .args .target .now) (c .args .em .now) (c .args .map .now) (c .args .s)
+type-here c = type-at (c .pre .0) _ (c .pre .1)
+
+edges-of-requires : tie.Need-edges-of-requires Inv-loop μ-loop
+edges-of-requires c κs = let pre = c .before .pre in (pre .0 .source-bounded, pre .1)
+
+mul-paths-of : tie.Need-mul-paths-of Inv-loop μ-loop
+mul-paths-of c = omega (arith, type-here (c .before .before) .few)
+
+paths-of-requires : tie.Need-paths-of-requires Inv-loop μ-loop
+paths-of-requires c κs = let start = c .before .before in (start .pre .0 .paths-bounded, (c .edges-of .ensures .1, omega (arith, c .edges-of .ensures .1, type-here start .few)))
+
+loop-holds : tie.Need-loop-holds Inv-loop μ-loop
+loop-holds c =
+    let start = c .before .before .before in
+    let a = start .args in
+    let all = type-each (a .check) (embeddingBy (a .em .now) (tableBy (a .source .now)) (a .map .now)) (tableBy (a .target .now)) (kindOf (tableBy (a .source .now)) (a .s)) (mapOf (a .source .now) (a .em .now) (a .map .now) (a .s)) (type-here start .edges-due) in
+    (omega arith, each-starts _ (c .before .edges-of .ensures .0) ∙ sym all)
+
+-- the entry of the function, seen from the loop
+abbrev startOf : tie.In-loop Inv-loop μ-loop → tie.Start Inv-loop μ-loop
+startOf c = c .before .before .before .before .before
+
+-- the edge at hand is one of the type's, and what is known of it
+inside : (c : tie.In-loop Inv-loop μ-loop) → c .before .loop .i < edgesOf (kindOf (tableBy (startOf c .args .source .now)) (startOf c .args .s))
+inside c = rw (c .before .before .before .edges-of .ensures .0) at (c .loop-test .taken)
+
+edge-here : (c : tie.In-loop Inv-loop μ-loop)
+    → EdgeAt (startOf c .args .source .now) (startOf c .args .target .now) (startOf c .args .em .now) (startOf c .args .map .now) (startOf c .args .s) (c .before .loop .i)
+edge-here c = edge-at (startOf c .pre .0) _ _ (startOf c .pre .1) (inside c)
+
+edge-right-requires : tie.Need-edge-right-requires Inv-loop μ-loop
+edge-right-requires c κs =
+    let start = startOf (c .before) in
+    record { ready = start .pre .0; type-exists = start .pre .1; edge-exists = inside (c .before); stored = rw (c .before .before .before .before .edges-of .ensures .0) at (c .before .before .before .paths-of .ensures) }
+
+mul-start : tie.Need-mul-start Inv-loop μ-loop
+mul-start c = omega (arith, type-here (startOf (c .before .before .before)) .few)
+
+add-start : tie.Need-add-start Inv-loop μ-loop
+add-start c = omega (arith, edge-here (c .before .before .before) .inside)
+
+start-requires : tie.Need-start-requires Inv-loop μ-loop
+start-requires c κs = edge-here (c .before .before .before) .inside
+
+returns : tie.Need-returns Inv-loop μ-loop
+returns c =
+    let here = c .before .before .before .before in
+    sym (each-fails _ _ _ _ (here .loop-test .taken) (wrong-fails (sym (c .before .before .edge-right .ensures) ∙ not-true _ (c .before .if1 .taken)) (edge-here here .mark-is ∙ sym (c .start .ensures .0))))
+    ∙ here .before .loop .inv .1
+
+add-i : tie.Need-add-i Inv-loop μ-loop
+add-i c = omega (arith, c .before .before .before .loop-test .taken, type-here (startOf (c .before .before .before)) .at-most)
+
+loop-less : tie.Need-loop-less Inv-loop μ-loop
+loop-less c = omega arith
+
+loop-again : tie.Need-loop-again Inv-loop μ-loop
+loop-again c =
+    let here = c .before .before .before in
+    (omega arith, each-passes _ _ _ (here .loop-test .taken) (right-passes _ (sym (c .before .edge-right .ensures) ∙ not-false _ (c .if1 .left))) ∙ here .before .loop .inv .1)
+
+returns-2 : tie.Need-returns-2 Inv-loop μ-loop
+returns-2 c = sym (each-ends _ _ _ (c .loop-test .left)) ∙ c .before .loop .inv .1
+
+pub type-fault-spec : {M : Type 1} → statement M
+type-fault-spec =
+    tie.close
+    (tie.spec
+    Inv-loop
+    μ-loop
+    edges-of-requires
+    mul-paths-of
+    paths-of-requires
+    loop-holds
+    edge-right-requires
+    mul-start
+    add-start
+    start-requires
+    returns
+    add-i
+    loop-less
+    loop-again
+    returns-2)

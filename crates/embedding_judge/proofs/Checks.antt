@@ -1,0 +1,116 @@
+-- From the verdicts of the checks, in order, to the judgement.
+use mathlib.Core.Path.{_≡_, refl, sym, ap, _∙_, subst}
+use mathlib.Core.Bool.{true, false}
+use mathlib.Core.List.{List}
+use Prim.Native.Nat.{ℕ, _≤_, _<_}
+use native.Mathlib.Omega.{arith}
+use lib.ListN.{length, getD}
+use borrow.Author.Tests.{le-leb, lt-leb}
+use Rattle.embedding_judge.specs.Judging.{pathChecks, Judgeable, EmbeddingJudged}
+use Rattle.answers.specs.Answers.{verdict, fault, judged}
+use Rattle.answers.specs.declared.Verdict.{Verdict}
+use Rattle.answers.specs.declared.Fault.{Fault}
+use Rattle.answers.specs.declared.Judged.{Judged}
+use Rattle.loaded_table.specs.Loaded.{tableBy, length-of}
+use Rattle.loaded_embedding.specs.Loaded.{embeddingBy}
+use Rattle.embedding_clash.specs.Ready.{Ready}
+use Rattle.embedding_load.specs.Loading.{LoadedAs}
+use Rattle.model.specs.Definitions.Basics as model
+use Rattle.model.specs.Definitions.Basics.{passes, fails}
+use Rattle.model.specs.Definitions.Table.{Table}
+use Rattle.model.specs.Definitions.Embedding.{Edge, Embedding, noMap, targetOf, embeddingOf}
+use Rattle.model.specs.Definitions.EmbeddingChecks.{embeddingForm, embeddingLimits, embeddingOperands, rootToRoot, wrongEnd, wrongSteps, pathClash}
+use Rattle.model.specs.Definitions.Refusals as refusals
+use Rattle.model.specs.Definitions.Refusals.{sound, has, faultAt, faultUnless, fits, maxLength}
+use Rattle.model.specs.Definitions.Entries.{judgedEmbedding}
+use Rattle.model.specs.Theorems.Facts.{All, Walks}
+use Rattle.model.specs.Theorems.JudgedEmbeddings.{paths-walk}
+
+-- a fault is no acceptance
+has-sound : {X : Type 0} {f : refusals.Fault} {j : refusals.Judged} → j ≡ has f → j ≡ sound → X
+has-sound {f = f} {j} p q = let z : _≡_ {A = ℕ} 0 1 = cc in absurd (omega arith)
+
+-- the model's verdict, where the code's is known
+pub verdict-is : (v : Verdict) {w m : model.Verdict} → verdict v ≡ w → (x : Verdict) → v ≡ x → verdict x ≡ m → w ≡ m
+verdict-is v p x q e = sym p ∙ ap verdict q ∙ e
+
+-- ---- checks 7 to 10
+
+module _ (S T : Table) (E : Embedding) where
+  pub root-moved : rootToRoot E ≡ false → judged (Judged.Has Fault.RootMoved) ≡ pathChecks S T E
+  unfolding pathChecks faultUnless
+  root-moved e = sym (rw e refl)
+
+  pub ends-wrong : (at : ℕ) → rootToRoot E ≡ true → wrongEnd S T E ≡ fails at → judged (Judged.Has (Fault.WrongEnd at)) ≡ pathChecks S T E
+  unfolding pathChecks faultUnless faultAt
+  ends-wrong at r e = sym (rw (r, e) refl)
+
+  pub steps-wrong : (at : ℕ) → rootToRoot E ≡ true → wrongEnd S T E ≡ passes → wrongSteps S T E ≡ fails at → judged (Judged.Has (Fault.WrongSteps at)) ≡ pathChecks S T E
+  unfolding pathChecks faultUnless faultAt
+  steps-wrong at r e f = sym (rw (r, e, f) refl)
+
+  pub paths-clash : (at : ℕ) → rootToRoot E ≡ true → wrongEnd S T E ≡ passes → wrongSteps S T E ≡ passes → pathClash S T E ≡ fails at → judged (Judged.Has (Fault.PathClash at)) ≡ pathChecks S T E
+  unfolding pathChecks faultUnless faultAt
+  paths-clash at r e f g = sym (rw (r, e, f, g) refl)
+
+  pub paths-right : rootToRoot E ≡ true → wrongEnd S T E ≡ passes → wrongSteps S T E ≡ passes → pathClash S T E ≡ passes → judged Judged.Sound ≡ pathChecks S T E
+  unfolding pathChecks faultUnless faultAt
+  paths-right r e f g = sym (rw (r, e, f, g) refl)
+
+-- ---- all checks
+
+module _ (S T : Table) (bs map : List ℕ) where
+  refused : (f : Fault) → judgedEmbedding S T bs ≡ has (fault f) → EmbeddingJudged S T bs (Judged.Has f) map
+  refused f g = record { judgement = sym g; loaded = λ accepted. has-sound g accepted }
+
+  pub length-refused : 60000 < length bs → EmbeddingJudged S T bs (Judged.Has Fault.TooLong) map
+  unfolding judgedEmbedding faultUnless fits maxLength
+  length-refused long = refused Fault.TooLong (rw (lt-leb (length bs) 60000 long) refl)
+
+  module _ (short : length bs ≤ 60000) where
+    pub form-refused : (at : ℕ) → embeddingForm S bs ≡ fails at → EmbeddingJudged S T bs (Judged.Has (Fault.BadForm at)) map
+    unfolding judgedEmbedding faultUnless faultAt fits maxLength
+    form-refused at e = refused (Fault.BadForm at) (rw (le-leb (length bs) 60000 short, e) refl)
+
+    module _ (f : embeddingForm S bs ≡ passes) where
+      pub limit-refused : (at : ℕ) → embeddingLimits bs ≡ fails at → EmbeddingJudged S T bs (Judged.Has (Fault.OverLimit at)) map
+      unfolding judgedEmbedding faultUnless faultAt fits maxLength
+      limit-refused at e = refused (Fault.OverLimit at) (rw (le-leb (length bs) 60000 short, f, e) refl)
+
+      module _ (l : embeddingLimits bs ≡ passes) where
+        pub operand-refused : (at : ℕ) → embeddingOperands T bs ≡ fails at → EmbeddingJudged S T bs (Judged.Has (Fault.BadOperand at)) map
+        unfolding judgedEmbedding faultUnless faultAt fits maxLength
+        operand-refused at e = refused (Fault.BadOperand at) (rw (le-leb (length bs) 60000 short, f, l, e) refl)
+
+        -- after the first four checks those of the paths decide
+        pub paths-decide : (r : Judged) → embeddingOperands T bs ≡ passes → LoadedAs bs S map → judged r ≡ pathChecks S T (embeddingBy bs S map) → EmbeddingJudged S T bs r map
+        paths-decide r o loaded e =
+            record { judgement = e ∙ ap (pathChecks S T) (loaded .same-embedding) ∙ sym same; loaded = λ accepted. loaded }
+          where
+            same : judgedEmbedding S T bs ≡ pathChecks S T (embeddingOf bs)
+            same = unfold judgedEmbedding pathChecks faultUnless faultAt fits maxLength in rw (le-leb (length bs) 60000 short, f, l, o) refl
+
+-- what the path checks ask, once the operands are right
+pub paths-ready : {source target em map : List ℕ} → Judgeable source target → embeddingOperands (tableBy target) em ≡ passes → LoadedAs em (tableBy source) map
+    → Ready source target em map
+paths-ready {source} {target} {em} {map} h o loaded =
+    record {
+      source-bounded = h .source-bounded;
+      target-bounded = h .target-bounded;
+      paths-bounded = loaded .bounded;
+      source-formed = h .source-sound .well-formed;
+      target-formed = h .target-sound .well-formed;
+      walks = λ s exists. walks-at s .1;
+      targets-exist = λ s exists. subst (λ (n : ℕ). targetOf (embeddingBy em (tableBy source) map) s < n) (length-of target) (walks-at s .0);
+    }
+  where
+    T : Table
+    T = tableBy target
+
+    E : Embedding
+    E = embeddingBy em (tableBy source) map
+
+    walks-at : (s : ℕ) → (targetOf E s < length T) × All (λ (d : Edge). Walks T (targetOf E s) (d .steps)) (getD E s noMap .edges)
+    walks-at s =
+        subst (λ (F : Embedding). (targetOf F s < length T) × All (λ (d : Edge). Walks T (targetOf F s) (d .steps)) (getD F s noMap .edges)) (sym (loaded .same-embedding))
+        (paths-walk T em (h .target-sound .well-formed .has-root) o s)

@@ -1,0 +1,36 @@
+-- What judging an embedding answers.
+use mathlib.Core.Path.{_≡_}
+use mathlib.Core.List.{List}
+use Prim.Native.Nat.{ℕ}
+use Rattle.answers.specs.Answers.{judged}
+use Rattle.answers.specs.declared.Judged as answers
+use Rattle.loaded_table.specs.Loaded as loaded_table
+use Rattle.loaded_table.specs.Loaded.{tableBy}
+use Rattle.embedding_load.specs.Loading.{LoadedAs}
+use Rattle.model.specs.Definitions.Table.{Table}
+use Rattle.model.specs.Definitions.Embedding.{Embedding}
+use Rattle.model.specs.Definitions.EmbeddingChecks.{rootToRoot, wrongEnd, wrongSteps, pathClash}
+use Rattle.model.specs.Definitions.Refusals.{Judged, sound, root-moved, wrong-end, wrong-steps, path-clash, faultAt, faultUnless}
+use Rattle.model.specs.Definitions.Entries.{judgedEmbedding}
+use Rattle.model.specs.Theorems.Facts.{SoundTable}
+
+-- checks 7 to 10
+unfoldable pub pathChecks : Table → Table → Embedding → Judged
+pathChecks S T E =
+    faultUnless root-moved (rootToRoot E) λ u.
+    faultAt wrong-end (wrongEnd S T E) λ u.
+    faultAt wrong-steps (wrongSteps S T E) λ u.
+    faultAt path-clash (pathClash S T E) λ u.
+    sound
+
+-- loaded tables that were accepted
+pub record Judgeable (source target : List ℕ) : Type 0 where
+  pub source-bounded : loaded_table.Bounded source
+  pub target-bounded : loaded_table.Bounded target
+  pub source-sound : SoundTable (tableBy source)
+  pub target-sound : SoundTable (tableBy target)
+
+-- the model's judgement, and where it accepts, the embedding loaded into the array
+pub record EmbeddingJudged (S T : Table) (bs : List ℕ) (r : answers.Judged) (map : List ℕ) : Type 0 where
+  pub judgement : judged r ≡ judgedEmbedding S T bs
+  pub loaded : judgedEmbedding S T bs ≡ sound → LoadedAs bs S map

@@ -1,0 +1,75 @@
+// Judging an embedding between accepted tables: all its checks in paper 01's order, and the embedding loaded where none
+// refuses it.
+use answers::Fault;
+use answers::Judged;
+use answers::Verdict;
+use codes::MAX_BYTES;
+use embedding_checks::form::form;
+use embedding_checks::limits::limits;
+use embedding_checks::operands::operands;
+use embedding_ends::checks::Check;
+use embedding_ends::checks::first_fault;
+use embedding_ends::root::root_to_root;
+use embedding_load::load;
+use loaded_embedding::MAP;
+use loaded_table::TABLE;
+ghost use mathlib.Core.Path.{_≡_};
+ghost use lib.ListN.{length};
+ghost use Rattle.answers.specs.Answers.{judged};
+ghost use Rattle.loaded_table.specs.Loaded.{tableBy};
+ghost use Rattle.loaded_embedding.specs.Loaded.{embeddingBy};
+ghost use Rattle.embedding_clash.specs.Ready.{Ready};
+ghost use Rattle.embedding_judge.specs.Judging.{pathChecks, Judgeable, EmbeddingJudged};
+
+// Checks 7 to 10 of a loaded embedding.
+fn judge_paths(source: &[u16; TABLE], target: &[u16; TABLE], em: &[u8], map: &[u16; MAP]) -> Judged
+    requires { ⌜ Ready (now source) (now target) (now em) (now map) ⌝ }
+    ensures { λ r. ⌜ judged r ≡ pathChecks (tableBy (now (source .entry))) (tableBy (now (target .entry))) (embeddingBy (now (em .entry)) (tableBy (now (source .entry))) (now (map .entry))) ⌝ }
+{
+    if !root_to_root(map) {
+        return Judged::Has(Fault::RootMoved);
+    }
+    let ends = first_fault(Check::Ends, source, target, em, map);
+    if let Verdict::Fails(at) = ends {
+        return Judged::Has(Fault::WrongEnd(at));
+    }
+    let steps = first_fault(Check::Steps, source, target, em, map);
+    if let Verdict::Fails(at) = steps {
+        return Judged::Has(Fault::WrongSteps(at));
+    }
+    let clash = first_fault(Check::Clashes, source, target, em, map);
+    if let Verdict::Fails(at) = clash {
+        return Judged::Has(Fault::PathClash(at));
+    }
+    Judged::Sound
+}
+
+// Judges an embedding's bytes, given the loaded source and target tables, and loads it where it is accepted.
+pub fn judge(
+    source: &[u16; TABLE],
+    target: &[u16; TABLE],
+    em: &[u8],
+    map: &mut [u16; MAP],
+) -> Judged
+    requires { ⌜ Judgeable (now source) (now target) ⌝ }
+    requires { ⌜ length (now map) ≡ 2112 ⌝ }
+    ensures { λ r. ⌜ EmbeddingJudged (tableBy (now (source .entry))) (tableBy (now (target .entry))) (now (em .entry)) r (now (map .exit)) ⌝ }
+{
+    if MAX_BYTES < em.len() {
+        return Judged::Has(Fault::TooLong);
+    }
+    let formed = form(source, em);
+    if let Verdict::Fails(at) = formed {
+        return Judged::Has(Fault::BadForm(at));
+    }
+    let limited = limits(em);
+    if let Verdict::Fails(at) = limited {
+        return Judged::Has(Fault::OverLimit(at));
+    }
+    let right = operands(target, em);
+    if let Verdict::Fails(at) = right {
+        return Judged::Has(Fault::BadOperand(at));
+    }
+    load(source, em, map);
+    judge_paths(source, target, em, map)
+}

@@ -1,4 +1,0 @@
-pub mod Paths
-pub mod Ready
-pub mod Tests
-pub mod Kinds

@@ -1,0 +1,39 @@
+-- Rows that stand in the pool before a place.
+use mathlib.Core.Path.{_≡_}
+use mathlib.Core.List.{List}
+use Prim.Native.Nat.{ℕ, _+_, _*_, _≤_, _<_}
+use lib.ListN.{length, set}
+use Rattle.model.specs.Definitions.Templates.{Symbol, fillerRow}
+use Rattle.model.specs.Theorems.Facts.{SoundTable}
+use Rattle.loaded_table.specs.Loaded.{Bounded, Kept, tableBy}
+use Rattle.rows.specs.Rows.{toOf, depthIn, rowAt}
+
+-- a loaded table within its bounds, sound, with its heights kept
+pub record Sound (target : List ℕ) : Type 0 where
+  pub bounded : Bounded target
+  pub sound : SoundTable (tableBy target)
+  pub kept : Kept target (tableBy target)
+
+-- row r stands before place `at` and is `row`, with d elements open around it
+pub record Stored (pool places : List ℕ) (at r : ℕ) (row : List Symbol) (d : ℕ) : Type 0 where
+  pub ends : toOf places r ≤ at
+  pub holds : rowAt pool places r ≡ row
+  pub depth : depthIn places r ≡ d
+
+-- it is stored that row r stands from one place up to another, with d elements open around it
+pub record PlacedRow (places after : List ℕ) (r from to d : ℕ) : Type 0 where
+  pub long : 3 * r + 2 < length places
+  pub is : after ≡ set (set (set places (3 * r) from) (3 * r + 1) to) (3 * r + 2) d
+
+-- the pool and the places are whole, and all rows end within the pool
+pub record Whole (pool₀ places₀ pool places : List ℕ) (at : ℕ) : Type 0 where
+  pub pool-length : length pool ≡ length pool₀
+  pub places-length : length places ≡ length places₀
+  pub fits : at ≤ length pool₀
+  pub within : (r : ℕ) → toOf places r ≤ length pool₀
+
+-- the rows of filler of the first types are stored
+pub record FillersStored (target pool₀ places₀ : List ℕ) (many : ℕ) (pool places : List ℕ) (at : ℕ) : Type 0 where
+  pub whole : Whole pool₀ places₀ pool places at
+  pub few : at ≤ 16 * many
+  pub stored : (t : ℕ) → t < many → Stored pool places at t (fillerRow (tableBy target) t) 0

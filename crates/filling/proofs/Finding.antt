@@ -1,0 +1,54 @@
+-- The loop of `element_at`: it passes over one element a turn.
+use mathlib.Core.Path.{_≡_, refl, sym, _∙_, subst}
+use mathlib.Core.List.{List}
+use Prim.Native.Nat.{ℕ, zero, suc, _+_, _-_, _≤_, _<_}
+use native.Mathlib.Omega.{arith}
+use lib.ListN.{length}
+use Rattle.model.specs.Definitions.Content.{Content, end, char, elem, bytes}
+use Rattle.scanning.specs.Scanning.{At}
+use Rattle.scanning.specs.Laws.{content-within}
+use Rattle.filling.specs.Contents.{passed, ChildThere, ElementAt, element-at, element-next}
+
+-- element number i is element number `left` of the content at offset o
+pub record Ahead {tr : List ℕ} {i : ℕ} (c : ChildThere tr i) (o left : ℕ) : Type 0 where
+  pub content : Content
+  pub there : At tr o content
+  pub is : passed left content ≡ elem (c .type) (c .inside) (c .rest)
+
+pub ahead-starts : {tr : List ℕ} {i : ℕ} (c : ChildThere tr i) → Ahead c 0 i
+ahead-starts c = record { content = c .around; there = c .there; is = c .is }
+
+-- where an element is to be passed, content begins with one
+pub record Next {tr : List ℕ} {i : ℕ} (c : ChildThere tr i) (o left : ℕ) : Type 0 where
+  pub type : ℕ
+  pub inside : Content
+  pub next : Content
+  pub there : At tr o (elem type inside next)
+  pub is : passed (left - 1) next ≡ elem (c .type) (c .inside) (c .rest)
+
+pub ahead-next : {tr : List ℕ} {i : ℕ} {c : ChildThere tr i} {o left : ℕ} → Ahead c o left → 0 < left → Next c o left
+unfolding passed
+ahead-next {tr} {i} {c} {o} {left} a more = go left (a .content) (a .there) (a .is) more
+  where
+    go : (n : ℕ) (k : Content) → At tr o k → passed n k ≡ elem (c .type) (c .inside) (c .rest) → 0 < n → Next c o n
+    go zero k there e some = absurd (omega arith)
+    go (suc n) end there e some = let z : _≡_ {A = ℕ} 0 1 = cc in absurd (omega arith)
+    go (suc n) (char c r) there e some = let z : _≡_ {A = ℕ} 0 1 = cc in absurd (omega arith)
+    go (suc n) (elem t l r) there e some = let one : suc n - 1 ≡ n = omega arith in record { type = t; inside = l; next = r; there = there; is = rw one e }
+
+-- what it holds is within the document
+pub next-within : {tr : List ℕ} {i : ℕ} {c : ChildThere tr i} {o left : ℕ} (n : Next c o left) → o + 2 + length (bytes (n .inside)) < length tr
+next-within n = content-within (element-at (n .there) .within)
+
+-- behind it one less is to be passed
+pub ahead-further : {tr : List ℕ} {i : ℕ} {c : ChildThere tr i} {o left : ℕ} (n : Next c o left) (close : ℕ) → close ≡ o + 2 + length (bytes (n .inside)) → Ahead c (close + 1) (left - 1)
+ahead-further {tr} n close e = record { content = n .next; there = subst (λ (x : ℕ). At tr (x + 1) (n .next)) (sym e) (element-next (n .there)); is = n .is }
+
+-- none is to be passed
+pub ahead-ends : {tr : List ℕ} {i : ℕ} {c : ChildThere tr i} {o left : ℕ} → Ahead c o left → left ≤ 0 → ElementAt tr o (c .type) (c .inside)
+ahead-ends {tr} {i} {c} {o} {left} a none =
+    let last : left ≡ 0 = omega arith in
+    element-at (subst (At tr o) (sym zero-passed ∙ subst (λ (n : ℕ). passed n (a .content) ≡ elem (c .type) (c .inside) (c .rest)) last (a .is)) (a .there))
+  where
+    zero-passed : passed 0 (a .content) ≡ a .content
+    zero-passed = unfold passed in refl

@@ -1,0 +1,152 @@
+-- Children of content by their number, and where they stand in a document.
+use mathlib.Core.Path.{_≡_, refl, sym, ap, _∙_, subst}
+use mathlib.Core.List.{List, [], List·Memᴰ, List·Memᴰ·head, List·Memᴰ·tail}
+use Prim.Native.Nat.{ℕ, zero, suc, _+_, _<_}
+use native.Mathlib.Nat.{add-zero}
+use native.Mathlib.Omega.{arith}
+use lib.ListN.{length, getD, drop}
+use lib.Seq.{drop-drop}
+use Rattle.model.specs.Definitions.Table.{Kind, text, sequence, choice, Table, kindOf}
+use Rattle.model.specs.Definitions.Content.{Content, end, char, elem, bytes}
+use Rattle.model.specs.Definitions.Conformance.{Holds, no-character, one-character, nothing, no-member, one-member, chosen, no-item, one-item}
+use Rattle.model.specs.Definitions.Templates.{firstIn, atChild}
+use Rattle.scanning.specs.Scanning.{At}
+use Rattle.scanning.specs.Laws.{element-first, Opens, opens, opens-next}
+
+-- what is left of content behind its first i elements
+unfoldable pub passed : ℕ → Content → Content
+passed zero k = k
+passed (suc i) end = end
+passed (suc i) (char c r) = end
+passed (suc i) (elem t l r) = passed i r
+
+-- an element of type t that holds l opens at offset o
+pub record ElementAt (tr : List ℕ) (o t : ℕ) (l : Content) : Type 0 where
+  pub named : getD tr (o + 1) 0 ≡ t
+  pub within : At tr (o + 2) l
+
+-- content that begins with an element
+pub element-at : {tr : List ℕ} {o t : ℕ} {l r : Content} → At tr o (elem t l r) → ElementAt tr o t l
+element-at {tr} {o} {t} {l} {r} a = go (opens (elem t l r) a (element-first a))
+  where
+    go : Opens tr o (elem t l r) (a .rest) → ElementAt tr o t l
+    go w =
+        let same : elem t l r ≡ elem (w .type) (w .inside) (w .next) = w .is in
+        let inner : w .inside ≡ l = cc in
+        record { named = w .named ∙ cc; within = subst (At tr (o + 2)) inner (w .within) }
+
+-- what follows it
+pub element-next : {tr : List ℕ} {o t : ℕ} {l r : Content} → At tr o (elem t l r) → At tr (o + 2 + length (bytes l) + 1) r
+element-next {tr} {o} {t} {l} {r} a = go (opens (elem t l r) a (element-first a))
+  where
+    go : Opens tr o (elem t l r) (a .rest) → At tr (o + 2 + length (bytes l) + 1) r
+    go w =
+        let same : elem t l r ≡ elem (w .type) (w .inside) (w .next) = w .is in
+        let inner : w .inside ≡ l = cc in
+        let after : w .next ≡ r = cc in
+        subst (λ (x : Content). At tr (o + 2 + length (bytes x) + 1) r) inner (subst (At tr (o + 2 + length (bytes (w .inside)) + 1)) after (opens-next w))
+
+-- a part of a document
+pub at-part : {tr part : List ℕ} (o : ℕ) {i : ℕ} {k : Content} → part ≡ drop o tr → At tr (o + i) k → At part i k
+at-part {tr} o {i} e a = record { rest = a .rest; stands = ap (drop i) e ∙ drop-drop i o tr ∙ a .stands }
+
+-- the part that begins with content
+pub inside-part : {tr part : List ℕ} (o : ℕ) {k : Content} → part ≡ drop (o + 2) tr → At tr (o + 2) k → At part 0 k
+inside-part {tr} o {k} e a = at-part (o + 2) e (subst (λ (n : ℕ). At tr n k) (sym (add-zero (o + 2))) a)
+
+-- ---- children of conforming content
+
+-- child i of content, of type t, which holds l
+pub record Child (S : Table) (k : Content) (i t : ℕ) (l : Content) : Type 0 where
+  pub rest : Content
+  pub is : passed i k ≡ elem t l rest
+  pub holds : Holds S (kindOf S t) l
+
+-- a child of a sequence, the member of a choice, the first item
+pub record SomeChild (S : Table) (ms : List ℕ) (k : Content) (i : ℕ) : Type 0 where
+  pub type : ℕ
+  pub inside : Content
+  pub child : Child S k i type inside
+  pub member : List·Memᴰ type ms
+
+pub sequence-child : {S : Table} {ms : List ℕ} {k : Content} (i : ℕ) → Holds S (sequence ms) k → i < length ms → SomeChild S ms k i
+unfolding passed
+sequence-child i no-member less = absurd (omega arith)
+sequence-child zero (one-member {m} {ms} {k} {r} h later) less =
+    record { type = m; inside = k; child = record { rest = r; is = refl; holds = h }; member = List·Memᴰ·head refl }
+sequence-child (suc i) (one-member {m} {ms} {k} {r} h later) less =
+    let there = sequence-child i later (omega arith) in
+    record {
+      type = there .type;
+      inside = there .inside;
+      child = record { rest = there .child .rest; is = there .child .is; holds = there .child .holds };
+      member = List·Memᴰ·tail (there .member);
+    }
+
+pub choice-child : {S : Table} {ms : List ℕ} {k : Content} → Holds S (choice ms) k → SomeChild S ms k 0
+unfolding passed
+choice-child (chosen {m} {ms} {k} mem h) = record { type = m; inside = k; child = record { rest = end; is = refl; holds = h }; member = mem }
+
+-- what a function makes of child i
+pub at-child : {A : Type 0} (none : A) (f : ℕ → Content → A) (i : ℕ) (k : Content) {t : ℕ} {l r : Content} → passed i k ≡ elem t l r → atChild none f k i ≡ f t l
+unfolding passed atChild
+at-child none f zero end e = let z : _≡_ {A = ℕ} 0 1 = cc in absurd (omega arith)
+at-child none f zero (char c r) e = let z : _≡_ {A = ℕ} 0 1 = cc in absurd (omega arith)
+at-child none f zero (elem t l r) e = cc
+at-child none f (suc i) end e = let z : _≡_ {A = ℕ} 0 1 = cc in absurd (omega arith)
+at-child none f (suc i) (char c r) e = let z : _≡_ {A = ℕ} 0 1 = cc in absurd (omega arith)
+at-child none f (suc i) (elem t l r) e = at-child none f i r e
+
+-- a text has no child
+text-first : {S : Table} {k : Content} → Holds S text k → firstIn k ≡ 0
+unfolding firstIn
+text-first no-character = refl
+text-first (one-character ok later) = text-first later
+
+-- content whose first byte is not 30 has no child
+pub first-none : {S : Table} {κ : Kind} {tr : List ℕ} {o : ℕ} {k : Content} → Holds S κ k → At tr o k → (getD tr o 0 ≡ 0x30 → ⊥) → firstIn k ≡ 0
+unfolding firstIn
+first-none no-character a other = refl
+first-none (one-character ok later) a other = text-first later
+first-none nothing a other = refl
+first-none no-member a other = refl
+first-none (one-member h later) a other = absurd (other (element-first a))
+first-none (chosen mem h) a other = absurd (other (element-first a))
+first-none no-item a other = refl
+first-none (one-item h later) a other = absurd (other (element-first a))
+
+-- else its type is the next byte
+pub first-some : {tr : List ℕ} {o : ℕ} {k : Content} (a : At tr o k) → getD tr o 0 ≡ 0x30 → (o + 1 < length tr) × (getD tr (o + 1) 0 ≡ firstIn k)
+unfolding firstIn
+first-some {tr} {o} {k} a first = let w = opens k a first in (w .two, w .named ∙ sym (ap firstIn (w .is)))
+
+-- ---- what the functions that find elements are asked
+
+-- element number i of the content at the start of a document
+pub record ChildThere (tr : List ℕ) (i : ℕ) : Type 0 where
+  pub around : Content
+  pub there : At tr 0 around
+  pub type : ℕ
+  pub inside : Content
+  pub rest : Content
+  pub is : passed i around ≡ elem type inside rest
+
+-- conforming content at an offset
+pub record Conforms (tr : List ℕ) (o : ℕ) : Type 0 where
+  pub inside : Content
+  pub there : At tr o inside
+  pub table : Table
+  pub kind : Kind
+  pub holds : Holds table kind inside
+
+-- a conforming element that opens at an offset
+pub record FirstThere (S : Table) (tr : List ℕ) (o : ℕ) : Type 0 where
+  pub type : ℕ
+  pub inside : Content
+  pub element : ElementAt tr o type inside
+  pub is-type : type < length S
+  pub holds : Holds S (kindOf S type) inside
+
+-- what the element holds
+abbrev pub first-conforms : {S : Table} {tr : List ℕ} {o : ℕ} → FirstThere S tr o → Conforms tr (o + 2)
+first-conforms {S} f = record { inside = f .inside; there = f .element .within; table = S; kind = kindOf S (f .type); holds = f .holds }

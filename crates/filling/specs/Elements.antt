@@ -1,0 +1,99 @@
+-- The rows of children and of items.
+use mathlib.Core.Path.{_≡_, refl, sym, ap, _∙_, subst}
+use mathlib.Core.List.{List, [], _++_}
+use Prim.Native.Nat.{ℕ, _+_, _-_, _<_}
+use native.Mathlib.Nat.{add-zero}
+use lib.ListN.{length, drop}
+use Rattle.model.specs.Definitions.Table.{kindOf}
+use Rattle.model.specs.Definitions.Content.{Content, end, elem}
+use Rattle.model.specs.Definitions.Conformance.{Holds}
+use Rattle.model.specs.Definitions.Image.{Setting}
+use Rattle.model.specs.Definitions.Templates.{Hole, characters, child, items, itemTemplate, filledRow, writes, firstIn, heldBy, atChild, overChildren}
+use Rattle.loaded_table.specs.Loaded.{tableBy}
+use Rattle.rows.specs.Rows.{rowAt, sourceRow}
+use Rattle.scanning.specs.Scanning.{At}
+use Rattle.model.specs.Theorems.TemplateShapes.{HoleOfItem}
+use Rattle.model.specs.Theorems.Templates.{writes-again}
+use Rattle.filling.specs.Model.{item-symbols}
+use Rattle.filling.specs.Contents.{at-part, inside-part, ElementAt, ChildThere, FirstThere}
+use Rattle.filling.specs.Asked.{Prepared, settingOf, ChildAsked, ListOf, itemBytes, own-row, item-row, RowAsked}
+use Rattle.filling.specs.RowNumbers.{first-chosen}
+use Rattle.filling.specs.Turns.{filled-same}
+
+-- ---- the row of an element
+
+-- what is written for an element is what its row stands for
+pub element-row : {source pool places : List ℕ} (p : Prepared source pool places) {s : ℕ} {k : Content} → s < length (tableBy source) → Holds (tableBy source) (kindOf (tableBy source) s) k
+    → {part : List ℕ} → At part 0 k → {r : ℕ} → r ≡ sourceRow (tableBy source) s (firstIn k) → RowAsked source pool places part r (writes (settingOf p) s k)
+element-row {source} {pool} {places} p {s} {k} exists holds there is-row =
+    record {
+      prepared = p;
+      type = s;
+      inside = k;
+      there = there;
+      is-type = exists;
+      row-of = own-row holds is-row;
+      is = writes-again (settingOf p) s k
+          ∙ ap (filledRow (settingOf p .target) (heldBy (settingOf p) s k)) (sym (ap (rowAt pool places) is-row ∙ p .rows .template-at s (firstIn k) exists (first-chosen holds)));
+    }
+
+-- of an element that opens at an offset
+pub child-row : {source pool places tr : List ℕ} {i : ℕ} {bs : List ℕ} (a : ChildAsked source pool places tr i bs) {o : ℕ} → ElementAt tr o (a .type) (a .inside)
+    → {part : List ℕ} → part ≡ drop (o + 2) tr → {r : ℕ} → r ≡ sourceRow (tableBy source) (a .type) (firstIn (a .inside)) → RowAsked source pool places part r bs
+child-row {source} {pool} {places} a {o} e {part} is-part {r} is-row =
+    subst (RowAsked source pool places part r) (sym (a .is)) (element-row (a .prepared) (a .is-type) (a .child .holds) (inside-part o is-part (e .within)) is-row)
+
+-- ---- the items of a list
+
+-- the bytes of an item of type t that holds inner
+abbrev pub oneItem : {source pool places : List ℕ} {r : ℕ} → ListOf source pool places r → ℕ → Content → List ℕ
+oneItem l t inner = filledRow (settingOf (l .prepared) .target) (λ h. writes (settingOf (l .prepared)) t inner) (itemTemplate (settingOf (l .prepared)) (l .type))
+
+-- no item is left
+pub items-none : {source pool places : List ℕ} {r : ℕ} (l : ListOf source pool places r) → itemBytes l end ≡ []
+unfolding overChildren
+items-none l = refl
+
+-- the first item, and the others
+pub items-more : {source pool places : List ℕ} {r : ℕ} (l : ListOf source pool places r) (t : ℕ) (inner rest : Content) → itemBytes l (elem t inner rest) ≡ oneItem l t inner ++ itemBytes l rest
+unfolding overChildren
+items-more l t inner rest = refl
+
+-- the one hole of an item's row holds the item's image
+only-child : (X : Setting) (s t : ℕ) (inner rest : Content) (h : Hole) → HoleOfItem h → writes X t inner ≡ heldBy X s (elem t inner rest) h
+unfolding heldBy atChild
+only-child X s t inner rest characters ok = absurd ok
+only-child X s t inner rest (child i) ok = rw ok refl
+only-child X s t inner rest items ok = absurd ok
+
+-- the row of an item of the list, with which a part of the document begins
+pub item-asked : {source pool places : List ℕ} {r : ℕ} (l : ListOf source pool places r) {tr : List ℕ} {o : ℕ} {inner rest : Content}
+    → At tr o (elem (l .item) inner rest) → Holds (tableBy source) (kindOf (tableBy source) (l .item)) inner → {part : List ℕ} → part ≡ drop o tr
+    → RowAsked source pool places part r (oneItem l (l .item) inner)
+item-asked {source} {pool} {places} {r} l {tr} {o} {inner} {rest} there holds {part} is-part =
+    record {
+      prepared = l .prepared;
+      type = l .type;
+      inside = elem (l .item) inner rest;
+      there = at-part o is-part (subst (λ (n : ℕ). At tr n (elem (l .item) inner rest)) (sym (add-zero o)) there);
+      is-type = l .is-type;
+      row-of = item-row (l .is-list) refl holds (l .is-row);
+      is = filled-same (λ h. writes X₁ (l .item) inner) (heldBy X₁ (l .type) (elem (l .item) inner rest)) (only-child X₁ (l .type) (l .item) inner rest)
+          (item-symbols X₁ (l .prepared .ready .valid) (l .type) (l .item) (l .is-type) (l .is-list))
+          ∙ ap (filledRow (X₁ .target) (heldBy X₁ (l .type) (elem (l .item) inner rest)))
+          (sym (ap (rowAt pool places) (l .is-row) ∙ l .prepared .rows .item-at (l .type) (l .item) (l .is-type) (l .is-list)));
+    }
+  where
+    X₁ : Setting
+    X₁ = settingOf (l .prepared)
+
+-- ---- finding a child
+
+-- the child, for `element_at`
+abbrev pub child-sought : {source pool places tr : List ℕ} {i : ℕ} {bs : List ℕ} → ChildAsked source pool places tr i bs → ChildThere tr i
+child-sought a = record { around = a .around; there = a .there; type = a .type; inside = a .inside; rest = a .child .rest; is = a .child .is }
+
+-- the child that was found, for `row_of`
+abbrev pub child-first : {source pool places tr : List ℕ} {i : ℕ} {bs : List ℕ} (a : ChildAsked source pool places tr i bs) {o : ℕ} → ((c : ChildThere tr i) → ElementAt tr o (c .type) (c .inside))
+    → FirstThere (tableBy source) tr o
+child-first a found = record { type = a .type; inside = a .inside; element = found (child-sought a); is-type = a .is-type; holds = a .child .holds }

@@ -1,0 +1,89 @@
+-- The numbers of rows: which row an element takes, and the order of calls.
+use mathlib.Core.Path.{_≡_, refl, sym, ap, _∙_}
+use mathlib.Core.Bool.{Bool, true, false}
+use mathlib.Core.List.{List, [], _∷_, List·Memᴰ, List·Memᴰ·head, List·Memᴰ·tail}
+use Prim.Native.Nat.{ℕ, zero, suc, _+_, _-_, _*_, _≤_, _<_, _%_}
+use native.Mathlib.Nat.{mul-add-mod-self-right, mod-eq-of-lt}
+use native.Mathlib.Omega.{arith}
+use lib.ListN.{length, take, drop, getD, length-take}
+use lib.Dec.{eqb}
+use borrow.Author.Tests.{eq-eqb, ne-eqb}
+use Rattle.model.specs.Definitions.Basics.{pick}
+use Rattle.model.specs.Definitions.Table.{Kind, text, empty, sequence, choice, list, Table, kindOf}
+use Rattle.model.specs.Definitions.Content.{Content}
+use Rattle.model.specs.Definitions.Conformance.{Holds, no-character, one-character, nothing, no-member, one-member, chosen, no-item, one-item}
+use Rattle.model.specs.Definitions.Templates.{firstIn}
+use Rattle.loaded_table.specs.Loaded as loaded_table
+use Rattle.loaded_table.specs.Loaded.{tableBy, kindsOf, countsOf, membersIn, kindFrom, kind-of, length-of}
+use Rattle.rows.specs.Rows.{indexIn, rowIndex, itemRow, Chosen, of-text, of-empty, of-sequence, of-choice, of-list}
+
+-- a choice has at most 16 members
+few-members : (code count : ℕ) (row : List ℕ) (ms : List ℕ) → kindFrom code count row ≡ choice ms → count ≤ 16 → length ms ≤ 16
+few-members zero count row ms e few = let z : _≡_ {A = ℕ} 0 1 = cc in absurd (omega arith)
+few-members (suc zero) count row ms e few = let z : _≡_ {A = ℕ} 0 1 = cc in absurd (omega arith)
+few-members (suc (suc zero)) count row ms e few = let z : _≡_ {A = ℕ} 0 1 = cc in absurd (omega arith)
+few-members (suc (suc (suc zero))) count row ms e few = let same : take count row ≡ ms = cc in omega (arith, ap length same, length-take count row)
+few-members (suc (suc (suc (suc code)))) count row ms e few = let z : _≡_ {A = ℕ} 0 1 = cc in absurd (omega arith)
+
+-- a member's index is below the number of members
+index-within : (t : ℕ) (ms : List ℕ) → List·Memᴰ t ms → indexIn t ms < length ms
+unfolding indexIn
+index-within t (m ∷ ms) (List·Memᴰ·head e) = rw (eq-eqb t m e) (unfold pick in omega arith)
+index-within t (m ∷ ms) (List·Memᴰ·tail later) = go (eqb t m) (index-within t ms later)
+  where
+    go : (b : Bool) → indexIn t ms < length ms → pick b 0 (suc (indexIn t ms)) < suc (length ms)
+    go true less = unfold pick in omega arith
+    go false less = unfold pick in omega arith
+
+-- the first child of conforming content is one that can be first
+pub first-chosen : {S : Table} {κ : Kind} {k : Content} → Holds S κ k → Chosen (firstIn k) κ
+unfolding firstIn
+first-chosen no-character = of-text
+first-chosen (one-character ok later) = of-text
+first-chosen nothing = of-empty
+first-chosen no-member = of-sequence
+first-chosen (one-member h later) = of-sequence
+first-chosen (chosen {m} {ms} mem h) = of-choice (index-within m ms mem)
+first-chosen no-item = of-list
+first-chosen (one-item h later) = of-list
+
+-- so a row of an element is never the last of its type
+pub index-small : (source : List ℕ) → loaded_table.Bounded source → (s t : ℕ) → s < length (tableBy source) → (κ : Kind) → kindOf (tableBy source) s ≡ κ → Chosen t κ → rowIndex κ t < 16
+unfolding rowIndex
+index-small source bounded s t exists text e of-text = omega arith
+index-small source bounded s t exists empty e of-empty = omega arith
+index-small source bounded s t exists (sequence ms) e of-sequence = omega arith
+index-small source bounded s t exists (choice ms) e (of-choice less) =
+    omega (arith, less, few-members (getD (kindsOf source) s 0) (getD (countsOf source) s 0) (drop (s * 16) (membersIn source)) ms (sym (kind-of source s (omega (arith, exists, length-of source))) ∙ e) (bounded .few-members s))
+index-small source bounded s t exists (list m) e of-list = omega arith
+
+-- the order of calls in which a document does not become shorter: a row of an element, the items of a list, an item's row, a child
+unfoldable pub rank : ℕ → ℕ
+rank r = pick (eqb ((r - 64) % 17) 16) 1 3
+
+-- it is 1 or 3
+pub rank-bounds : (r : ℕ) → (1 ≤ rank r) × (rank r ≤ 3)
+unfolding rank
+rank-bounds r = go (eqb ((r - 64) % 17) 16)
+  where
+    go : (b : Bool) → (1 ≤ pick b 1 3) × (pick b 1 3 ≤ 3)
+    go true = unfold pick in (omega arith, omega arith)
+    go false = unfold pick in (omega arith, omega arith)
+
+-- the place of a row among the rows of its type
+remainder : (r s i : ℕ) → r ≡ 64 + (s * 17 + i) → i < 17 → (r - 64) % 17 ≡ i
+remainder r s i e less =
+    let same : r - 64 ≡ s * 17 + i = omega arith in
+    rw same (mul-add-mod-self-right s 17 i ∙ mod-eq-of-lt less)
+
+-- it is 1 for an item's row
+pub item-rank : (s r : ℕ) → r ≡ itemRow s → rank r ≡ 1
+unfolding rank itemRow
+item-rank s r e = rw (remainder r s 16 e (omega arith)) (unfold pick in refl)
+
+-- and 3 for a row of an element
+pub own-rank : (s i r : ℕ) → r ≡ 64 + (s * 17 + i) → i < 16 → rank r ≡ 3
+unfolding rank
+own-rank s i r e less =
+    let same : (r - 64) % 17 ≡ i = remainder r s i e (omega arith) in
+    rw (same, ne-eqb i 16 (λ z. omega arith)) (unfold pick in refl)

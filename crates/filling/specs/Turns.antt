@@ -1,0 +1,239 @@
+-- What a row that is asked for tells of its number and of its symbols.
+use mathlib.Core.Path.{_≡_, refl, sym, ap, _∙_, subst}
+use mathlib.Core.List.{List, [], _∷_, _++_, List·Memᴰ·head}
+use Prim.Native.Nat.{ℕ, _+_, _-_, _*_, _≤_, _<_}
+use native.Mathlib.Omega.{arith}
+use lib.ListN.{length, getD}
+use Rattle.model.specs.Definitions.Table.{Kind, text, empty, sequence, choice, list, Table, kindOf, membersOf}
+use Rattle.model.specs.Definitions.Content.{Content, bytes}
+use Rattle.model.specs.Definitions.Conformance.{Holds}
+use Rattle.model.specs.Definitions.Image.{Setting}
+use Rattle.model.specs.Definitions.Templates.{Hole, characters, child, items, Symbol, opening, closing, filler, hole, fillerBytes, filledRow, writes, firstIn, heldBy, charactersOf}
+use Rattle.model.specs.Theorems.Facts.{Valid, All, all-none, all-more}
+use Rattle.loaded_table.specs.Loaded.{tableBy}
+use Rattle.rows.specs.Rows.{symbolOf, rowIn, rowAt, fromOf, toOf, rowIndex, sourceRow, itemRow}
+use Rattle.scanning.specs.Scanning.{At}
+use Rattle.model.specs.Theorems.TemplateShapes.{HoleIn, HoleOfItem}
+use Rattle.model.specs.Theorems.Templates.{text-characters}
+use Rattle.filling.specs.Model.{Allowed, template-symbols, item-symbols}
+use Rattle.filling.specs.Contents.{passed, SomeChild, sequence-child, choice-child, at-child}
+use Rattle.filling.specs.Asked.{settingOf, FillerAsked, PlainAsked, an-opening, a-filler, the-characters, a-closing, ChildAsked, ItemsAsked, RowOf, own-row, item-row, RowAsked}
+use Rattle.filling.specs.Symbols.{Meaning, opens, fills, child-there, text-there, items-there, closes, meaning, filler-symbol, child-symbol, characters-symbol, items-symbol, symbolBytes, row-first, row-done, symbol-in, opening-bytes, filler-bytes, child-bytes, characters-bytes, items-bytes, closing-bytes}
+use Rattle.filling.specs.FillerRows.{fillers-of}
+use Rattle.filling.specs.RowNumbers.{first-chosen, index-small, rank, own-rank}
+
+-- ---- the symbols of a row
+
+-- rows whose holes hold the same write the same
+pub filled-same : {T : Table} {Ok : Hole → Type 0} {row : List Symbol} (held other : Hole → List ℕ) → ((h : Hole) → Ok h → held h ≡ other h) → All (Allowed T Ok) row
+    → filledRow T held row ≡ filledRow T other row
+unfolding filledRow
+filled-same held other same all-none = refl
+filled-same held other same (all-more {a = opening t} ok later) = ap (λ (bs : List ℕ). 0x30 ∷ t ∷ bs) (filled-same held other same later)
+filled-same held other same (all-more {a = closing} ok later) = ap (λ (bs : List ℕ). 0x32 ∷ bs) (filled-same held other same later)
+filled-same {T} held other same (all-more {a = filler t} ok later) = ap (λ (bs : List ℕ). fillerBytes T t ++ bs) (filled-same held other same later)
+filled-same held other same (all-more {a = hole h} ok later) = rw (same h ok, filled-same held other same later)
+
+-- characters are those of a text
+text-hole : {S : Table} (κ : Kind) {k : Content} → HoleIn κ characters → Holds S κ k → charactersOf k ≡ bytes k
+text-hole text ok h = text-characters h
+text-hole empty ok h = absurd ok
+text-hole (sequence ms) ok h = absurd ok
+text-hole (choice ms) ok h = absurd ok
+text-hole (list m) ok h = absurd ok
+
+-- a child is one of a sequence or of a choice
+child-hole : {S : Table} (κ : Kind) {k : Content} (i : ℕ) → HoleIn κ (child i) → Holds S κ k → SomeChild S (membersOf κ) k i
+unfolding membersOf
+child-hole text i ok h = absurd ok
+child-hole empty i ok h = absurd ok
+child-hole (sequence ms) i ok h = sequence-child i h ok
+child-hole {S} (choice ms) {k} i ok h = subst (SomeChild S ms k) (sym ok) (choice-child h)
+child-hole (list m) i ok h = absurd ok
+
+-- items are those of a list
+items-hole : (κ : Kind) → HoleIn κ items → (m : ℕ) × (κ ≡ list m)
+items-hole text ok = absurd ok
+items-hole empty ok = absurd ok
+items-hole (sequence ms) ok = absurd ok
+items-hole (choice ms) ok = absurd ok
+items-hole (list m) ok = (m, refl)
+
+-- the row of a list's item
+list-row : (S : Table) (s t m : ℕ) → kindOf S s ≡ list m → sourceRow S s t + 16 ≡ itemRow s
+unfolding sourceRow itemRow
+list-row S s t m e = rw e (unfold rowIndex in omega arith)
+
+module _ {source pool places tr : List ℕ} {r : ℕ} {bs : List ℕ} (a : RowAsked source pool places tr r bs) where
+  abbrev X : Setting
+  X = settingOf (a .prepared)
+
+  abbrev S : Table
+  S = tableBy source
+
+  abbrev valid : Valid X
+  valid = a .prepared .ready .valid
+
+  abbrev held : Hole → List ℕ
+  held = heldBy X (a .type) (a .inside)
+
+  row-low : RowOf S (a .type) (a .inside) r → r ≤ itemRow (a .type)
+  unfolding sourceRow itemRow
+  row-low (own-row h e) =
+      omega (arith, e, index-small source (a .prepared .ready .source-bounded) (a .type) (firstIn (a .inside)) (a .is-type) (kindOf S (a .type)) refl (first-chosen h))
+  row-low (item-row l e h q) = omega (arith, q)
+
+  -- the row is one of those placed
+  pub row-there : 3 * r + 2 < length places
+  unfolding itemRow
+  row-there = omega (arith, row-low (a .row-of), a .prepared .rows .long, a .is-type)
+
+  -- it stands in the pool
+  pub row-within : toOf places r ≤ length pool
+  row-within = a .prepared .rows .within r
+
+  -- what is left of the row from symbol i on
+  pub rowLeft : ℕ → List ℕ
+  rowLeft i = filledRow (X .target) held (rowIn pool i (toOf places r))
+
+  -- at first all of it is left
+  pub row-starts : bs ≡ rowLeft (fromOf places r)
+  unfolding rowLeft
+  row-starts = a .is
+
+  -- at its end nothing is
+  pub row-ends : (i : ℕ) → toOf places r ≤ i → rowLeft i ≡ []
+  unfolding rowLeft
+  row-ends i all = row-done (X .target) held pool i (toOf places r) all
+
+  module _ (i : ℕ) (low : fromOf places r ≤ i) (less : i < toOf places r) where
+    abbrev x′ : ℕ
+    x′ = getD pool i 0
+
+    -- the bytes of symbol i
+    pub rowSymbol : List ℕ
+    rowSymbol = symbolBytes (X .target) held (symbolOf x′)
+
+    -- symbol i is the first of what is left
+    pub row-more : rowLeft i ≡ rowSymbol ++ rowLeft (i + 1)
+    unfolding rowLeft rowSymbol
+    row-more = row-first (X .target) held pool i (toOf places r) less row-within
+
+    -- it is one that the row of an element may have
+    own-symbol : (h : Holds S (kindOf S (a .type)) (a .inside)) → r ≡ sourceRow S (a .type) (firstIn (a .inside))
+        → Allowed (X .target) (HoleIn (kindOf S (a .type))) (symbolOf x′)
+    own-symbol h e =
+        symbol-in pool (fromOf places r) (toOf places r) i
+        (subst (All (Allowed (X .target) (HoleIn (kindOf S (a .type)))))
+        (sym (ap (rowAt pool places) e ∙ a .prepared .rows .template-at (a .type) (firstIn (a .inside)) (a .is-type) (first-chosen h)))
+        (template-symbols X valid (a .type) (firstIn (a .inside)) (a .is-type))) low less row-within
+
+    -- or one of an item's row
+    item-symbol : {m : ℕ} → kindOf S (a .type) ≡ list m → r ≡ itemRow (a .type) → Allowed (X .target) HoleOfItem (symbolOf x′)
+    item-symbol {m} l e =
+        symbol-in pool (fromOf places r) (toOf places r) i
+        (subst (All (Allowed (X .target) HoleOfItem)) (sym (ap (rowAt pool places) e ∙ a .prepared .rows .item-at (a .type) m (a .is-type) l))
+        (item-symbols X valid (a .type) m (a .is-type) l)) low less row-within
+
+    -- its bytes are asked for: where it is neither child nor items,
+    pub row-plain : (128 ≤ x′ → x′ < 144 → ⊥) → (x′ ≡ 145 → ⊥) → PlainAsked pool places tr x′ rowSymbol
+    unfolding rowSymbol fillers-of
+    row-plain no-child no-items = go (meaning x′) (a .row-of)
+      where
+        go : Meaning x′ → RowOf S (a .type) (a .inside) r → PlainAsked pool places tr x′ (symbolBytes (X .target) held (symbolOf x′))
+        go (opens h) w = an-opening h (opening-bytes (X .target) held x′ h)
+        go (fills h g) (own-row k e) =
+            a-filler h g
+            (record { fillers = fillers-of (a .prepared); is-type = subst (Allowed (X .target) (HoleIn (kindOf S (a .type)))) (filler-symbol x′ h g) (own-symbol k e); is = filler-bytes (X .target) held x′ h g })
+        go (fills h g) (item-row l e k q) =
+            a-filler h g
+            (record { fillers = fillers-of (a .prepared); is-type = subst (Allowed (X .target) HoleOfItem) (filler-symbol x′ h g) (item-symbol l q); is = filler-bytes (X .target) held x′ h g })
+        go (child-there h g) w = absurd (no-child h g)
+        go (text-there h) (own-row k e) =
+            the-characters h (a .there)
+            (characters-bytes (X .target) held x′ h
+            ∙ (unfold heldBy in text-hole (kindOf S (a .type)) (subst (Allowed (X .target) (HoleIn (kindOf S (a .type)))) (characters-symbol x′ h) (own-symbol k e)) k))
+        go (text-there h) (item-row l e k q) = absurd (subst (Allowed (X .target) HoleOfItem) (characters-symbol x′ h) (item-symbol l q))
+        go (items-there h) w = absurd (no-items h)
+        go (closes h) w = a-closing h (closing-bytes (X .target) held x′ h)
+
+    -- where it is a child,
+    pub row-child : 128 ≤ x′ → x′ < 144 → ChildAsked source pool places tr (x′ - 128) rowSymbol
+    unfolding rowSymbol
+    row-child h g = go (a .row-of)
+      where
+        asked : (ms : List ℕ) → (c : SomeChild S ms (a .inside) (x′ - 128)) → c .type < length S → ChildAsked source pool places tr (x′ - 128) (symbolBytes (X .target) held (symbolOf x′))
+        asked ms c exists =
+            record {
+              prepared = a .prepared;
+              around = a .inside;
+              there = a .there;
+              type = c .type;
+              inside = c .inside;
+              child = c .child;
+              is-type = exists;
+              is = child-bytes (X .target) held x′ h g ∙ (unfold heldBy in at-child [] (writes X) (x′ - 128) (a .inside) (c .child .is));
+            }
+
+        go : RowOf S (a .type) (a .inside) r → ChildAsked source pool places tr (x′ - 128) (symbolBytes (X .target) held (symbolOf x′))
+        go (own-row k e) =
+            let c = child-hole (kindOf S (a .type)) (x′ - 128) (subst (Allowed (X .target) (HoleIn (kindOf S (a .type)))) (child-symbol x′ h g) (own-symbol k e)) k in
+            asked (membersOf (kindOf S (a .type))) c (valid .source-sound .well-formed .members-exist (a .type) (c .type) (c .member))
+        go (item-row {m} {l} {rest} is e k q) =
+            let none : x′ - 128 ≡ 0 = subst (Allowed (X .target) HoleOfItem) (child-symbol x′ h g) (item-symbol is q) in
+            let exists : m < length S = valid .source-sound .well-formed .members-exist (a .type) m (rw is (unfold membersOf in List·Memᴰ·head refl)) in
+            asked (m ∷ [])
+            (record { type = m; inside = l; child = record { rest = rest; is = rw (none, e) (unfold passed in refl); holds = k }; member = List·Memᴰ·head refl }) exists
+
+    -- and where it is the items
+    pub row-items : x′ ≡ 145 → ItemsAsked source pool places tr (r + 16) rowSymbol
+    unfolding rowSymbol
+    row-items h = go (a .row-of)
+      where
+        go : RowOf S (a .type) (a .inside) r → ItemsAsked source pool places tr (r + 16) (symbolBytes (X .target) held (symbolOf x′))
+        go (own-row k e) =
+            let l = items-hole (kindOf S (a .type)) (subst (Allowed (X .target) (HoleIn (kindOf S (a .type)))) (items-symbol x′ h) (own-symbol k e)) in
+            record {
+              listed = record { prepared = a .prepared; type = a .type; item = l .0; is-type = a .is-type; is-list = l .1; is-row = ap (λ (n : ℕ). n + 16) e ∙ list-row S (a .type) (firstIn (a .inside)) (l .0) (l .1) };
+              inside = a .inside;
+              there = a .there;
+              holds = subst (λ (κ : Kind). Holds S κ (a .inside)) (l .1) k;
+              is = items-bytes (X .target) held x′ h ∙ (unfold heldBy in refl);
+            }
+        go (item-row l e k q) = absurd (subst (Allowed (X .target) HoleOfItem) (items-symbol x′ h) (item-symbol l q))
+
+    -- only a row of an element has items
+    pub items-rank : x′ ≡ 145 → rank r ≡ 3
+    items-rank h = go (a .row-of)
+      where
+        go : RowOf S (a .type) (a .inside) r → rank r ≡ 3
+        go (own-row k e) = own-rank (a .type) (rowIndex (kindOf S (a .type)) (firstIn (a .inside))) r (unfold sourceRow in e)
+            (index-small source (a .prepared .ready .source-bounded) (a .type) (firstIn (a .inside)) (a .is-type) (kindOf S (a .type)) refl (first-chosen k))
+        go (item-row l e k q) = absurd (subst (Allowed (X .target) HoleOfItem) (items-symbol x′ h) (item-symbol l q))
+
+-- ---- symbols other than a child or items, by their numbers
+
+module _ {pool places tr : List ℕ} {x : ℕ} {bs : List ℕ} where
+  pub plain-opening : PlainAsked pool places tr x bs → x < 64 → bs ≡ 0x30 ∷ x ∷ []
+  plain-opening (an-opening less e) h = e
+  plain-opening (a-filler low less f) h = absurd (omega arith)
+  plain-opening (the-characters is a e) h = absurd (omega arith)
+  plain-opening (a-closing more e) h = absurd (omega arith)
+
+  pub plain-filler : PlainAsked pool places tr x bs → 64 ≤ x → x < 128 → FillerAsked pool places (x - 64) bs
+  plain-filler (an-opening less e) h g = absurd (omega arith)
+  plain-filler (a-filler low less f) h g = f
+  plain-filler (the-characters is a e) h g = absurd (omega arith)
+  plain-filler (a-closing more e) h g = absurd (omega arith)
+
+  pub plain-characters : PlainAsked pool places tr x bs → x ≡ 144 → (k : Content) × At tr 0 k × (bs ≡ bytes k)
+  plain-characters (an-opening less e) h = absurd (omega arith)
+  plain-characters (a-filler low less f) h = absurd (omega arith)
+  plain-characters (the-characters {k} is a e) h = (k, a, e)
+  plain-characters (a-closing more e) h = absurd (omega arith)
+
+  pub plain-closing : PlainAsked pool places tr x bs → 128 ≤ x → (x ≡ 144 → ⊥) → bs ≡ 0x32 ∷ []
+  plain-closing (an-opening less e) h other = absurd (omega arith)
+  plain-closing (a-filler low less f) h other = absurd (omega arith)
+  plain-closing (the-characters is a e) h other = absurd (other is)
+  plain-closing (a-closing more e) h other = e

@@ -1,0 +1,54 @@
+-- The whole image document: its root element and its end.
+use mathlib.Core.Path.{_≡_, refl, sym, ap, _∙_, subst}
+use mathlib.Core.List.{List, [], _∷_, _++_}
+use Prim.Native.Nat.{ℕ, _+_}
+use lib.ListN.{getD, drop}
+use Rattle.model.specs.Definitions.Content.{Content, bytes, document}
+use Rattle.model.specs.Definitions.Image.{image}
+use Rattle.model.specs.Definitions.Templates.{writes, firstIn}
+use Rattle.model.specs.Theorems.Templates.{write-image}
+use Rattle.loaded_table.specs.Loaded.{tableBy}
+use Rattle.rows.specs.Rows.{sourceRow}
+use Rattle.scanning.specs.Scanning.{At}
+use Rattle.scanning.specs.Laws.{root-at}
+use Rattle.filling.specs.Contents.{FirstThere, inside-part}
+use Rattle.filling.specs.Asked.{settingOf, ImageAsked, RowAsked}
+use Rattle.filling.specs.Elements.{element-row}
+
+-- a document's root, what it holds, and its end
+document-bytes : (k : Content) → document 0 k ≡ (0x30 ∷ 0 ∷ []) ++ ((bytes k ++ 0x32 ∷ []) ++ 0x3F ∷ [])
+unfolding document bytes
+document-bytes k = refl
+
+module _ {source pool places tr : List ℕ} {bs : List ℕ} (a : ImageAsked source pool places tr bs) where
+  -- what the root of the image holds
+  abbrev pub held : List ℕ
+  held = writes (settingOf (a .prepared)) 0 (a .inside)
+
+  pub root-there : At tr 2 (a .inside)
+  root-there = subst (λ (l : List ℕ). At l 2 (a .inside)) (sym (a .form)) (root-at 0 (a .inside))
+
+  pub root-type : getD tr (0 + 1) 0 ≡ 0
+  root-type = rw (a .form) (unfold document bytes in refl)
+
+  -- the source root opens at offset 0
+  abbrev pub image-root : FirstThere (tableBy source) tr 0
+  image-root =
+      record {
+        type = 0;
+        inside = a .inside;
+        element = record { named = root-type; within = root-there };
+        is-type = a .prepared .ready .valid .source-sound .well-formed .has-root;
+        holds = a .holds;
+      }
+
+  -- its row
+  pub image-row : {part : List ℕ} → part ≡ drop 2 tr → {r : ℕ} → r ≡ sourceRow (tableBy source) 0 (firstIn (a .inside)) → RowAsked source pool places part r held
+  image-row is-part is-row =
+      element-row (a .prepared) (a .prepared .ready .valid .source-sound .well-formed .has-root) (a .holds) (inside-part 0 is-part root-there) is-row
+
+  -- the bytes of the image
+  pub image-bytes : bs ≡ (0x30 ∷ 0 ∷ []) ++ ((held ++ 0x32 ∷ []) ++ 0x3F ∷ [])
+  image-bytes =
+      a .is ∙ document-bytes (image (settingOf (a .prepared)) (a .inside))
+      ∙ ap (λ (inner : List ℕ). (0x30 ∷ 0 ∷ []) ++ ((inner ++ 0x32 ∷ []) ++ 0x3F ∷ [])) (sym (write-image (settingOf (a .prepared)) (a .prepared .ready .valid) (a .inside) (a .holds)))

@@ -1,0 +1,170 @@
+-- Laws of symbols, of rows that are written, and of paths in arrays.
+use mathlib.Core.Path.{_≡_, refl, sym, ap, ap₂, _∙_}
+use mathlib.Core.Bool.{Bool, true, false}
+use mathlib.Core.List.{List, [], _∷_, _++_, map-append}
+use Prim.Native.Nat.{ℕ, zero, suc, _+_, _-_, _*_, _≤_, _<_}
+use native.Mathlib.Nat.{add-zero, zero-add}
+use native.Mathlib.Numerals.{add-one}
+use native.Mathlib.Omega.{arith}
+use lib.ListN.{length, getD, set, length-append, length-map, length-set}
+use lib.Seq.{sets, length-sets, getD-set-same, getD-set-other}
+use lib.Dec.{eqb, ltb}
+use borrow.Author.Tests.{lt-ltb, le-ltb, eq-eqb, ne-eqb, ltb-false, eqb-true, eqb-false}
+use Rattle.model.specs.Definitions.Basics.{pick}
+use Rattle.model.specs.Definitions.Image.{Placement, under, beyond}
+use Rattle.model.specs.Definitions.Templates.{characters, child, items, Shape, Symbol, opening, closing, filler, hole}
+use Rattle.loaded_embedding.specs.Loaded.{stepsFrom}
+use Rattle.rows.specs.Rows.{symbolOf}
+use Rattle.growing.specs.declared.Edges.{Edges}
+use Rattle.growing.specs.Growing.{firstOf, holeOf, IsHole, placementOf, placementsFrom, placementsOf, noEdges, push, Readable, Puts}
+
+-- ---- numbers of symbols
+
+pub symbol-opening : (t : ℕ) → t < 64 → symbolOf (0 + t) ≡ opening t
+unfolding symbolOf pick
+symbol-opening t h = rw (zero-add t, lt-ltb t 64 h) refl
+
+pub symbol-filler : (t : ℕ) → t < 64 → symbolOf (64 + t) ≡ filler t
+unfolding symbolOf pick
+symbol-filler t h =
+    let less : 64 + t - 64 ≡ t = omega arith in
+    rw (le-ltb (64 + t) 64 (omega arith), lt-ltb (64 + t) 128 (omega arith), less) refl
+
+pub symbol-hole : (n : ℕ) → IsHole n → symbolOf (n + 0) ≡ hole (holeOf n)
+unfolding symbolOf holeOf pick
+symbol-hole n h = rw (add-zero n, le-ltb n 64 (omega arith), le-ltb n 128 (omega arith)) (go (ltb n 144) (eqb n 144) (eqb n 145) refl refl refl)
+  where
+    go : (a b c : Bool) → ltb n 144 ≡ a → eqb n 144 ≡ b → eqb n 145 ≡ c
+        → pick a (hole (child (n - 128))) (pick b (hole characters) (pick c (hole items) closing)) ≡ hole (pick a (child (n - 128)) (pick b characters items))
+    go true b c e f g = refl
+    go false true c e f g = refl
+    go false false true e f g = refl
+    go false false false e f g = absurd (omega (arith, ltb-false n 144 e, eqb-false n 144 f, eqb-false n 145 g))
+
+pub symbol-closing : symbolOf (146 + 0) ≡ closing
+unfolding symbolOf pick
+symbol-closing = refl
+
+-- ---- rows that are written
+
+-- two runs of stores, the second where the first ends, are one
+sets-join : (v w l : List ℕ) (i : ℕ) → sets (sets l i v) (i + length v) w ≡ sets l i (v ++ w)
+sets-join [] w l i = rw (add-zero i)
+sets-join (a ∷ v) w l i =
+    let e : i + suc (length v) ≡ suc i + length v = omega arith in
+    rw e (sets-join v w (set l i a) (suc i))
+
+-- nothing is written
+pub puts-none : (old : List ℕ) (at : ℕ) → Puts old old at [] at
+puts-none old at = record { numbers = []; written = refl; after = sym (add-zero at); means = refl }
+
+-- two rows, the second where the first ends, are one
+pub puts-then : {old mid new : List ℕ} {at : ℕ} {row row′ : List Symbol} {between next : ℕ} → Puts old mid at row between → Puts mid new between row′ next
+    → Puts old new at (row ++ row′) next
+puts-then {old} {mid} {new} {at} {row} {row′} {between} {next} first second =
+    record {
+      numbers = first .numbers ++ second .numbers;
+      written = second .written ∙ ap₂ (λ (l : List ℕ) (i : ℕ). sets l i (second .numbers)) (first .written) (first .after) ∙ sets-join (first .numbers) (second .numbers) old at;
+      after = omega (arith, first .after, second .after, length-append (first .numbers) (second .numbers));
+      means = map-append symbolOf (first .numbers) (second .numbers) ∙ ap₂ (λ (a b : List Symbol). a ++ b) (first .means) (second .means);
+    }
+
+-- the pool keeps its length
+pub puts-length : {old new : List ℕ} {at : ℕ} {row : List Symbol} {next : ℕ} → Puts old new at row next → length new ≡ length old
+puts-length {old} {at = at} w = ap length (w .written) ∙ length-sets old at (w .numbers)
+
+-- the place after a row
+pub puts-after : {old new : List ℕ} {at : ℕ} {row : List Symbol} {next : ℕ} → Puts old new at row next → next ≡ at + length row
+puts-after {at = at} {row} w = w .after ∙ ap (λ (n : ℕ). at + n) (sym (length-map (w .numbers) symbolOf) ∙ ap length (w .means))
+
+-- ---- paths in arrays
+
+-- the last of some paths
+from-last : (em next left goal : List ℕ) (j n : ℕ)
+    → placementsFrom em next left goal j (suc n) ≡ placementsFrom em next left goal j n ++ (placementOf em (getD next (j + n) 0) (getD left (j + n) 0) (getD goal (j + n) 0) ∷ [])
+unfolding placementsFrom
+from-last em next left goal j zero = rw (add-zero j) refl
+from-last em next left goal j (suc n) =
+    let same : suc j + n ≡ j + suc n = omega arith in
+    ap (λ (l : List (Placement Shape)). placementOf em (getD next j 0) (getD left j 0) (getD goal j 0) ∷ l)
+    (rw same at (from-last em next left goal (suc j) n))
+
+-- a store behind some paths leaves them
+from-kept : (em next left goal : List ℕ) (k a b c j n : ℕ) → j + n ≤ k
+    → placementsFrom em (set next k a) (set left k b) (set goal k c) j n ≡ placementsFrom em next left goal j n
+unfolding placementsFrom
+from-kept em next left goal k a b c j zero h = refl
+from-kept em next left goal k a b c j (suc n) h =
+    rw (getD-set-other next k j a 0 (λ e. omega arith), getD-set-other left k j b 0 (λ e. omega arith), getD-set-other goal k j c 0 (λ e. omega arith), from-kept em next left goal k a b c (suc j) n (omega arith)) refl
+
+module _ {em : List ℕ} {e : Edges} (paths : Readable em e) (less : e .count < 16) (next left goal : ℕ) where
+  -- a path more is a placement more
+  pub push-placements : placementsOf em (push e next left goal) ≡ placementsOf em e ++ (placementOf em next left goal ∷ [])
+  unfolding push
+  push-placements =
+      rw (add-one (e .count)) (from-last em (set (e .next) (e .count) next) (set (e .left) (e .count) left) (set (e .hole) (e .count) goal) 0 (e .count)
+      ∙ rw (zero-add (e .count), getD-set-same (e .next) (e .count) next 0 (omega (arith, paths .next-places)), getD-set-same (e .left) (e .count) left 0 (omega (arith, paths .left-places)), getD-set-same (e .hole) (e .count) goal 0 (omega (arith, paths .hole-places)), from-kept em (e .next) (e .left) (e .hole) (e .count) next left goal 0 (e .count) (omega arith)) refl)
+
+  -- and the paths stay readable
+  pub push-readable : next + 2 * left ≤ length em + 1 → IsHole goal → Readable em (push e next left goal)
+  unfolding push
+  push-readable within is-hole =
+      record {
+        few = omega arith;
+        next-places = length-set (e .next) (e .count) next ∙ paths .next-places;
+        left-places = length-set (e .left) (e .count) left ∙ paths .left-places;
+        hole-places = length-set (e .hole) (e .count) goal ∙ paths .hole-places;
+        within = λ j h. go-within j (eqb j (e .count)) refl h;
+        is-hole = λ j h. go-hole j (eqb j (e .count)) refl h;
+      }
+    where
+      go-within : (j : ℕ) (b : Bool) → eqb j (e .count) ≡ b → j < e .count + 1 → getD (set (e .next) (e .count) next) j 0 + 2 * getD (set (e .left) (e .count) left) j 0 ≤ length em + 1
+      go-within j true q h =
+          let here : j ≡ e .count = eqb-true j (e .count) q in
+          rw (here, getD-set-same (e .next) (e .count) next 0 (omega (arith, paths .next-places)), getD-set-same (e .left) (e .count) left 0 (omega (arith, paths .left-places))) within
+      go-within j false q h =
+          let other : j ≡ e .count → ⊥ = eqb-false j (e .count) q in
+          rw (getD-set-other (e .next) (e .count) j next 0 other, getD-set-other (e .left) (e .count) j left 0 other) (paths .within j (omega (arith, other)))
+
+      go-hole : (j : ℕ) (b : Bool) → eqb j (e .count) ≡ b → j < e .count + 1 → IsHole (getD (set (e .hole) (e .count) goal) j 0)
+      go-hole j true q h =
+          let here : j ≡ e .count = eqb-true j (e .count) q in
+          rw (here, getD-set-same (e .hole) (e .count) goal 0 (omega (arith, paths .hole-places))) is-hole
+      go-hole j false q h =
+          let other : j ≡ e .count → ⊥ = eqb-false j (e .count) q in
+          rw (getD-set-other (e .hole) (e .count) j goal 0 other) (paths .is-hole j (omega (arith, other)))
+
+-- no paths are readable
+pub none-readable : (em : List ℕ) → Readable em noEdges
+unfolding noEdges
+none-readable em =
+    record {
+      few = omega arith;
+      next-places = refl;
+      left-places = refl;
+      hole-places = refl;
+      within = λ j h. absurd (omega arith);
+      is-hole = λ j h. absurd (omega arith);
+    }
+
+pub none-placed : (em : List ℕ) → placementsOf em noEdges ≡ []
+unfolding noEdges placementsFrom
+none-placed em = refl
+
+-- ---- the paths beyond a step
+
+-- a path whose first step is q
+pub under-first : (em : List ℕ) (q next left goal : ℕ) (ps : List (Placement Shape)) → 0 < q → firstOf (stepsFrom em next left) ≡ q
+    → (0 < left) × (under q (placementOf em next left goal ∷ ps) ≡ placementOf em (next + 2) (left - 1) goal ∷ under q ps)
+unfolding under beyond pick placementOf firstOf stepsFrom
+under-first em q next zero goal ps some is = absurd (omega arith)
+under-first em q next (suc left) goal ps some is =
+    let less : suc left - 1 ≡ left = omega arith in
+    (omega arith, rw (is, eq-eqb q q refl, less) refl)
+
+-- a path with another first step, or none
+pub under-another : (em : List ℕ) (q next left goal : ℕ) (ps : List (Placement Shape)) → (firstOf (stepsFrom em next left) ≡ q → ⊥)
+    → under q (placementOf em next left goal ∷ ps) ≡ under q ps
+unfolding under beyond pick placementOf firstOf stepsFrom
+under-another em q next zero goal ps other = refl
+under-another em q next (suc left) goal ps other = rw (ne-eqb q (getD em next 0) (λ e. other (sym e))) refl

@@ -1,0 +1,70 @@
+-- `read_text` meets its contract: the characters are the bytes up to the 32.
+use native.Mathlib.Omega.{arith}
+use borrow.Author.Needs.{needs}
+use Rattle.model.specs.Theorems.Tools.{some-none}
+use Rattle.inverse.proofs.Elements.{text-within, text-copied, text-too-long}
+use Rattle.inverse.proofs.read_text.Statement.{statement}
+use Rattle.inverse.proofs.read_text.Tie as tie
+
+along-requires : tie.Need-along-requires
+along-requires c κs = let start = c .before .before .before .before in (start .pre .0, ((start .pre .1 .0, omega arith), (start .pre .1 .1 .0, start .pre .1 .1 .1 .0)))
+
+enum-known-found : tie.Need-enum-known-found
+enum-known-found c = search needs
+
+close-of-requires : tie.Need-close-of-requires
+close-of-requires c κs =
+    let start = c .before .before .before .before .before .before .before .before in
+    let here = start .pre .1 .1 .1 .0 in
+    let found = rw (c .before .found .given .1) at (c .before .before .before .along .ensures (here .0) (here .1)) in
+    (start .pre .0, (found .content, found .there))
+
+sub-if1 : tie.Need-sub-if1
+sub-if1 c = let start = c .before .before .before .before .before .before .before .before .before in start .pre .1 .1 .1 .1
+
+sub-if1-2 : tie.Need-sub-if1-2
+sub-if1-2 c =
+    let here = c .before .before .before .before .before .before .before .before .before .pre .1 .1 .1 .0 in
+    text-within (rw (c .before .before .found .given .1) at (c .before .before .before .before .along .ensures (here .0) (here .1))) (c .close-of .ensures) .0
+
+returns : tie.Need-returns
+returns c =
+    let start = c .before .before .before .before .before .before .before .before .before .before in
+    λ k a. text-too-long (rw (c .before .before .before .found .given .1) at (c .before .before .before .before .before .along .ensures k a)) (c .before .close-of .ensures) (start .args .out .now) (start .args .task .at) (c .if1 .taken)
+
+copy-requires : tie.Need-copy-requires
+copy-requires c κs =
+    let start = c .before .before .before .before .before .before .before .before .before .before .before in
+    let here = start .pre .1 .1 .1 .0 in
+    let within = text-within (rw (c .before .before .before .before .found .given .1) at (c .before .before .before .before .before .before .along .ensures (here .0) (here .1))) (c .before .before .close-of .ensures) in
+    (within .0, within .1, omega (arith, within .0, c .before .if1 .left, start .pre .1 .1 .1 .1))
+
+enum-told : tie.Need-enum-told
+enum-told c = search needs
+
+same-length : tie.Need-same-length
+same-length c = search needs
+
+returns-2 : tie.Need-returns-2
+returns-2 c =
+    let start = c .before .before .before .before .before .before .before .before .before .before .before .before .before .before in
+    λ k a. text-copied (rw (c .before .before .before .before .before .before .before .found .given .1) at (c .before .before .before .before .before .before .before .before .before .along .ensures k a)) (c .before .before .before .before .before .close-of .ensures) (c .before .before .before .before .if1 .left) (start .pre .1 .1 .1 .1) (c .before .before .copy .ensures)
+
+returns-3 : tie.Need-returns-3
+returns-3 c = λ k a j e. some-none e (rw (c .enum-told .given .1) at (c .before .before .along .ensures k a))
+
+pub read-text-spec : {M : Type 1} → statement M
+read-text-spec =
+    tie.close
+    (tie.spec
+    along-requires
+    enum-known-found
+    close-of-requires
+    sub-if1
+    sub-if1-2
+    returns
+    copy-requires
+    enum-told
+    same-length
+    returns-2
+    returns-3)

@@ -1,0 +1,86 @@
+-- `is_image` meets its contract: the root's row is compared between the commands of the root and the end of the document.
+use native.Mathlib.Omega.{arith}
+use borrow.Rule.Slice.PartAt.{part-to-end}
+use Rattle.scanning.specs.Laws.{content-within}
+use Rattle.scanning.specs.Spanning.{spans-part}
+use Rattle.filling.specs.Whole.{held, image-root, image-row}
+use Rattle.matching.specs.Same.{stays, goes}
+use Rattle.matching.proofs.Whole.{image-unopened, image-unlike, image-ends}
+use Rattle.matching.proofs.is_image.Statement.{statement}
+use Rattle.matching.proofs.is_image.Tie as tie
+
+row-of-requires : tie.Need-row-of-requires
+row-of-requires c κs = let a = c .before .before .before .before .before .pre .1 .1 in (a .prepared .ready .source-bounded, image-root a)
+
+same-open-requires : tie.Need-same-open-requires
+same-open-requires c κs = omega arith
+
+returns : tie.Need-returns
+returns c = λ bs a. image-unopened a (c .before .before .same-open .ensures) (stays _ (c .if1 .taken))
+
+sub-run : tie.Need-sub-run
+sub-run c = omega (arith, content-within (image-root (c .before .before .before .before .before .before .before .before .before .pre .1 .1) .element .within))
+
+part-run-start : tie.Need-part-run-start
+part-run-start c = omega (arith, content-within (image-root (c .before .before .before .before .before .before .before .before .before .pre .1 .1) .element .within))
+
+part-run-end : tie.Need-part-run-end
+part-run-end c = omega arith
+
+sub-run-2 : tie.Need-sub-run-2
+sub-run-2 c = let start = c .before .before .before .before .before .before .before .before .before .before in omega (arith, content-within (image-root (start .pre .1 .1) .element .within), start .pre .0 .whole)
+
+part-run-start-2 : tie.Need-part-run-start-2
+part-run-start-2 c = let start = c .before .before .before .before .before .before .before .before .before .before in omega (arith, content-within (image-root (start .pre .1 .1) .element .within), start .pre .0 .whole)
+
+part-run-end-2 : tie.Need-part-run-end-2
+part-run-end-2 c = omega arith
+
+run-requires : tie.Need-run-requires
+run-requires c κs =
+    let start = c .before .before .before .before .before .before .before .before .before .before .before in
+    let a = start .pre .1 .1 in
+    let is-part = part-to-end (start .args .tr .now) 2 in (
+      spans-part 2 (start .pre .0) is-part (part-to-end (start .args .sp .now) 2),
+      record {
+        bytes = held a;
+        asked = image-row a is-part (c .before .before .before .before .before .row-of .ensures (image-root a));
+        within = c .before .before .before .before .same-open .ensures .within (goes _ (c .before .before .if1 .left));
+      },
+    )
+
+returns-2 : tie.Need-returns-2
+returns-2 c =
+    λ bs a.
+    image-unlike a (c .before .before .before .before .before .before .before .same-open .ensures) (goes _ (c .before .before .before .before .before .if1 .left))
+    (c .before .before .run .ensures (held a) (image-row a (part-to-end (c .before .before .before .before .before .before .before .before .before .before .before .before .before .before .args .tr .now) 2) (c .before .before .before .before .before .before .before .before .row-of .ensures (image-root a)))) (stays _ (c .if2 .taken))
+
+ends-requires : tie.Need-ends-requires
+ends-requires c κs =
+    let start = c .before .before .before .before .before .before .before .before .before .before .before .before .before .before in
+    let a = start .pre .1 .1 in
+    c .before .before .run .ensures (held a) (image-row a (part-to-end (start .args .tr .now) 2) (c .before .before .before .before .before .before .before .before .row-of .ensures (image-root a))) .within (goes _ (c .if2 .left))
+
+returns-3 : tie.Need-returns-3
+returns-3 c =
+    λ bs a.
+    image-ends a (c .before .before .before .before .before .before .before .before .same-open .ensures) (goes _ (c .before .before .before .before .before .before .if1 .left))
+    (c .before .before .before .run .ensures (held a) (image-row a (part-to-end (c .before .before .before .before .before .before .before .before .before .before .before .before .before .before .before .args .tr .now) 2) (c .before .before .before .before .before .before .before .before .before .row-of .ensures (image-root a)))) (goes _ (c .before .if2 .left)) (c .ends .ensures)
+
+pub is-image-spec : {M : Type 1} → statement M
+is-image-spec =
+    tie.close
+    (tie.spec
+    row-of-requires
+    same-open-requires
+    returns
+    sub-run
+    part-run-start
+    part-run-end
+    sub-run-2
+    part-run-start-2
+    part-run-end-2
+    run-requires
+    returns-2
+    ends-requires
+    returns-3)

@@ -1,5 +1,0 @@
-pub mod Sized
-pub mod Following
-pub mod Windows
-pub mod Measuring
-pub mod Elements

@@ -1,0 +1,104 @@
+-- Conforming content, read from its start: which children are left.
+use mathlib.Core.Path.{_≡_, refl, sym}
+use mathlib.Core.Bool.{Bool, true, false}
+use mathlib.Core.List.{List, [], _∷_, List·Memᴰ, List·Memᴰ·head, List·Memᴰ·tail}
+use Prim.Native.Nat.{ℕ, suc, _+_, _<_}
+use native.Mathlib.Omega.{arith}
+use lib.ListN.{length}
+use lib.Dec.{eqb}
+use borrow.Author.Tests.{eq-eqb}
+use Rattle.model.specs.Definitions.Basics.{pick}
+use Rattle.model.specs.Definitions.Table.{Kind, text, empty, sequence, choice, list, Table, kindOf, membersOf}
+use Rattle.model.specs.Definitions.Content.{Content, end, char, elem}
+use Rattle.model.specs.Definitions.Conformance.{Holds, no-character, one-character, nothing, no-member, one-member, chosen, no-item, one-item}
+use Rattle.model.specs.Definitions.Templates.{firstIn}
+use Rattle.model.specs.Theorems.Facts.{WellFormed}
+use Rattle.rows.specs.Rows.{indexIn, Chosen, of-text, of-empty, of-sequence, of-choice, of-list}
+use Rattle.measuring.specs.Measured.{typeAhead}
+use Rattle.measuring.proofs.Edges.{HasEdge, in-sequence, in-choice, in-list}
+
+-- What is left of the content of an element of kind κ from child number i on: each child's type exists, what it holds
+-- conforms, and it has an edge.
+pub data Left (S : Table) (κ : Kind) : ℕ → Content → Type 0 where
+  none-left : {i : ℕ} → Left S κ i end
+  character-left : {i c : ℕ} {r : Content} → Left S κ i r → Left S κ i (char c r)
+  child-left : {i t : ℕ} {k r : Content} → t < length S → Holds S (kindOf S t) k → HasEdge i t κ → Left S κ (suc i) r → Left S κ i (elem t k r)
+
+pub after-letter : {S : Table} {κ : Kind} {i c : ℕ} {r : Content} → Left S κ i (char c r) → Left S κ i r
+after-letter (character-left rest) = rest
+
+-- the child that stands first, and the rest
+pub record ChildLeft (S : Table) (κ : Kind) (i t : ℕ) (k r : Content) : Type 0 where
+  pub exists : t < length S
+  pub holds : Holds S (kindOf S t) k
+  pub edge : HasEdge i t κ
+  pub rest : Left S κ (suc i) r
+
+pub child-of : {S : Table} {κ : Kind} {i t : ℕ} {k r : Content} → Left S κ i (elem t k r) → ChildLeft S κ i t k r
+child-of (child-left exists holds edge rest) = record { exists = exists; holds = holds; edge = edge; rest = rest }
+
+-- a member of a list has a place in it
+member-index : (t : ℕ) (ms : List ℕ) → List·Memᴰ t ms → indexIn t ms < length ms
+unfolding indexIn pick
+member-index t (m ∷ ms) (List·Memᴰ·head e) = rw (eq-eqb t m e) (omega arith)
+member-index t (m ∷ ms) (List·Memᴰ·tail e) = go (eqb t m) (member-index t ms e)
+  where
+    go : (b : Bool) → indexIn t ms < length ms → pick b 0 (suc (indexIn t ms)) < suc (length ms)
+    go true less = omega arith
+    go false less = omega (arith, less)
+
+module _ (S : Table) where
+  left-text : {i : ℕ} {k : Content} → Holds S text k → Left S text i k
+  left-text no-character = none-left
+  left-text (one-character a h) = character-left (left-text h)
+
+  left-list : {i m : ℕ} {k : Content} → m < length S → Holds S (list m) k → Left S (list m) i k
+  left-list less no-item = none-left
+  left-list less (one-item hk hr) = child-left less hk in-list (left-list less hr)
+
+  -- the members of a sequence from number i on
+  left-sequence : {i : ℕ} {ms all : List ℕ} {k : Content} → i + length ms ≡ length all → ((m : ℕ) → List·Memᴰ m ms → m < length S)
+      → Holds S (sequence ms) k → Left S (sequence all) i k
+  left-sequence many exist no-member = none-left
+  left-sequence {i = i} {all = all} many exist (one-member {m = m} hk hr) =
+      let less : i < length all = omega (arith, many) in
+      child-left (exist m (List·Memᴰ·head refl)) hk (in-sequence less) (left-sequence (omega (arith, many)) (λ n e. exist n (List·Memᴰ·tail e)) hr)
+
+  -- all of conforming content
+  left-all : (κ : Kind) {k : Content} → ((m : ℕ) → List·Memᴰ m (membersOf κ) → m < length S) → Holds S κ k → Left S κ 0 k
+  unfolding membersOf
+  left-all text exist h = left-text h
+  left-all empty exist nothing = none-left
+  left-all (sequence ms) exist h = left-sequence (omega arith) exist h
+  left-all (choice ms) exist (chosen {m = m} e hk) = child-left (exist m e) hk (in-choice (member-index m ms e)) none-left
+  left-all (list m) exist h = left-list (exist m (List·Memᴰ·head refl)) h
+
+  -- the first child of a choice is a member
+  pub first-chosen : (κ : Kind) {k : Content} → Holds S κ k → Chosen (firstIn k) κ
+  unfolding firstIn
+  first-chosen text h = of-text
+  first-chosen empty h = of-empty
+  first-chosen (sequence ms) h = of-sequence
+  first-chosen (choice ms) (chosen {m = m} e hk) = of-choice (member-index m ms e)
+  first-chosen (list m) h = of-list
+
+  -- conforming content has its first child at its start, if it has one
+  no-child : {k : Content} → Holds S text k → firstIn k ≡ 0
+  unfolding firstIn
+  no-child no-character = refl
+  no-child (one-character a h) = no-child h
+
+  pub first-ahead : {κ : Kind} {k : Content} → Holds S κ k → typeAhead k ≡ firstIn k
+  unfolding firstIn typeAhead
+  first-ahead no-character = refl
+  first-ahead (one-character a h) = sym (no-child h)
+  first-ahead nothing = refl
+  first-ahead no-member = refl
+  first-ahead (one-member hk hr) = refl
+  first-ahead (chosen e hk) = refl
+  first-ahead no-item = refl
+  first-ahead (one-item hk hr) = refl
+
+-- of an element of a well-formed table
+pub left-of : {S : Table} → WellFormed S → (s : ℕ) {k : Content} → Holds S (kindOf S s) k → Left S (kindOf S s) 0 k
+left-of {S} wf s holds = left-all S (kindOf S s) (λ m. wf .members-exist s m) holds

@@ -1,0 +1,4 @@
+pub mod Following
+pub mod Stepping
+pub mod Cutting
+pub mod Edges

@@ -1,0 +1,62 @@
+-- From the rows of filler to those of all source types.
+use mathlib.Core.Path.{_≡_, sym, _∙_}
+use mathlib.Core.List.{List}
+use Prim.Native.Nat.{ℕ, _+_, _-_, _*_, _≤_}
+use native.Mathlib.Omega.{arith}
+use lib.ListN.{length}
+use Rattle.loaded_table.specs.Loaded.{typesIn}
+use Rattle.loaded_setting.specs.Ready.{settingIn, Ready}
+use Rattle.rows.specs.Rows.{Rows}
+use Rattle.filler_rows.specs.Storing.{Sound, FillersStored}
+use Rattle.preparing.specs.Preparing.{roomOf}
+use Rattle.preparing.specs.Wanted.{done-fillers, done-all}
+use Rattle.preparing.specs.Progress.{Progress}
+
+pub target-sound : {source target map em : List ℕ} → Ready source target map em → Sound target
+target-sound ready = record { bounded = ready .target-bounded; sound = ready .valid .target-sound; kept = ready .kept }
+
+pub filler-room : (source target map : List ℕ) {n : ℕ} → roomOf source target map ≤ n → 16 * typesIn target ≤ n
+unfolding roomOf
+filler-room source target map room = omega (arith, room)
+
+module _ {source target map em : List ℕ} where
+  -- of the pool and the places that there were, only the lengths matter
+  pub progress-from : {pool₀ places₀ pool₁ places₁ : List ℕ} {s : ℕ} {pool places : List ℕ} {at : ℕ} → length pool₀ ≡ length pool₁ → length places₀ ≡ length places₁
+      → Progress source target map em pool₀ places₀ s pool places at → Progress source target map em pool₁ places₁ s pool places at
+  progress-from same same′ now =
+      let whole = now .whole in
+      record {
+        whole = record {
+          pool-length = whole .pool-length ∙ same;
+          places-length = whole .places-length ∙ same′;
+          fits = omega (arith, whole .fits, same);
+          within = λ r. omega (arith, whole .within r, same);
+        };
+        done = now .done;
+        room = omega (arith, now .room, same);
+      }
+
+  -- as seen from here
+  pub progress-here : {pool₀ places₀ : List ℕ} {s : ℕ} {pool places : List ℕ} {at : ℕ} → Progress source target map em pool₀ places₀ s pool places at
+      → Progress source target map em pool places s pool places at
+  progress-here now = progress-from (sym (now .whole .pool-length)) (sym (now .whole .places-length)) now
+
+  -- and from where it began
+  pub progress-on : {pool₀ places₀ : List ℕ} {s : ℕ} {pool places : List ℕ} {at : ℕ} → Progress source target map em pool₀ places₀ s pool places at
+      → {s′ : ℕ} {pool′ places′ : List ℕ} {at′ : ℕ} → Progress source target map em pool places s′ pool′ places′ at′ → Progress source target map em pool₀ places₀ s′ pool′ places′ at′
+  progress-on now next = progress-from (now .whole .pool-length) (now .whole .places-length) next
+
+  -- the rows of filler are made
+  pub progress-fillers : Ready source target map em → {pool₀ places₀ pool places : List ℕ} {at : ℕ} → roomOf source target map ≤ length pool₀
+      → FillersStored target pool₀ places₀ (typesIn target) pool places at → Progress source target map em pool₀ places₀ 0 pool places at
+  unfolding roomOf
+  progress-fillers ready room fillers =
+      let none : 64 + 0 * 17 ≡ 64 = omega arith in
+      let all : (typesIn source - 0) * 16 ≡ typesIn source * 16 = omega arith in
+      let first : 0 * 16 ≡ 0 = omega arith in
+      record { whole = fillers .whole; done = rw none (done-fillers ready fillers); room = rw (first, all) (omega (arith, room, fillers .few)) }
+
+  -- the rows of all types are made
+  pub progress-all : Ready source target map em → {pool₀ places₀ : List ℕ} {s : ℕ} {pool places : List ℕ} {at : ℕ} → 3 * (64 + typesIn source * 17) ≤ length places₀ → s ≡ typesIn source
+      → Progress source target map em pool₀ places₀ s pool places at → Rows (settingIn source target map em) pool places
+  progress-all ready long is now = done-all ready long (now .whole) (rw is at (now .done))

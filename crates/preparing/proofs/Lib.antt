@@ -1,0 +1,5 @@
+pub mod Making
+pub mod Adding
+pub mod Steps
+pub mod Going
+pub mod Listing

@@ -1,0 +1,77 @@
+-- `room` meets its contract.
+use mathlib.Core.Path.{ap₂, _∙_}
+use Prim.Native.Nat.{ℕ, _+_, _-_, _*_}
+use native.Mathlib.Omega.{arith}
+use borrow.Author.Needs.{needs}
+use Rattle.preparing.specs.Preparing.{edgeRoom, roomOf}
+use Rattle.preparing.proofs.Adding.{Adds, adds-none, adds-more, adds-all}
+use Rattle.preparing.proofs.room.Statement.{statement}
+use Rattle.preparing.proofs.room.Tie as tie
+
+abbrev Inv-loop : tie.InvT-loop
+Inv-loop source target map all total₀ i₀ total i = Adds map total₀ all total i
+
+abbrev μ-loop : tie.MeasureT-loop
+μ-loop source target map all total₀ i₀ total i = all - i
+
+types-requires : tie.Need-types-requires Inv-loop μ-loop
+types-requires c κs = search needs
+
+mul-all : tie.Need-mul-all Inv-loop μ-loop
+mul-all c = omega (arith, c .types .ensures .1)
+
+types-requires-2 : tie.Need-types-requires-2 Inv-loop μ-loop
+types-requires-2 c κs = search needs
+
+mul-total : tie.Need-mul-total Inv-loop μ-loop
+mul-total c = omega (arith, c .types2 .ensures .1)
+
+loop-holds : tie.Need-loop-holds Inv-loop μ-loop
+loop-holds c = adds-none _ _ _
+
+steps-requires : tie.Need-steps-requires Inv-loop μ-loop
+steps-requires c κs = omega (arith, c .loop-test .taken, c .before .before .before .types .ensures .0, c .before .before .before .before .pre)
+
+mul-total-2 : tie.Need-mul-total-2 Inv-loop μ-loop
+mul-total-2 c = omega (arith, c .steps .ensures .1)
+
+add-total : tie.Need-add-total Inv-loop μ-loop
+add-total c = omega (arith, c .steps .ensures .1)
+
+add-total-2 : tie.Need-add-total-2 Inv-loop μ-loop
+add-total-2 c = omega (arith, c .steps .ensures .1, c .before .before .loop .inv .small, c .before .loop-test .taken, c .before .before .before .before .types .ensures .1, c .before .before .before .types2 .ensures .1)
+
+add-i : tie.Need-add-i Inv-loop μ-loop
+add-i c = omega (arith, c .before .loop-test .taken)
+
+loop-less : tie.Need-loop-less Inv-loop μ-loop
+loop-less c = omega (arith, c .before .loop-test .taken)
+
+loop-again : tie.Need-loop-again Inv-loop μ-loop
+loop-again c = adds-more (c .before .before .loop .inv) (c .before .loop-test .taken) (c .steps .ensures .0) (c .steps .ensures .1)
+
+returns : tie.Need-returns Inv-loop μ-loop
+unfolding roomOf
+returns c =
+    let start = c .before .before .before .before in
+    adds-all (c .before .loop .inv) (c .loop-test .left) ∙ ap₂ (λ (a b : ℕ). a * 16 + edgeRoom (start .args .map .now) 0 (b * 16)) (c .before .before .types2 .ensures .0) (c .before .before .before .types .ensures .0)
+
+pub room-spec : {M : Type 1} → statement M
+room-spec =
+    tie.close
+    (tie.spec
+    Inv-loop
+    μ-loop
+    types-requires
+    mul-all
+    types-requires-2
+    mul-total
+    loop-holds
+    steps-requires
+    mul-total-2
+    add-total
+    add-total-2
+    add-i
+    loop-less
+    loop-again
+    returns)

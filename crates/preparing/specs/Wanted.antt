@@ -1,0 +1,116 @@
+-- The rows that a setting wants, by number; rows are made in the order of their numbers.
+use mathlib.Core.Path.{_≡_, refl, _∙_}
+use mathlib.Core.Bool.{Bool, true, false}
+use mathlib.Core.List.{List}
+use Prim.Native.Nat.{ℕ, _+_, _*_, _≤_, _<_}
+use native.Mathlib.Omega.{arith}
+use lib.ListN.{length}
+use lib.Dec.{eqb}
+use borrow.Author.Tests.{eqb-true, eqb-false}
+use Rattle.model.specs.Definitions.Table.{kindOf, list}
+use Rattle.model.specs.Definitions.Image.{Setting}
+use Rattle.model.specs.Definitions.Templates.{Symbol, template, itemTemplate, fillerRow, dividedOf}
+use Rattle.loaded_table.specs.Loaded.{tableBy, typesIn, length-of}
+use Rattle.loaded_setting.specs.Ready.{settingIn, Ready}
+use Rattle.rows.specs.Rows.{rowIndex, sourceRow, itemRow, Chosen, Rows}
+use Rattle.growing.specs.Laws.{puts-length}
+use Rattle.row_sizes.specs.Sizes.{source-row-small, source-index-small}
+use Rattle.filler_rows.specs.Storing.{Stored, Whole, FillersStored}
+use Rattle.filler_rows.specs.Laws.{stored-kept, stored-beside, stored-placed, placed-length, placed-within}
+use Rattle.preparing.specs.Preparing.{RowMade}
+
+-- row r is to be `row`, with d elements open around it
+pub data Wanted (X : Setting) (r : ℕ) (row : List Symbol) (d : ℕ) : Type 0 where
+  of-filler : (τ : ℕ) → τ < length (X .target) → r ≡ τ → row ≡ fillerRow (X .target) τ → d ≡ 0 → Wanted X r row d
+  of-type : (s t : ℕ) → s < length (X .source) → Chosen t (kindOf (X .source) s) → r ≡ sourceRow (X .source) s t → row ≡ template X s t → d ≡ 0 → Wanted X r row d
+  of-item : (s m : ℕ) → s < length (X .source) → kindOf (X .source) s ≡ list m → r ≡ itemRow s → row ≡ itemTemplate X s → d ≡ length (dividedOf X s .before) → Wanted X r row d
+
+-- the rows before number k stand before place `at`
+pub record Done (X : Setting) (k : ℕ) (pool places : List ℕ) (at : ℕ) : Type 0 where
+  pub stored : (r : ℕ) (row : List Symbol) (d : ℕ) → Wanted X r row d → r < k → Stored pool places at r row d
+
+-- one row more, where it is what is wanted
+pub done-more : {X : Setting} {k : ℕ} {pool places : List ℕ} {at : ℕ} {content : List Symbol} {depth : ℕ} {pool′ places′ : List ℕ} {end : ℕ} → Done X k pool places at
+    → RowMade pool places at k content depth pool′ places′ end → ((row : List Symbol) (d : ℕ) → Wanted X k row d → (content ≡ row) × (depth ≡ d)) → Done X (k + 1) pool′ places′ end
+done-more {X} {k} {pool} {places} {at} {content} {depth} {pool′} {places′} {end} now made is =
+    record { stored = λ r row d wanted less. go r row d wanted less (eqb r k) refl }
+  where
+    go : (r : ℕ) (row : List Symbol) (d : ℕ) → Wanted X r row d → r < k + 1 → (b : Bool) → eqb r k ≡ b → Stored pool′ places′ end r row d
+    go r row d wanted less true e =
+        let here : r ≡ k = eqb-true r k e in
+        let what = is row d (rw here at wanted) in
+        rw (here, ← what .0, ← what .1) (stored-placed (made .placed) (made .ends) (made .holds))
+    go r row d wanted less false e =
+        stored-beside (made .placed) (eqb-false r k e) (stored-kept (made .puts) (now .stored r row d wanted (omega (arith, eqb-false r k e))))
+
+-- rows that nobody wants are passed
+pub done-past : {X : Setting} {k : ℕ} {pool places : List ℕ} {at : ℕ} (k′ : ℕ) → Done X k pool places at → ((r : ℕ) (row : List Symbol) (d : ℕ) → Wanted X r row d → r < k′ → r < k) → Done X k′ pool places at
+done-past k′ now none = record { stored = λ r row d wanted less. now .stored r row d wanted (none r row d wanted less) }
+
+-- the pool and the places stay whole
+pub whole-more : {pool₀ places₀ pool places : List ℕ} {at k : ℕ} {content : List Symbol} {depth : ℕ} {pool′ places′ : List ℕ} {end : ℕ} → Whole pool₀ places₀ pool places at
+    → RowMade pool places at k content depth pool′ places′ end → end ≤ length pool₀ → Whole pool₀ places₀ pool′ places′ end
+whole-more now made fits =
+    record {
+      pool-length = puts-length (made .puts) ∙ now .pool-length;
+      places-length = placed-length (made .placed) ∙ now .places-length;
+      fits = fits;
+      within = placed-within (made .placed) (omega (arith, made .ends)) (now .within);
+    }
+
+-- rows of filler are the first
+pub done-fillers : {source target map em pool₀ places₀ pool places : List ℕ} {at : ℕ} → Ready source target map em
+    → FillersStored target pool₀ places₀ (typesIn target) pool places at → Done (settingIn source target map em) 64 pool places at
+unfolding sourceRow itemRow
+done-fillers {source} {target} {map} {em} {pool₀} {places₀} {pool} {places} {at} ready fillers = record { stored = λ r row d wanted less. go r row d wanted less }
+  where
+    go : (r : ℕ) (row : List Symbol) (d : ℕ) → Wanted (settingIn source target map em) r row d → r < 64 → Stored pool places at r row d
+    go r row d (of-filler τ exists is what depth) less = rw (is, what, depth) (fillers .stored τ (omega (arith, exists, length-of target)))
+    go r row d (of-type s t exists chosen is what depth) less = absurd (omega (arith, is))
+    go r row d (of-item s m exists kind is what depth) less = absurd (omega (arith, is))
+
+-- all rows are done
+pub done-all : {source target map em pool₀ places₀ pool places : List ℕ} {at : ℕ} → Ready source target map em → 3 * (64 + typesIn source * 17) ≤ length places₀
+    → Whole pool₀ places₀ pool places at → Done (settingIn source target map em) (64 + typesIn source * 17) pool places at → Rows (settingIn source target map em) pool places
+unfolding itemRow
+done-all {source} {target} {map} {em} {pool₀} {places₀} {pool} {places} {at} ready long whole done =
+    record {
+      long = omega (arith, long, whole .places-length, length-of source);
+      within = λ r. omega (arith, whole .within r, whole .pool-length);
+      filler-at = λ τ exists. done .stored τ _ 0 (of-filler τ exists refl refl refl) (omega (arith, exists, length-of target, ready .target-bounded .few-types)) .holds;
+      template-at = λ s t exists chosen. done .stored _ _ 0 (of-type s t exists chosen refl refl refl) (own-small s t exists chosen) .holds;
+      item-at = λ s m exists kind. done .stored _ _ _ (of-item s m exists kind refl refl refl) (omega (arith, exists, length-of source)) .holds;
+      own-depth = λ s t exists chosen. done .stored _ _ 0 (of-type s t exists chosen refl refl refl) (own-small s t exists chosen) .depth;
+      item-depth = λ s m exists kind. done .stored _ _ _ (of-item s m exists kind refl refl refl) (omega (arith, exists, length-of source)) .depth;
+    }
+  where
+    own-small : (s t : ℕ) → s < length (tableBy source) → Chosen t (kindOf (tableBy source) s) → sourceRow (tableBy source) s t < 64 + typesIn source * 17
+    own-small s t exists chosen = source-row-small (ready .source-bounded) s t (omega (arith, exists, length-of source)) chosen
+
+-- ---- what is wanted of a number
+
+module _ {source target map em : List ℕ} (ready : Ready source target map em) where
+  abbrev X : Setting
+  X = settingIn source target map em
+
+  -- row j of source type s is a template of s
+  pub wanted-type : (s j : ℕ) → j < 16 → {row : List Symbol} {d : ℕ} → Wanted X (64 + (s * 17 + j)) row d
+      → (t : ℕ) × (Chosen t (kindOf (X .source) s)) × (rowIndex (kindOf (X .source) s) t ≡ j) × (row ≡ template X s t) × (d ≡ 0)
+  unfolding itemRow sourceRow
+  wanted-type s j less (of-filler τ exists is what depth) = absurd (omega (arith, exists, length-of target, ready .target-bounded .few-types))
+  wanted-type s j less (of-type s′ t exists chosen is what depth) =
+      let small = source-index-small (ready .source-bounded) s′ t (omega (arith, exists, length-of source)) chosen in
+      let same : s′ ≡ s = omega (arith, small, is) in
+      let index-is : rowIndex (kindOf (X .source) s′) t ≡ j = omega (arith, small, is) in
+      let chosen′ : Chosen t (kindOf (X .source) s) = rw same at chosen in
+      let index : rowIndex (kindOf (X .source) s) t ≡ j = rw same at index-is in
+      (t, chosen′, index, rw same at what, depth)
+  wanted-type s j less (of-item s′ m exists kind is what depth) = absurd (omega arith)
+
+  -- the last row of source type s is the row of its items
+  pub wanted-item : (s : ℕ) {row : List Symbol} {d : ℕ} → Wanted X (64 + (s * 17 + 16)) row d → (row ≡ itemTemplate X s) × (d ≡ length (dividedOf X s .before))
+  unfolding itemRow sourceRow
+  wanted-item s (of-filler τ exists is what depth) = absurd (omega (arith, exists, length-of target, ready .target-bounded .few-types))
+  wanted-item s (of-type s′ t exists chosen is what depth) =
+      absurd (omega (arith, is, source-index-small (ready .source-bounded) s′ t (omega (arith, exists, length-of source)) chosen))
+  wanted-item s (of-item s′ m exists kind is what depth) = let same : s′ ≡ s = omega arith in (rw same at what, rw same at depth)

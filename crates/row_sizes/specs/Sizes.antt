@@ -1,0 +1,107 @@
+-- Sizes from the numbers that the loaded target table keeps are those of the model, held at 60,001.
+use mathlib.Core.Path.{_≡_, refl, sym, ap, _∙_}
+use mathlib.Core.List.{List, [], _∷_}
+use Prim.Native.Nat.{ℕ, zero, suc, _+_, _-_, _*_, _≤_, _<_, min, max}
+use native.Mathlib.Omega.{arith}
+use lib.ListN.{length, take, drop, getD, length-take}
+use Rattle.model.specs.Definitions.Table.{Kind, text, empty, sequence, choice, list, Table, kindOf}
+use Rattle.model.specs.Definitions.Image.{Setting}
+use Rattle.model.specs.Definitions.Heights.{heightOf}
+use Rattle.model.specs.Definitions.Filler.{fillerLength}
+use Rattle.model.specs.Definitions.Templates.{Symbol, opening, closing, filler, hole, rowLength, rowLevels, rowFiller, template, itemTemplate, dividedOf, ownLength, ownFiller, ownLevels, itemLength, itemFiller, itemLevels}
+use Rattle.model.specs.Theorems.Facts.{All, all-none, all-more}
+use Rattle.model.specs.Theorems.Templates.{TypeBelow, template-types, item-types}
+use Rattle.loaded_table.specs.Loaded.{Bounded, Kept, kindFrom, tableBy, typesIn, kindsOf, countsOf, membersIn, length-of, kind-of}
+use Rattle.loaded_setting.specs.Ready.{settingIn, Ready}
+use Rattle.rows.specs.Rows.{rowIndex, sourceRow, itemRow, Chosen, of-text, of-empty, of-sequence, of-choice, of-list, Rows, SizeAt, Sizes}
+use Rattle.row_sizes.specs.Sizing.{heightAt, fillAt, Sized}
+
+module _ {target : List ℕ} {T : Table} (kept : Kept target T) where
+  -- parts of a sum may be held
+  held-sum : (f a b : ℕ) → min 60001 a ≡ min 60001 b → min 60001 (min 60001 f + a) ≡ min 60001 (f + b)
+  held-sum f a b e = omega (arith, e)
+
+  length-same : (row : List Symbol) → All (TypeBelow (length T)) row → min 60001 (rowLength (fillAt target) row) ≡ min 60001 (rowLength (fillerLength T) row)
+  unfolding rowLength
+  length-same [] all-none = refl
+  length-same (opening t ∷ row) (all-more h rest) = omega (arith, length-same row rest)
+  length-same (closing ∷ row) (all-more h rest) = length-same row rest
+  length-same (filler t ∷ row) (all-more h rest) = rw (kept .fill-at t h) (held-sum (fillerLength T t) _ _ (length-same row rest))
+  length-same (hole g ∷ row) (all-more h rest) = length-same row rest
+
+  filler-same : (row : List Symbol) → All (TypeBelow (length T)) row → min 60001 (rowFiller (fillAt target) row) ≡ min 60001 (rowFiller (fillerLength T) row)
+  unfolding rowFiller
+  filler-same [] all-none = refl
+  filler-same (opening t ∷ row) (all-more h rest) = filler-same row rest
+  filler-same (closing ∷ row) (all-more h rest) = filler-same row rest
+  filler-same (filler t ∷ row) (all-more h rest) = rw (kept .fill-at t h) (held-sum (fillerLength T t) _ _ (filler-same row rest))
+  filler-same (hole g ∷ row) (all-more h rest) = filler-same row rest
+
+  levels-same : (d : ℕ) (row : List Symbol) → All (TypeBelow (length T)) row → rowLevels (heightAt target) d row ≡ rowLevels (heightOf T) d row
+  unfolding rowLevels
+  levels-same d [] all-none = refl
+  levels-same d (opening t ∷ row) (all-more h rest) = ap (max (suc d)) (levels-same (suc d) row rest)
+  levels-same d (closing ∷ row) (all-more h rest) = levels-same (d - 1) row rest
+  levels-same d (filler t ∷ row) (all-more h rest) = rw (kept .height-at t h, levels-same d row rest) refl
+  levels-same d (hole g ∷ row) (all-more h rest) = levels-same d row rest
+
+  size-same : {sizes : List ℕ} {r : ℕ} (d : ℕ) (row : List Symbol) → All (TypeBelow (length T)) row
+      → SizeAt sizes r (rowLevels (heightAt target) d row) (rowLength (fillAt target) row) (rowFiller (fillAt target) row)
+      → SizeAt sizes r (rowLevels (heightOf T) d row) (rowLength (fillerLength T) row) (rowFiller (fillerLength T) row)
+  size-same d row types at =
+      record {
+        levels-are = at .levels-are ∙ ap (min 60001) (levels-same d row types);
+        bytes-are = at .bytes-are ∙ length-same row types;
+        filler-is = at .filler-is ∙ filler-same row types;
+      }
+
+-- a choice has at most 16 members
+few-choices : (code count : ℕ) (row ms : List ℕ) → count ≤ 16 → kindFrom code count row ≡ choice ms → length ms ≤ 16
+few-choices zero count row ms few e = let z : _≡_ {A = ℕ} 0 1 = cc in absurd (omega arith)
+few-choices (suc zero) count row ms few e = let z : _≡_ {A = ℕ} 0 1 = cc in absurd (omega arith)
+few-choices (suc (suc zero)) count row ms few e = let z : _≡_ {A = ℕ} 0 1 = cc in absurd (omega arith)
+few-choices (suc (suc (suc zero))) count row ms few e =
+    let same : take count row ≡ ms = cc in
+    omega (arith, ap length same, length-take count row)
+few-choices (suc (suc (suc (suc code)))) count row ms few e = let z : _≡_ {A = ℕ} 0 1 = cc in absurd (omega arith)
+
+index-small : (κ : Kind) (t : ℕ) → ((ms : List ℕ) → κ ≡ choice ms → length ms ≤ 16) → Chosen t κ → rowIndex κ t < 16
+unfolding rowIndex
+index-small text t few of-text = omega arith
+index-small empty t few of-empty = omega arith
+index-small (sequence ms) t few of-sequence = omega arith
+index-small (choice ms) t few (of-choice h) = omega (arith, h, few ms refl)
+index-small (list m) t few of-list = omega arith
+
+-- which of its rows a source type takes
+pub source-index-small : {source : List ℕ} → Bounded source → (s t : ℕ) → s < typesIn source → Chosen t (kindOf (tableBy source) s) → rowIndex (kindOf (tableBy source) s) t < 16
+source-index-small {source} bounded s t exists chosen =
+    let few : (ms : List ℕ) → kindOf (tableBy source) s ≡ choice ms → length ms ≤ 16 =
+    λ ms e. few-choices (getD (kindsOf source) s 0) (getD (countsOf source) s 0) (drop (s * 16) (membersIn source)) ms (bounded .few-members s) (sym (kind-of source s exists) ∙ e) in
+    index-small (kindOf (tableBy source) s) t few chosen
+
+-- the row of a source type is one of the rows
+pub source-row-small : {source : List ℕ} → Bounded source → (s t : ℕ) → s < typesIn source → Chosen t (kindOf (tableBy source) s)
+    → sourceRow (tableBy source) s t < 64 + typesIn source * 17
+unfolding sourceRow
+source-row-small bounded s t exists chosen = omega (arith, source-index-small bounded s t exists chosen)
+
+-- sizes of all rows are the sizes of a setting's templates
+pub sized-all : {source target map em pool places sizes : List ℕ} → Ready source target map em → Rows (settingIn source target map em) pool places
+    → 3 * (64 + typesIn source * 17) ≤ length sizes → Sized target pool places (64 + typesIn source * 17) sizes → Sizes (settingIn source target map em) sizes
+unfolding ownLength ownFiller ownLevels itemLength itemFiller itemLevels itemRow
+sized-all {source} {target} {map} {em} {pool} {places} {sizes} ready rows long sized =
+    record {
+      long = rw (length-of source) long;
+      own-size = λ s t exists chosen.
+          let row = template-types X (ready .valid) s t exists in
+          size-same (ready .kept) 0 (template X s t) row
+          (rw (rows .own-depth s t exists chosen, rows .template-at s t exists chosen) at (sized .at (sourceRow (tableBy source) s t) (source-row-small (ready .source-bounded) s t (omega (arith, length-of source)) chosen)));
+      item-size = λ s m exists e.
+          let row = item-types X (ready .valid) s m exists e in
+          size-same (ready .kept) (length (dividedOf X s .before)) (itemTemplate X s) row
+          (rw (rows .item-depth s m exists e, rows .item-at s m exists e) at (sized .at (64 + (s * 17 + 16)) (omega (arith, length-of source))));
+    }
+  where
+    X : Setting
+    X = settingIn source target map em

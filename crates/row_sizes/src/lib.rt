@@ -1,0 +1,159 @@
+// The sizes of prepared rows: levels, bytes and bytes of filler, each held at 60,001, found by one loop along each row.
+ghost use mathlib.Core.Path.{_≡_};
+ghost use mathlib.Core.List.{List};
+ghost use Prim.Native.Nat.{ℕ, _+_, _-_, _*_, _≤_, _<_, min, max};
+ghost use lib.ListN.{length, set};
+ghost use Rattle.loaded_table.specs.Loaded.{Bounded, typesIn};
+ghost use Rattle.loaded_setting.specs.Ready.{settingIn, Ready};
+ghost use Rattle.rows.specs.Rows.{toOf, rowIn, Rows, Sizes};
+ghost use Rattle.row_sizes.specs.Sizing.{Small, Adds, Measures};
+use codes::MAX_TYPES;
+use codes::OVER_BYTES;
+use loaded_table::TABLE;
+use rows::CHILD;
+use rows::FILLER;
+use rows::ITEMS;
+use rows::Size;
+use rows::TYPE_ROWS;
+
+// What a part of a row comes to, and how many elements are open behind it.
+pub struct Sums {
+    pub depth: usize,
+    pub levels: usize,
+    pub bytes: usize,
+    pub filler: usize,
+}
+
+// A byte at full width.
+fn wide(x: u8) -> usize
+    ensures { λ r. ⌜ (r ≡ x) × (r < 256) ⌝ }
+{
+    x as usize
+}
+
+// A number held at 60,001.
+fn held(x: usize) -> usize
+    ensures { λ r. ⌜ r ≡ min 60001 x ⌝ }
+{
+    if x < OVER_BYTES {
+        return x;
+    }
+    OVER_BYTES
+}
+
+// The larger of two numbers.
+fn larger(a: usize, b: usize) -> usize
+    ensures { λ r. ⌜ r ≡ max a b ⌝ }
+{
+    if a < b {
+        return b;
+    }
+    a
+}
+
+// One less, 0 for 0.
+fn one_less(x: usize) -> usize
+    ensures { λ r. ⌜ r ≡ x - 1 ⌝ }
+{
+    if x == 0 {
+        return 0;
+    }
+    x - 1
+}
+
+// One symbol more.
+fn with_symbol(target: &[u16; TABLE], s: Sums, n: usize) -> Sums
+    requires { ⌜ Small s ⌝ }
+    ensures { λ r. ⌜ Adds (now (target .entry)) n s r ⌝ }
+{
+    let depth = s.depth;
+    let levels = s.levels;
+    if n < wide(FILLER) {
+        return Sums {
+            depth: depth + 1,
+            levels: held(larger(levels, depth + 1)),
+            bytes: held(s.bytes + 3),
+            filler: s.filler,
+        };
+    }
+    if n < wide(CHILD) {
+        let t = n - wide(FILLER);
+        let height = loaded_table::height(target, t);
+        let fill = loaded_table::fill(target, t);
+        return Sums {
+            depth,
+            levels: held(larger(levels, depth + height)),
+            bytes: held(s.bytes + fill),
+            filler: held(s.filler + fill),
+        };
+    }
+    if n <= wide(ITEMS) {
+        return s;
+    }
+    Sums {
+        depth: one_less(depth),
+        levels,
+        bytes: s.bytes,
+        filler: s.filler,
+    }
+}
+
+// The size of the row that stands in the pool from one place up to another, `depth` elements being open around it.
+fn row_size(target: &[u16; TABLE], pool: &[u8], from: usize, to: usize, depth: usize) -> Size
+    requires { ⌜ (to ≤ length (now pool)) × (depth < 4294967296) ⌝ }
+    ensures { λ r. ⌜ Measures (now (target .entry)) (rowIn (now (pool .entry)) from to) depth r ⌝ }
+{
+    let mut sums = Sums {
+        depth,
+        levels: 0,
+        bytes: 0,
+        filler: 0,
+    };
+    let mut i = from;
+    while i < to {
+        sums = with_symbol(target, sums, wide(pool[i]));
+        i += 1;
+    }
+    Size {
+        levels: sums.levels,
+        bytes: sums.bytes,
+        filler: sums.filler,
+    }
+}
+
+// Finds and stores the sizes of all rows.
+pub fn size_rows(
+    source: &[u16; TABLE],
+    target: &[u16; TABLE],
+    pool: &[u8],
+    places: &[u32],
+    sizes: &mut [u16],
+)
+    requires bounded { ⌜ Bounded (now source) ⌝ }
+    requires long { ⌜ (3 * (64 + typesIn (now source) * 17) ≤ length (now places)) × (3 * (64 + typesIn (now source) * 17) ≤ length (now sizes)) ⌝ }
+    requires within { ⌜ ((row : ℕ) → toOf (now places) row ≤ length (now pool)) ⌝ }
+    ensures { λ r. ⌜ ((map em : List ℕ) → Ready (now (source .entry)) (now (target .entry)) map em → Rows (settingIn (now (source .entry)) (now (target .entry)) map em) (now (pool .entry)) (now (places .entry)) → Sizes (settingIn (now (source .entry)) (now (target .entry)) map em) (now (sizes .exit))) ⌝ }
+{
+    let types = loaded_table::types(source);
+    let rows = MAX_TYPES + types * TYPE_ROWS;
+    let mut row = 0;
+    while row < rows {
+        let from = rows::from(places, row);
+        let to = rows::to(places, row);
+        let depth = rows::depth(places, row);
+        let size = row_size(target, pool, from, to, depth);
+        store(sizes, row, size);
+        row += 1;
+    }
+}
+
+// Stores the size of a row.
+fn store(sizes: &mut [u16], row: usize, size: Size)
+    requires { ⌜ (3 * row + 2 < length (now sizes)) × (size .levels ≤ 60001) × (size .bytes ≤ 60001) × (size .filler ≤ 60001) ⌝ }
+    ensures { λ r. ⌜ now (sizes .exit) ≡ set (set (set (now (sizes .entry)) (3 * row) (size .levels)) (3 * row + 1) (size .bytes)) (3 * row + 2) (size .filler) ⌝ }
+{
+    let levels = size.levels;
+    let bytes = size.bytes;
+    let filler = size.filler;
+    rows::store_size(sizes, row, levels as u16, bytes as u16, filler as u16);
+}

@@ -1,0 +1,104 @@
+-- Prepared templates as arrays: a pool of symbols, places that say where each row stands in it, and the sizes of rows.
+use mathlib.Core.Path.{_≡_}
+use mathlib.Core.List.{List, [], _∷_, map}
+use Prim.Native.Nat.{ℕ, suc, _+_, _-_, _*_, _≤_, _<_, min}
+use lib.ListN.{length, take, drop, getD}
+use lib.Dec.{eqb, ltb}
+use Rattle.model.specs.Definitions.Basics.{pick}
+use Rattle.model.specs.Definitions.Table.{Table, Kind, text, empty, sequence, choice, list, kindOf}
+use Rattle.model.specs.Definitions.Image.{Setting}
+use Rattle.model.specs.Definitions.Templates.{Symbol, opening, closing, filler, hole, characters, child, items, template, itemTemplate, fillerRow, dividedOf, ownLength, ownFiller, ownLevels, itemLength, itemFiller, itemLevels}
+
+-- ---- symbols as numbers
+
+-- below 64 an element of that type opens, below 128 a filler element of type n - 64, below 144 child n - 128, then the
+-- characters, the items, and the end of an element
+unfoldable pub symbolOf : ℕ → Symbol
+symbolOf n =
+    pick (ltb n 64) (opening n)
+    (pick (ltb n 128) (filler (n - 64))
+    (pick (ltb n 144) (hole (child (n - 128)))
+    (pick (eqb n 144) (hole characters)
+    (pick (eqb n 145) (hole items)
+    closing))))
+
+-- the row that stands in a pool from one place up to another
+unfoldable pub rowIn : List ℕ → ℕ → ℕ → List Symbol
+rowIn pool from to = map symbolOf (take (to - from) (drop from pool))
+
+-- ---- rows by number: three numbers each, where a row begins and ends, and how many elements are open around it
+
+abbrev pub fromOf : List ℕ → ℕ → ℕ
+fromOf places r = getD places (3 * r) 0
+
+abbrev pub toOf : List ℕ → ℕ → ℕ
+toOf places r = getD places (3 * r + 1) 0
+
+abbrev pub depthIn : List ℕ → ℕ → ℕ
+depthIn places r = getD places (3 * r + 2) 0
+
+abbrev pub rowAt : List ℕ → List ℕ → ℕ → List Symbol
+rowAt pool places r = rowIn pool (fromOf places r) (toOf places r)
+
+-- the place of t in a list, its length where it is not there
+unfoldable pub indexIn : ℕ → List ℕ → ℕ
+indexIn t [] = 0
+indexIn t (m ∷ ms) = pick (eqb t m) 0 (suc (indexIn t ms))
+
+-- which row of its type an element whose first child has type t takes: a choice has one for each member
+unfoldable pub rowIndex : Kind → ℕ → ℕ
+rowIndex text t = 0
+rowIndex empty t = 0
+rowIndex (sequence ms) t = 0
+rowIndex (choice ms) t = indexIn t ms
+rowIndex (list m) t = 0
+
+-- row τ is what filler of target type τ holds; 17 rows for each source type follow
+unfoldable pub sourceRow : Table → ℕ → ℕ → ℕ
+sourceRow S s t = 64 + (s * 17 + rowIndex (kindOf S s) t)
+
+-- the last of them is what stands around an item of a list
+unfoldable pub itemRow : ℕ → ℕ
+itemRow s = 64 + (s * 17 + 16)
+
+-- t can be the type of the first child of an element of this kind: for a choice it is a member
+pub data Chosen (t : ℕ) : Kind → Type 0 where
+  of-text : Chosen t text
+  of-empty : Chosen t empty
+  of-sequence : {ms : List ℕ} → Chosen t (sequence ms)
+  of-choice : {ms : List ℕ} → indexIn t ms < length ms → Chosen t (choice ms)
+  of-list : {m : ℕ} → Chosen t (list m)
+
+-- the pool and the places hold the templates of a setting
+pub record Rows (X : Setting) (pool places : List ℕ) : Type 0 where
+  pub long : 3 * (64 + length (X .source) * 17) ≤ length places
+  pub within : (r : ℕ) → toOf places r ≤ length pool
+  pub filler-at : (τ : ℕ) → τ < length (X .target) → rowAt pool places τ ≡ fillerRow (X .target) τ
+  pub template-at : (s t : ℕ) → s < length (X .source) → Chosen t (kindOf (X .source) s) → rowAt pool places (sourceRow (X .source) s t) ≡ template X s t
+  pub item-at : (s m : ℕ) → s < length (X .source) → kindOf (X .source) s ≡ list m → rowAt pool places (itemRow s) ≡ itemTemplate X s
+  pub own-depth : (s t : ℕ) → s < length (X .source) → Chosen t (kindOf (X .source) s) → depthIn places (sourceRow (X .source) s t) ≡ 0
+  pub item-depth : (s m : ℕ) → s < length (X .source) → kindOf (X .source) s ≡ list m → depthIn places (itemRow s) ≡ length (dividedOf X s .before)
+
+-- ---- sizes of rows: three numbers each, levels, bytes and bytes of filler, held at 60,001
+
+abbrev pub levelsIn : List ℕ → ℕ → ℕ
+levelsIn sizes r = getD sizes (3 * r) 0
+
+abbrev pub bytesIn : List ℕ → ℕ → ℕ
+bytesIn sizes r = getD sizes (3 * r + 1) 0
+
+abbrev pub fillerIn : List ℕ → ℕ → ℕ
+fillerIn sizes r = getD sizes (3 * r + 2) 0
+
+-- the three numbers of one row
+pub record SizeAt (sizes : List ℕ) (r levels bytes fill : ℕ) : Type 0 where
+  pub levels-are : levelsIn sizes r ≡ min 60001 levels
+  pub bytes-are : bytesIn sizes r ≡ min 60001 bytes
+  pub filler-is : fillerIn sizes r ≡ min 60001 fill
+
+-- the sizes of the templates of a setting
+pub record Sizes (X : Setting) (sizes : List ℕ) : Type 0 where
+  pub long : 3 * (64 + length (X .source) * 17) ≤ length sizes
+  pub own-size : (s t : ℕ) → s < length (X .source) → Chosen t (kindOf (X .source) s)
+      → SizeAt sizes (sourceRow (X .source) s t) (ownLevels X s t) (ownLength X s t) (ownFiller X s t)
+  pub item-size : (s m : ℕ) → s < length (X .source) → kindOf (X .source) s ≡ list m → SizeAt sizes (itemRow s) (itemLevels X s) (itemLength X s) (itemFiller X s)

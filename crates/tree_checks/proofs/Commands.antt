@@ -1,0 +1,83 @@
+-- The command at an offset, by the byte that stands there; the characters that are allowed.
+use mathlib.Core.Path.{_≡_, refl, sym, ap, _∙_, subst}
+use mathlib.Core.Bool.{Bool, true, false}
+use mathlib.Core.List.{List}
+use Prim.Native.Nat.{ℕ, suc, _+_, _≤_, _<_}
+use native.Mathlib.Numerals.{add-one}
+use native.Mathlib.Omega.{arith}
+use lib.ListN.{length, getD}
+use lib.Dec.{ltb}
+use borrow.Author.Tests.{lt-ltb, le-ltb, ne-eqb, le-leb, lt-leb}
+use Rattle.model.specs.Definitions.Basics.{pick}
+use Rattle.model.specs.Definitions.Commands.{opens, character, closes, treeEnd, alienT, treeCommand, takesOperand}
+use Rattle.model.specs.Definitions.Conformance.{allowed}
+use Rattle.model.specs.Theorems.Reading.{rawWith, rawAt, tree-reads}
+use Rattle.tree_checks.specs.declared.command.TreeCommand.{TreeCommand}
+use Rattle.tree_checks.specs.Commands.{command, Reads}
+use Rattle.model.specs.Definitions.Commands as model
+
+-- a byte that begins no command of a tree, with an operand or without
+alien-with : (o m : Bool) (b t : ℕ) → (b ≡ 0x30 → ⊥) → (b ≡ 0x31 → ⊥) → (b ≡ 0x32 → ⊥) → (b ≡ 0x3F → ⊥) → alienT ≡ treeCommand (rawWith o m b t)
+unfolding rawWith treeCommand pick
+alien-with false m b t p q r s = rw (ne-eqb b 0x32 r, ne-eqb b 0x3F s)
+alien-with true true b t p q r s = rw (ne-eqb b 0x30 p, ne-eqb b 0x31 q)
+alien-with true false b t p q r s = refl
+
+module _ (bs : List ℕ) (at : ℕ) where
+  -- 30 with a byte behind it opens an element of that type
+  pub opens-at : getD bs at 0 ≡ 0x30 → at + 1 < length bs → opens (getD bs (at + 1) 0) ≡ treeCommand (rawAt bs at)
+  unfolding rawAt rawWith takesOperand treeCommand pick
+  opens-at e more = rw (e, ← add-one at, lt-ltb (at + 1) (length bs) more)
+
+  -- 31 with a byte behind it is that character
+  pub character-at : getD bs at 0 ≡ 0x31 → at + 1 < length bs → character (getD bs (at + 1) 0) ≡ treeCommand (rawAt bs at)
+  unfolding rawAt rawWith takesOperand treeCommand pick
+  character-at e more = rw (e, ← add-one at, lt-ltb (at + 1) (length bs) more)
+
+  -- a 30 at the end is alien
+  pub open-cut : getD bs at 0 ≡ 0x30 → length bs ≤ at + 1 → alienT ≡ treeCommand (rawAt bs at)
+  unfolding rawAt rawWith takesOperand treeCommand
+  open-cut e none = rw (e, ← add-one at, le-ltb (at + 1) (length bs) none)
+
+  -- a 31 at the end is alien too
+  pub character-cut : getD bs at 0 ≡ 0x31 → length bs ≤ at + 1 → alienT ≡ treeCommand (rawAt bs at)
+  unfolding rawAt rawWith takesOperand treeCommand
+  character-cut e none = rw (e, ← add-one at, le-ltb (at + 1) (length bs) none)
+
+  -- 32 closes an element
+  pub closes-at : getD bs at 0 ≡ 0x32 → closes ≡ treeCommand (rawAt bs at)
+  unfolding rawAt rawWith takesOperand treeCommand pick
+  closes-at e = rw e
+
+  -- 3F ends the document
+  pub end-at : getD bs at 0 ≡ 0x3F → treeEnd ≡ treeCommand (rawAt bs at)
+  unfolding rawAt rawWith takesOperand treeCommand pick
+  end-at e = rw e
+
+  -- any other byte is alien
+  pub alien-at : (getD bs at 0 ≡ 0x30 → ⊥) → (getD bs at 0 ≡ 0x31 → ⊥) → (getD bs at 0 ≡ 0x32 → ⊥) → (getD bs at 0 ≡ 0x3F → ⊥) → alienT ≡ treeCommand (rawAt bs at)
+  unfolding rawAt
+  alien-at p q r s = alien-with (takesOperand (getD bs at 0)) (ltb (suc at) (length bs)) (getD bs at 0) (getD bs (suc at) 0) p q r s
+
+-- ---- characters
+
+-- 20 to 7E are allowed
+pub allowed-range : (c : ℕ) → 0x20 ≤ c → c < 0x7F → true ≡ allowed c
+unfolding allowed
+allowed-range c low high = rw (ne-eqb c 0x09 (λ e. omega arith), ne-eqb c 0x0A (λ e. omega arith), le-leb 0x20 c low, le-leb c 0x7E (omega arith))
+
+-- below 20 only 09 and 0A are
+pub below-allowed : (c : ℕ) → (c ≡ 0x09 → ⊥) → (c ≡ 0x0A → ⊥) → c < 0x20 → false ≡ allowed c
+unfolding allowed
+below-allowed c tab line low = rw (ne-eqb c 0x09 tab, ne-eqb c 0x0A line, lt-leb 0x20 c low)
+
+-- above 7E none is
+pub above-allowed : (c : ℕ) → 0x7E < c → false ≡ allowed c
+unfolding allowed
+above-allowed c high = rw (ne-eqb c 0x09 (λ e. omega arith), ne-eqb c 0x0A (λ e. omega arith), le-leb 0x20 c (omega arith), lt-leb c 0x7E high)
+
+-- ---- what a loop knows of the command that it read
+
+-- a command that was read stands where it was read
+pub met : (bs : List ℕ) (at : ℕ) {r d : TreeCommand} → at < length bs → command r ≡ treeCommand (rawAt bs at) → r ≡ d → Reads bs at (command d)
+met bs at h e q = subst (λ (c : model.TreeCommand). Reads bs at c) (sym e ∙ ap command q) (tree-reads bs at h)

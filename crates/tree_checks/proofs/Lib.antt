@@ -1,0 +1,5 @@
+pub mod Commands
+pub mod FormTurns
+pub mod LevelTurns
+pub mod OperandTurns
+pub mod Elements

@@ -1,0 +1,3 @@
+pub mod Commands
+pub mod Machines
+pub mod Elements

@@ -1,0 +1,101 @@
+-- `tree_pass::checked_at` meets its contract: each answer but `Refused` has its command. Assumes nothing.
+use mathlib.Core.Path.{sym, _∙_}
+use native.Mathlib.Omega.{arith}
+use borrow.Author.Needs.{needs}
+use Rattle.tree_checks.proofs.Commands.{opens-at, character-at, closes-at}
+use Rattle.tree_pass.proofs.Turns.{stands}
+use Rattle.tree_pass.proofs.checked_at.Statement.{statement}
+use Rattle.tree_pass.proofs.checked_at.Tie as tie
+
+shared-slice-read-b : tie.Need-shared-slice-read-b
+shared-slice-read-b c = search needs
+
+add-x : tie.Need-add-x
+add-x c = search needs
+
+shared-slice-read-x : tie.Need-shared-slice-read-x
+shared-slice-read-x c = search needs
+
+entering-requires : tie.Need-entering-requires
+entering-requires c κs = search needs
+
+add-c : tie.Need-add-c
+add-c c = search needs
+
+shared-slice-read-c : tie.Need-shared-slice-read-c
+shared-slice-read-c c = search needs
+
+holds-requires : tie.Need-holds-requires
+holds-requires c κs = search needs
+
+complete-requires : tie.Need-complete-requires
+complete-requires c κs = search needs
+
+returns : tie.Need-returns
+returns c = search needs
+
+returns-2 : tie.Need-returns-2
+returns-2 c =
+    let matched = c .before .before .before in
+    let more = matched .before .before .before .pre .more in
+    let some = c .if1 .left in
+    let enters = c .before .entering .ensures (omega (arith, some)) in (
+      record {
+        reads = stands (omega (arith, more)) (opens-at _ _ (matched .match .keys1) more);
+        opening = enters .opening;
+        some = omega (arith, some);
+      },
+      enters .exists,
+      enters .room,
+    )
+
+returns-3 : tie.Need-returns-3
+returns-3 c =
+    let matched = c .before .before .before in
+    let start = matched .before .before .before in
+    let more = start .pre .more in
+    let character = c .before .holds .ensures (c .if2 .taken) in (
+      record {
+        reads = stands (omega (arith, more)) (character-at _ _ (matched .match .keys2) more);
+        text = sym (character .text (start .args .h));
+      },
+      character .fine,
+    )
+
+returns-4 : tie.Need-returns-4
+returns-4 c = search needs
+
+returns-5 : tie.Need-returns-5
+returns-5 c =
+    let matched = c .before .before in
+    let more = matched .before .before .before .pre .more in
+    record {
+      reads = stands (omega (arith, more)) (closes-at _ _ (matched .match .keys3));
+      ready = sym (c .before .complete .ensures) ∙ c .if3 .taken;
+    }
+
+returns-6 : tie.Need-returns-6
+returns-6 c = search needs
+
+returns-7 : tie.Need-returns-7
+returns-7 c = search needs
+
+pub checked-at-spec : {M : Type 1} → statement M
+checked-at-spec =
+    tie.close
+    (tie.spec
+    shared-slice-read-b
+    add-x
+    shared-slice-read-x
+    entering-requires
+    add-c
+    shared-slice-read-c
+    holds-requires
+    complete-requires
+    returns
+    returns-2
+    returns-3
+    returns-4
+    returns-5
+    returns-6
+    returns-7)

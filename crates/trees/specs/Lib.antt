@@ -1,4 +1,0 @@
-pub mod Commands
-pub mod Machines
-pub mod Expected
-pub mod Judging

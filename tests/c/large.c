@@ -1,0 +1,210 @@
+/*
+ * The entries called in a thread whose stack has a megabyte, on the deepest and longest documents and with tables of 64
+ * types; and with an output of more than 4 GiB, mapped without reserve. Prints the most stack that each entry took, one
+ * line for each case that failed, and last 'N passed, M failed'.
+ */
+#define _DEFAULT_SOURCE
+#include "lafindry.h"
+
+#include <pthread.h>
+#include <stdio.h>
+#include <stdlib.h>
+#include <string.h>
+#include <sys/mman.h>
+#include <unistd.h>
+
+enum { STACK = 1 << 20, UNTOUCHED = 0x5C, LEVELS = 128 };
+
+static unsigned long passed, failed;
+
+static void expect(int holds, const char *what)
+{
+    if (holds) {
+        passed++;
+        return;
+    }
+    failed++;
+    printf("failed: %s\n", what);
+}
+
+struct document {
+    uint8_t bytes[LAFINDRY_MOST_BYTES];
+    size_t length;
+};
+
+static void put(struct document *d, int byte) { d->bytes[d->length++] = (uint8_t)byte; }
+
+static void put_two(struct document *d, int command, int operand)
+{
+    put(d, command);
+    put(d, operand);
+}
+
+/* 64 types: a list of itself, then texts. */
+static struct document table(void)
+{
+    struct document d = {{0}, 0};
+    put_two(&d, 0x14, 0);
+    for (int t = 1; t < 64; t++)
+        put(&d, 0x10);
+    put(&d, 0x1F);
+    return d;
+}
+
+/* Each type to itself; an item to an item. */
+static struct document embedding(void)
+{
+    struct document d = {{0}, 0};
+    put_two(&d, 0x20, 0);
+    put(&d, 0x21);
+    put_two(&d, 0x22, 1);
+    for (int t = 1; t < 64; t++) {
+        put_two(&d, 0x20, t);
+        put(&d, 0x21);
+    }
+    put(&d, 0x2F);
+    return d;
+}
+
+/* A list in a list and so on, so many levels deep; the one on the last level but one holds items up to a length. */
+static struct document tree(int levels, size_t length)
+{
+    struct document d = {{0}, 0};
+    for (int level = 1; level < levels; level++)
+        put_two(&d, 0x30, 0);
+    while (d.length + 3 + (size_t)levels <= length) {
+        put_two(&d, 0x30, 0);
+        put(&d, 0x32);
+    }
+    for (int level = 1; level < levels; level++)
+        put(&d, 0x32);
+    put(&d, 0x3F);
+    return d;
+}
+
+static struct document source, target, map;
+
+enum entry { JUDGE_TABLE, JUDGE_EMBEDDING, JUDGE_TREE, CARRY, BRING_BACK, ENTRIES };
+static const char *const NAMES[ENTRIES] = {"judge a table", "judge an embedding", "judge a tree", "carry", "bring back"};
+
+struct call {
+    enum entry entry;
+    const struct document *tree;
+    uint8_t *output;
+    size_t room;
+    struct lafindry_answer answer;
+};
+
+static void *make_call(void *argument)
+{
+    struct call *c = argument;
+    const struct document *t = c->tree;
+    switch (c->entry) {
+    case JUDGE_TABLE:
+        c->answer = lafindry_judge_table(source.bytes, source.length);
+        break;
+    case JUDGE_EMBEDDING:
+        c->answer = lafindry_judge_embedding(source.bytes, source.length, target.bytes, target.length, map.bytes, map.length);
+        break;
+    case JUDGE_TREE:
+        c->answer = lafindry_judge_tree(source.bytes, source.length, t->bytes, t->length);
+        break;
+    case CARRY:
+        c->answer = lafindry_carry(source.bytes, source.length, target.bytes, target.length, map.bytes, map.length,
+                                   t->bytes, t->length, c->output, c->room);
+        break;
+    default:
+        c->answer = lafindry_bring_back(source.bytes, source.length, target.bytes, target.length, map.bytes, map.length,
+                                        t->bytes, t->length, c->output, c->room);
+    }
+    return NULL;
+}
+
+/* Makes a call in a thread on a stack of its own; how much of the stack was touched. */
+static size_t on_small_stack(struct call *c)
+{
+    size_t page = (size_t)sysconf(_SC_PAGESIZE);
+    uint8_t *all = mmap(NULL, STACK + page, PROT_READ | PROT_WRITE, MAP_PRIVATE | MAP_ANONYMOUS, -1, 0);
+    pthread_attr_t attributes;
+    pthread_t thread;
+    if (all == MAP_FAILED || mprotect(all, page, PROT_NONE) != 0 || pthread_attr_init(&attributes) != 0 ||
+        pthread_attr_setstack(&attributes, all + page, STACK) != 0) {
+        puts("no stack can be made");
+        exit(2);
+    }
+    memset(all + page, UNTOUCHED, STACK);
+    if (pthread_create(&thread, &attributes, make_call, c) != 0 || pthread_join(thread, NULL) != 0) {
+        puts("no thread can be made");
+        exit(2);
+    }
+    size_t untouched = 0;
+    while (untouched < STACK && all[page + untouched] == UNTOUCHED)
+        untouched++;
+    pthread_attr_destroy(&attributes);
+    munmap(all, STACK + page);
+    return STACK - untouched;
+}
+
+static void small_stacks(void)
+{
+    static uint8_t output[LAFINDRY_MOST_BYTES];
+    static struct document trees[4];
+    size_t most[ENTRIES] = {0};
+    trees[0] = tree(2, 6);
+    trees[1] = tree(LEVELS, 0);
+    trees[2] = tree(2, LAFINDRY_MOST_BYTES);
+    trees[3] = tree(LEVELS, LAFINDRY_MOST_BYTES);
+    for (int i = 0; i < 4; i++) {
+        for (int entry = 0; entry < ENTRIES; entry++) {
+            struct call c = {(enum entry)entry, &trees[i], output, sizeof output, {0, 0, 0, 0, 0}};
+            memset(output, UNTOUCHED, sizeof output);
+            size_t taken = on_small_stack(&c);
+            if (taken > most[entry])
+                most[entry] = taken;
+            expect(c.answer.refusal == LAFINDRY_ACCEPTED, NAMES[entry]);
+            if (entry == CARRY || entry == BRING_BACK)
+                expect(c.answer.value == trees[i].length && memcmp(output, trees[i].bytes, trees[i].length) == 0,
+                       "the document is its own image");
+        }
+    }
+    for (int entry = 0; entry < ENTRIES; entry++)
+        printf("stack, %s: %zu bytes\n", NAMES[entry], most[entry]);
+}
+
+static void large_outputs(void)
+{
+    size_t room = ((size_t)1 << 32) + 123;
+    static struct document document;
+    document = tree(LEVELS, LAFINDRY_MOST_BYTES);
+    uint8_t *output =
+        mmap(NULL, room, PROT_READ | PROT_WRITE, MAP_PRIVATE | MAP_ANONYMOUS | MAP_NORESERVE, -1, 0);
+    if (output == MAP_FAILED) {
+        expect(0, "more than 4 GiB can't be mapped");
+        return;
+    }
+    const size_t probes[] = {document.length, LAFINDRY_MOST_BYTES, room / 2, ((size_t)1 << 32) - 1, (size_t)1 << 32, room - 1};
+    const size_t count = sizeof probes / sizeof *probes;
+    for (size_t i = 0; i < count; i++)
+        output[probes[i]] = UNTOUCHED;
+    for (int entry = CARRY; entry <= BRING_BACK; entry++) {
+        struct call c = {(enum entry)entry, &document, output, room, {0, 0, 0, 0, 0}};
+        memset(output, 0, document.length);
+        make_call(&c);
+        expect(c.answer.refusal == LAFINDRY_ACCEPTED && c.answer.value == document.length, "an output of more than 4 GiB");
+        expect(memcmp(output, document.bytes, document.length) == 0, "what is written there");
+        for (size_t i = 0; i < count; i++)
+            expect(output[probes[i]] == UNTOUCHED, "a later byte stays");
+    }
+    munmap(output, room);
+}
+
+int main(void)
+{
+    source = table();
+    target = table();
+    map = embedding();
+    small_stacks();
+    large_outputs();
+    printf("%lu passed, %lu failed\n", passed, failed);
+    return failed == 0 ? 0 : 1;
+}
