@@ -8,6 +8,7 @@ ghost use Rattle.model.specs.Definitions.Image.{under};
 ghost use Rattle.loaded_embedding.specs.Loaded.{stepsFrom};
 ghost use Rattle.rows.specs.Rows.{symbolOf};
 ghost use Rattle.growing.specs.Growing.{firstOf, placementsOf, Readable, push, noEdges, Spans, Puts, Task, elementRow};
+use codes::MAX_MEMBERS;
 use loaded_table::SEQUENCE;
 use loaded_table::TABLE;
 use rows::CLOSING;
@@ -18,18 +19,18 @@ use rows::OPENING;
 // embedding's document, to the hole with the number hole[j].
 pub struct Edges {
     pub count: usize,
-    pub next: [usize; 16],
-    pub left: [u8; 16],
-    pub hole: [u8; 16],
+    pub next: [usize; MAX_MEMBERS],
+    pub left: [u8; MAX_MEMBERS],
+    pub hole: [u8; MAX_MEMBERS],
 }
 
 // No paths.
 pub fn no_edges() -> Edges
     ensures { λ r. ⌜ r ≡ noEdges ⌝ }
 {
-    let next = [0usize; 16];
-    let left = [0u8; 16];
-    let hole = [0u8; 16];
+    let next = [0usize; MAX_MEMBERS];
+    let left = [0u8; MAX_MEMBERS];
+    let hole = [0u8; MAX_MEMBERS];
     Edges {
         count: 0,
         next,

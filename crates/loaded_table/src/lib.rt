@@ -5,6 +5,7 @@ ghost use mathlib.Core.Path.{_≡_};
 ghost use Prim.Native.Nat.{_<_, _+_, _*_};
 ghost use lib.ListN.{getD, set};
 ghost use Rattle.loaded_table.specs.Loaded.{typesIn, kindsOf, countsOf, heightsOf, fillOf, membersIn};
+use codes::MAX_MEMBERS;
 
 // How many numbers a loaded table has.
 pub const TABLE: usize = 1281;
@@ -93,7 +94,7 @@ pub fn member(table: &[u16; TABLE], t: usize, i: usize) -> usize
     requires { ⌜ (t < 64) × (i < 16) ⌝ }
     ensures { λ r. ⌜ (r ≡ getD (membersIn (now (table .entry))) (t * 16 + i) 0) × (r < 65536) ⌝ }
 {
-    number(table, MEMBERS + (t * 16 + i))
+    number(table, MEMBERS + (t * MAX_MEMBERS + i))
 }
 
 // Stores the number of types.
@@ -144,6 +145,6 @@ pub fn set_member(table: &mut [u16; TABLE], t: usize, i: usize, member: u16)
     requires { ⌜ (t < 64) × (i < 16) ⌝ }
     ensures { λ r. ⌜ now (table .exit) ≡ set (now (table .entry)) (256 + (t * 16 + i)) member ⌝ }
 {
-    let place = MEMBERS + (t * 16 + i);
+    let place = MEMBERS + (t * MAX_MEMBERS + i);
     table[place] = member;
 }

@@ -1,3 +1,2 @@
-pub mod Skipping
 pub mod Spanning
 pub mod Searching

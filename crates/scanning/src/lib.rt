@@ -1,12 +1,10 @@
 // Finding one's way in a tree document, on its bytes.
-ghost use mathlib.Core.Path.{_≡_};
-ghost use Prim.Native.Nat.{_+_};
-ghost use lib.ListN.{length};
-ghost use Rattle.model.specs.Definitions.Content.{Content, bytes};
+ghost use Rattle.model.specs.Definitions.Content.{Content};
 ghost use Rattle.model.specs.Definitions.Inverse.{childAt, childOfType};
 ghost use Rattle.scanning.specs.Scanning.{At};
 ghost use Rattle.scanning.specs.Finding.{Finds};
 ghost use Rattle.scanning.specs.Spanning.{Spans};
+use codes::OPENS;
 use spans::close_of;
 
 pub mod spans;
@@ -15,36 +13,6 @@ pub mod spans;
 pub enum Found {
     At(usize),
     Missing,
-}
-
-// The offset of the 32 that closes the element whose content begins at `from`. The loop goes over the commands, and
-// counts the elements that are open inside.
-pub fn skip(tr: &[u8], from: usize) -> usize
-    requires { ⌜ ((k : Content) × At (now tr) from k) ⌝ }
-    ensures { λ r. ⌜ ((k : Content) → At (now (tr .entry)) from k → r ≡ from + length (bytes k)) ⌝ }
-{
-    let mut at = from;
-    let mut depth: usize = 0;
-    while at < tr.len() {
-        let b = tr[at];
-        match b {
-            0x30 => {
-                depth += 1;
-                at += 2;
-            }
-            0x31 => {
-                at += 2;
-            }
-            _ => {
-                if depth == 0 {
-                    return at;
-                }
-                depth -= 1;
-                at += 1;
-            }
-        }
-    }
-    at
 }
 
 // Where the p-th child element's content begins, counted from 1, among the siblings that begin at `from`. The loop
@@ -59,7 +27,7 @@ pub fn child<'a>(tr: &'a [u8], sp: &'a [u16], from: usize, p: usize) -> Found
     }
     let mut at = from;
     let mut left = p;
-    while tr[at] == 0x30 {
+    while tr[at] == OPENS {
         let inside = at + 2;
         if left == 1 {
             return Found::At(inside);
@@ -76,7 +44,7 @@ pub fn child_of_type(tr: &[u8], from: usize, t: u8) -> Found
     requires { ⌜ ((k : Content) × At (now tr) from k) ⌝ }
     ensures { λ r. ⌜ ((k : Content) → At (now (tr .entry)) from k → Finds (now (tr .entry)) r (childOfType k t)) ⌝ }
 {
-    if tr[from] == 0x30 {
+    if tr[from] == OPENS {
         let second = from + 1;
         if tr[second] == t {
             return Found::At(from + 2);

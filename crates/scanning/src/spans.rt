@@ -5,6 +5,8 @@ ghost use lib.ListN.{length};
 ghost use Rattle.model.specs.Definitions.Content.{Content, bytes};
 ghost use Rattle.scanning.specs.Scanning.{At};
 ghost use Rattle.scanning.specs.Spanning.{Spans, Bounded, SpanAt};
+use codes::CHARACTER;
+use codes::OPENS;
 
 // How far it is from offset o, where the byte b stands, to the 32 that closes the element around it, by how far it is from the
 // offsets behind o; 0 where the document ends too soon.
@@ -13,7 +15,7 @@ fn span_at(b: u8, spans: &[u16], o: usize) -> usize
     ensures { λ r. ⌜ SpanAt (now (spans .entry)) b o r ⌝ }
 {
     match b {
-        0x30 => {
+        OPENS => {
             let inside = o + 2;
             if spans.len() <= inside {
                 return 0;
@@ -24,7 +26,7 @@ fn span_at(b: u8, spans: &[u16], o: usize) -> usize
             }
             next - o + spans[next] as usize
         }
-        0x31 => {
+        CHARACTER => {
             let next = o + 2;
             if spans.len() <= next {
                 return 0;

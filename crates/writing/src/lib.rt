@@ -3,13 +3,16 @@ ghost use mathlib.Core.List.{[], _∷_};
 ghost use Prim.Native.Nat.{_+_, _-_, _≤_};
 ghost use lib.ListN.{length, take, drop};
 ghost use Rattle.writing.specs.Writing.{Writes};
+use codes::CLOSES;
+use codes::OPENS;
+use codes::TREE_END;
 
 // Writes 30 t, which opens an element of type t.
 pub fn put_open(out: &mut [u8], at: usize, t: u8) -> usize
     requires { ⌜ at + 2 ≤ length (now out) ⌝ }
     ensures { λ r. ⌜ Writes (now (out .entry)) (now (out .exit)) at (0x30 ∷ t ∷ []) r ⌝ }
 {
-    out[at] = 0x30;
+    out[at] = OPENS;
     let second = at + 1;
     out[second] = t;
     at + 2
@@ -20,7 +23,7 @@ pub fn put_close(out: &mut [u8], at: usize) -> usize
     requires { ⌜ at + 1 ≤ length (now out) ⌝ }
     ensures { λ r. ⌜ Writes (now (out .entry)) (now (out .exit)) at (0x32 ∷ []) r ⌝ }
 {
-    out[at] = 0x32;
+    out[at] = CLOSES;
     at + 1
 }
 
@@ -29,7 +32,7 @@ pub fn put_end(out: &mut [u8], at: usize) -> usize
     requires { ⌜ at + 1 ≤ length (now out) ⌝ }
     ensures { λ r. ⌜ Writes (now (out .entry)) (now (out .exit)) at (0x3F ∷ []) r ⌝ }
 {
-    out[at] = 0x3F;
+    out[at] = TREE_END;
     at + 1
 }
 
