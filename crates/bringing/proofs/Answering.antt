@@ -21,11 +21,7 @@ use Rattle.model.specs.Theorems.BringingBack.{read-image, read-conforms, brough
 use Rattle.writing.specs.Writing.{Writes}
 use Rattle.writing.specs.Laws.{writes-length}
 use Rattle.inverse.specs.Reading.{BringsTo}
-use Rattle.loaded_table.specs.Loaded.{tableBy}
-use Rattle.loaded_setting.specs.Ready.{settingIn, Ready}
 use Rattle.loaded_setting.specs.Trees.{SoundTree}
-use Rattle.rows.specs.Rows.{Rows}
-use Rattle.filling.specs.Asked.{ImageAsked}
 use Rattle.answers.specs.declared.Brought.{Brought}
 use Rattle.answers.specs.Answers.{broughtResult}
 use Rattle.bringing.specs.Bringing.{ReadFrom, Brings}
@@ -135,18 +131,3 @@ module _ (X : Setting) (valid : Valid X) {tr : List ℕ} (t : SoundTree (X .targ
       source-copied {new} {n} room done =
           let whole : take (length source - 0) source ≡ document 0 (r .content) = take-all (length source - 0) source (omega arith) ∙ r .bytes-are in
           brings X tr old (r .content) found new n (rw (← r .bytes-are) room) (rw whole at done)
-
--- ---- comparing by prepared templates
-
-module _ {source target map em pool places tr : List ℕ} (ready : Ready source target map em) (tree : SoundTree (tableBy source) tr)
-    (rows : Rows (settingIn source target map em) pool places) where
-  -- the image is what is compared with
-  pub image-asked : ImageAsked source pool places tr (document 0 (image (settingIn source target map em) (contentOf tr)))
-  image-asked =
-      record {
-        prepared = record { target = target; map = map; em = em; ready = ready; rows = rows };
-        inside = contentOf tr;
-        form = tree .form;
-        holds = tree .holds;
-        is = refl;
-      }

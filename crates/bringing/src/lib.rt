@@ -1,70 +1,23 @@
 // Bringing an image back by loaded tables and a loaded embedding: the source is read along the paths into a local buffer, the
 // given document is compared with its image along the templates, and only then is the source written to the lent output.
-ghost use mathlib.Core.Path.{_≡_};
-ghost use mathlib.Core.Bool.{true};
-ghost use mathlib.Core.Logic.{_↔_};
 ghost use Prim.Native.Nat.{_≤_};
 ghost use lib.ListN.{length};
-ghost use Rattle.model.specs.Definitions.Content.{contentOf, document};
-ghost use Rattle.model.specs.Definitions.Image.{image};
 ghost use Rattle.loaded_table.specs.Loaded.{tableBy};
 ghost use Rattle.loaded_setting.specs.Ready.{settingIn, Ready};
 ghost use Rattle.loaded_setting.specs.Trees.{SoundTree};
-ghost use Rattle.scanning.specs.Spanning.{Spans};
 ghost use Rattle.bringing.specs.Bringing.{ReadFrom, Brings};
 use answers::Brought;
 use codes::MAX_BYTES;
+use comparing::is_image;
 use inverse::Read;
 use inverse::read_back;
 use loaded_embedding::MAP;
 use loaded_table::TABLE;
-use pools::MIDDLE_POOL;
-use pools::PLACES;
-use pools::POOL;
-use pools::SMALL_PLACES;
-use pools::SMALL_POOL;
-use pools::is_small;
-use preparing::prepare;
-use preparing::room;
 use scanning::spans::fill_spans;
 use writing::copy;
 
 // A document of at most this length is brought back by way of short buffers.
 const SHORT: usize = 2048;
-
-// Whether `tr` is the image of `source`, whose spans are given.
-fn is_image<'a>(
-    from: &'a [u16; TABLE],
-    to: &'a [u16; TABLE],
-    map: &'a [u16; MAP],
-    em: &'a [u8],
-    source: &'a [u8],
-    spans: &'a [u16],
-    tr: &'a [u8],
-) -> bool
-    requires setting { ⌜ Ready (now from) (now to) (now map) (now em) ⌝ }
-    requires conforming { ⌜ SoundTree (tableBy (now from)) (now source) ⌝ }
-    requires spans { ⌜ Spans (now source) (now spans) ⌝ }
-    ensures { λ r. ⌜ (r ≡ true) ↔ (document 0 (image (settingIn (now (from .entry)) (now (to .entry)) (now (map .entry)) (now (em .entry))) (contentOf (now (source .entry)))) ≡ now (tr .entry)) ⌝ }
-{
-    let long = room(from, to, map);
-    if is_small(loaded_table::types(from), long) {
-        let mut pool = [0u8; SMALL_POOL];
-        let mut places = [0u32; SMALL_PLACES];
-        prepare(from, to, map, em, &mut pool, &mut places);
-        return matching::is_image(from, &pool, &places, source, spans, tr);
-    }
-    if long <= MIDDLE_POOL {
-        let mut pool = [0u8; MIDDLE_POOL];
-        let mut places = [0u32; PLACES];
-        prepare(from, to, map, em, &mut pool, &mut places);
-        return matching::is_image(from, &pool, &places, source, spans, tr);
-    }
-    let mut pool = [0u8; POOL];
-    let mut places = [0u32; PLACES];
-    prepare(from, to, map, em, &mut pool, &mut places);
-    matching::is_image(from, &pool, &places, source, spans, tr)
-}
 
 // Writes the source document `source`, which was read from `tr`, if `tr` is its image and there is room for it. Its spans go to a
 // buffer that is at least as long.

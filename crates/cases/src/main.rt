@@ -1,6 +1,7 @@
 // Runs worked cases through the entries: reads them from standard input, as tools/make-cases writes them, and prints a
 // line for each: `ok`, value, filler elements and, where the entry writes, the bytes written in hexadecimal; or `refused`,
 // number, document and mark.
+use answer_numbers::Answer;
 use answers_of::print;
 use answers_of::print_written;
 use documents::read;
@@ -9,16 +10,26 @@ use documents::room;
 mod answers_of;
 mod documents;
 
-// The entries that judge, by their numbers in the input.
+// The entries by their numbers in the input; 5 brings back.
 const JUDGE_TABLE: u8 = 1;
 
 const JUDGE_EMBEDDING: u8 = 2;
 
 const JUDGE_TREE: u8 = 3;
 
+const CARRY: u8 = 4;
+
+// Carries, or brings back.
+fn call<'a>(entry: u8, a: &[u8], b: &[u8], c: &'a [u8], d: &'a [u8], out: &mut [u8]) -> Answer {
+    if entry == CARRY {
+        return lafindry::lafindry_carry(a, b, c, d, out);
+    }
+    lafindry::lafindry_bring_back(a, b, c, d, out)
+}
+
 // A case of an entry that writes.
 fn write<'a>(entry: u8, a: &[u8], b: &[u8], c: &'a [u8], d: &'a [u8], out: &mut [u8]) {
-    let answer = console::call(entry, a, b, c, d, out);
+    let answer = call(entry, a, b, c, d, out);
     print_written(answer, out);
 }
 

@@ -13,7 +13,7 @@ use native.Mathlib.Omega.{arith}
 use lib.ListN.{length, take, drop}
 use Rattle.answer_numbers.specs.declared.Answer.{Answer}
 use Rattle.answer_numbers.specs.Numbers.{numbers}
-use Rattle.entries.specs.Writing.{Answers}
+use Rattle.outcomes.specs.Outcomes.{Answers}
 use Rattle.model.specs.Definitions.Table.{tableOf}
 use Rattle.model.specs.Definitions.Content.{Content, contentOf, elements}
 use Rattle.model.specs.Definitions.Conformance.{Conforming}

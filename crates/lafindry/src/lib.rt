@@ -9,7 +9,7 @@ use answer_numbers::Answer;
 pub extern "C" fn lafindry_judge_table(table: &[u8]) -> Answer
     ensures { λ r. ⌜ numbers r ≡ model.answerOf (model.judgeTable (now (table .entry))) ⌝ }
 {
-    entries::judge_table(table)
+    judge_entries::judge_table(table)
 }
 
 // Judges an embedding, after both tables: number of edges.
@@ -17,7 +17,7 @@ pub extern "C" fn lafindry_judge_table(table: &[u8]) -> Answer
 pub extern "C" fn lafindry_judge_embedding(source: &[u8], target: &[u8], embedding: &[u8]) -> Answer
     ensures { λ r. ⌜ numbers r ≡ model.answerOf (model.judgeEmbedding (now (source .entry)) (now (target .entry)) (now (embedding .entry))) ⌝ }
 {
-    entries::judge_embedding(source, target, embedding)
+    judge_entries::judge_embedding(source, target, embedding)
 }
 
 // Judges a tree, after its table: number of elements.
@@ -25,7 +25,7 @@ pub extern "C" fn lafindry_judge_embedding(source: &[u8], target: &[u8], embeddi
 pub extern "C" fn lafindry_judge_tree(table: &[u8], tree: &[u8]) -> Answer
     ensures { λ r. ⌜ numbers r ≡ model.answerOf (model.judgeTree (now (table .entry)) (now (tree .entry))) ⌝ }
 {
-    entries::judge_tree(table, tree)
+    judge_entries::judge_tree(table, tree)
 }
 
 // Carries a document, after all documents are judged: length of the image and number of filler elements.
@@ -40,7 +40,7 @@ pub extern "C" fn lafindry_carry<'a>(
     ensures answer { λ r. ⌜ numbers r ≡ model.answerOf (model.carry (now (source .entry)) (now (target .entry)) (now (embedding .entry)) (now (tree .entry)) (now (output .entry)) .result) ⌝ }
     ensures output { λ r. ⌜ now (output .exit) ≡ model.carry (now (source .entry)) (now (target .entry)) (now (embedding .entry)) (now (tree .entry)) (now (output .entry)) .output ⌝ }
 {
-    entries::carry(source, target, embedding, tree, output)
+    carry_entry::carry(source, target, embedding, tree, output)
 }
 
 // Brings a document back, after all documents are judged: length of the source document.
@@ -55,5 +55,5 @@ pub extern "C" fn lafindry_bring_back<'a>(
     ensures answer { λ r. ⌜ numbers r ≡ model.answerOf (model.bringBack (now (source .entry)) (now (target .entry)) (now (embedding .entry)) (now (tree .entry)) (now (output .entry)) .result) ⌝ }
     ensures output { λ r. ⌜ now (output .exit) ≡ model.bringBack (now (source .entry)) (now (target .entry)) (now (embedding .entry)) (now (tree .entry)) (now (output .entry)) .output ⌝ }
 {
-    entries::bring_back(source, target, embedding, tree, output)
+    bring_entry::bring_back(source, target, embedding, tree, output)
 }

@@ -1,11 +1,12 @@
--- Laws of cleared places.
+-- Arrays that are long enough for the rows of a setting.
 use mathlib.Core.Path.{_≡_, refl}
-use Prim.Native.Nat.{ℕ, zero, suc, _+_, _*_, _≤_}
+use Prim.Native.Nat.{ℕ, zero, suc, _+_, _*_, _≤_, _<_}
 use mathlib.Core.List.{List}
 use native.Mathlib.Omega.{arith}
-use lib.ListN.{getD, replicate}
+use lib.ListN.{length, getD, replicate}
 use Rattle.loaded_table.specs.Loaded.{typesIn, Bounded}
 use Rattle.rows.specs.Rows.{toOf}
+use Rattle.preparing.specs.Preparing.{roomOf}
 
 -- cleared places hold no rows
 no-number : (n i : ℕ) → _≡_ {A = ℕ} (getD (replicate n 0) i 0) 0
@@ -19,3 +20,10 @@ no-rows n room row = omega (arith, no-number n (3 * row + 1))
 -- 3,456 numbers are enough for the places of any setting's rows
 pub places-enough : {source : List ℕ} → Bounded source → 3 * (64 + typesIn source * 17) ≤ 3456
 places-enough b = omega (arith, b .few-types)
+
+-- a pool and places in which the rows of a setting have room, and which hold none yet
+pub record Arrays (source target map pool places : List ℕ) : Type 0 where
+  pub enough : roomOf source target map ≤ length pool
+  pub short : length pool < 4294967296
+  pub long : 3 * (64 + typesIn source * 17) ≤ length places
+  pub within : (row : ℕ) → toOf places row ≤ length pool

@@ -1,18 +1,21 @@
 -- `prepare_sized` meets its contract: the sizes are those of the rows that were prepared.
 use Rattle.loaded_table.specs.Loaded.{length-of}
-use Rattle.carrying.proofs.Carrying.{places-long, given-long}
+use Rattle.carrying.proofs.Preparing.{places-long, given-long}
 use borrow.Author.Needs.{needs}
 use Rattle.carrying.proofs.prepare_sized.Statement.{statement}
 use Rattle.carrying.proofs.prepare_sized.Tie as tie
 
 prepare-requires : tie.Need-prepare-requires
-prepare-requires c κs = search needs
+prepare-requires c κs =
+    let given = c .before .before .before .before .before .before .pre in
+    let arrays = given .1 .0 in
+    (given .0, ((arrays .enough, arrays .short, arrays .long), arrays .within))
 
 size-rows-requires : tie.Need-size-rows-requires
 size-rows-requires c κs =
     let given = c .before .before .before .before .before .before .before .before .before .before .before .before .before .before .pre in
     let rows = c .before .before .before .before .before .before .before .prepare .ensures in
-    (given .0 .source-bounded, ((places-long rows (length-of (c .before .before .before .before .before .before .before .before .before .before .before .before .before .before .args .source .now)), given-long (given .1 .0 .2) (given .1 .0 .3)), rows .within))
+    (given .0 .source-bounded, ((places-long rows (length-of (c .before .before .before .before .before .before .before .before .before .before .before .before .before .before .args .source .now)), given-long (given .1 .0 .long) (given .1 .1)), rows .within))
 
 same-length : tie.Need-same-length
 same-length c = search needs

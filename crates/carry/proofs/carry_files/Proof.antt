@@ -1,0 +1,34 @@
+-- `carry_files` meets its contract: each part that is lent has the length that was read.
+use mathlib.Core.Path.{sym}
+use lib.Seq.{length-take-le}
+use borrow.Author.Needs.{needs}
+use Rattle.carry.proofs.carry_files.Statement.{statement}
+use Rattle.carry.proofs.carry_files.Tie as tie
+
+pub carry-files-spec : {M : Type 1} → statement M
+carry-files-spec =
+    tie.close
+    (tie.spec
+    (λ c. search needs)
+    (λ c κs. search needs)
+    (λ c. search needs)
+    (λ c κs. search needs)
+    (λ c. search needs)
+    (λ c κs. search needs)
+    (λ c. search needs)
+    (λ c κs. search needs)
+    (λ c. search needs)
+    (λ c. sym (length-take-le _ _ (c .before .before .before .before .before .before .before .before .before .before .before .before .before .before .before .before .before .before .load .ensures)))
+    (λ c. search needs)
+    (λ c. sym (length-take-le _ _ (c .before .before .before .before .before .before .before .before .before .before .before .before .before .before .load2 .ensures)))
+    (λ c. search needs)
+    (λ c. sym (length-take-le _ _ (c .before .before .before .before .before .before .before .before .before .before .load3 .ensures)))
+    (λ c. search needs)
+    (λ c. sym (length-take-le _ _ (c .before .before .before .before .before .before .load4 .ensures)))
+    (λ c. search needs)
+    (λ c κs. search needs)
+    (λ c. search needs)
+    (λ c. search needs)
+    (λ c. search needs)
+    (λ c. search needs)
+    (λ c. search needs))

@@ -1,0 +1,89 @@
+-- `carry` meets its contract: the first of the four documents that is refused, or what is done with an accepted tree.
+use mathlib.Core.List.{List}
+use Prim.Native.Nat.{ℕ}
+use Rattle.model.specs.Definitions.Content.{contentOf}
+use Rattle.model.specs.Definitions.Image.{Setting}
+use Rattle.model.specs.Definitions.Entries.{Outcome, carryContent, carry}
+use Rattle.setting_judge.specs.Laws.{standing, refusing, standing-ready}
+use Rattle.outcomes.specs.Outcomes.{setting-refused, sound-tree, tree-refused, tree-accepted}
+use borrow.Author.Needs.{needs}
+use Rattle.carry_entry.proofs.carry.Statement.{statement}
+use Rattle.carry_entry.proofs.carry.Tie as tie
+
+-- what is done with an accepted tree
+abbrev done : List ℕ → List ℕ → Setting → Outcome
+done out tr X = carryContent out X (contentOf tr)
+
+judge-requires : tie.Need-judge-requires
+judge-requires c κs = search needs
+
+enum-known-setting : tie.Need-enum-known-setting
+enum-known-setting c = search needs
+
+faulting-requires : tie.Need-faulting-requires
+faulting-requires c κs = search needs
+
+returns : tie.Need-returns
+unfolding carry
+returns c = setting-refused _ _ _ _ _ _ (refusing _ _ _ _ _ _ _ (c .before .before .before .before .judge .ensures) (c .before .before .setting .given .1)) (c .faulting .ensures)
+
+enum-told : tie.Need-enum-told
+enum-told c = search needs
+
+judge-requires-2 : tie.Need-judge-requires-2
+judge-requires-2 c κs = standing _ _ _ _ _ _ _ (c .before .before .before .judge .ensures) (c .before .enum-told .given .1) .source-stands .bounded
+
+enum-known-judged : tie.Need-enum-known-judged
+enum-known-judged c = search needs
+
+faulting-requires-2 : tie.Need-faulting-requires-2
+faulting-requires-2 c κs = search needs
+
+returns-2 : tie.Need-returns-2
+unfolding carry
+returns-2 c =
+    let tree = c .before .before .before .before in let setting = tree .before .before in
+    let h = standing _ _ _ _ _ _ _ (setting .before .before .judge .ensures) (setting .enum-told .given .1) in
+    tree-refused h (done _ _) (h .source-stands .same-table) (tree .judge2 .ensures) _ _ (c .before .before .judged .given .1) (c .faulting2 .ensures)
+
+enum-told-2 : tie.Need-enum-told-2
+enum-told-2 c = search needs
+
+carry-requires : tie.Need-carry-requires
+carry-requires c κs =
+    let tree = c .before .before .before .before .before .before in let setting = tree .before .before in
+    let h = standing _ _ _ _ _ _ _ (setting .before .before .judge .ensures) (setting .enum-told .given .1) in
+    (standing-ready h, sound-tree _ _ _ (h .judges .source-sound) (h .source-stands) (tree .judge2 .ensures) (c .before .before .before .before .enum-told2 .given .1))
+
+carried-requires : tie.Need-carried-requires
+carried-requires c κs = search needs
+
+same-length : tie.Need-same-length
+same-length c = search needs
+
+returns-3 : tie.Need-returns-3
+unfolding carry
+returns-3 c =
+    let made = c .before .before .before in let tree = made .before .before .before .before .before .before .before in let setting = tree .before .before in
+    let h = standing _ _ _ _ _ _ _ (setting .before .before .judge .ensures) (setting .enum-told .given .1) in
+    let result = made .carry .ensures in
+    tree-accepted h (done _ _) (h .source-stands .same-table) (tree .judge2 .ensures) _ _ _ (made .before .before .before .before .before .enum-told2 .given .1) (c .carried .ensures) (result .same-answer) (result .same-output)
+
+pub carry-spec : {M : Type 1} → statement M
+carry-spec =
+    tie.close
+    (tie.spec
+    judge-requires
+    enum-known-setting
+    faulting-requires
+    returns
+    enum-told
+    judge-requires-2
+    enum-known-judged
+    faulting-requires-2
+    returns-2
+    enum-told-2
+    carry-requires
+    carried-requires
+    same-length
+    returns-3)

@@ -1,0 +1,36 @@
+// What the entry `carry` answers and writes, for any bytes. Crate lafindry offers it to C.
+ghost use Rattle.model.specs.Definitions.Entries as model;
+ghost use Rattle.outcomes.specs.Outcomes.{Answers};
+use answer_numbers::Answer;
+use answer_numbers::carried;
+use answer_numbers::faulting;
+use answers::Judged;
+use codes::TREE;
+use loaded_embedding::MAP;
+use loaded_table::TABLE;
+use setting_judge::Verdict;
+
+// Carries a document, after all documents are judged: length of the image and number of filler elements.
+pub fn carry<'a>(
+    source: &[u8],
+    target: &[u8],
+    embedding: &'a [u8],
+    tree: &'a [u8],
+    output: &mut [u8],
+) -> Answer
+    ensures { λ r. ⌜ Answers (model.carry (now (source .entry)) (now (target .entry)) (now (embedding .entry)) (now (tree .entry)) (now (output .entry))) (now (output .exit)) r ⌝ }
+{
+    let mut from = [0u16; TABLE];
+    let mut to = [0u16; TABLE];
+    let mut map = [0u16; MAP];
+    let setting = setting_judge::judge(source, target, embedding, &mut from, &mut to, &mut map);
+    if let Verdict::Has(f, document) = setting {
+        return faulting(f, document);
+    }
+    let judgement = tree_judge::judge::judge(&from, tree);
+    let judged = judgement.judged;
+    if let Judged::Has(f) = judged {
+        return faulting(f, TREE);
+    }
+    carried(carrying::carry(&from, &to, &map, embedding, tree, output))
+}

@@ -1,3 +1,0 @@
-pub mod Verdicts
-pub mod Judging
-pub mod Writing

@@ -1,0 +1,70 @@
+// What the three entries that judge answer, for any bytes. Crate lafindry offers them to C.
+ghost use mathlib.Core.Path.{_≡_};
+ghost use Rattle.model.specs.Definitions.Entries.{answerOf, judgeTable, judgeTree, judgeEmbedding};
+ghost use Rattle.loaded_table.specs.Loaded.{Bounded};
+ghost use Rattle.loaded_table.specs.Loaded as loaded_table;
+ghost use Rattle.answer_numbers.specs.Numbers.{numbers};
+ghost use Rattle.judge_entries.specs.Judging.{TreeAnswer};
+use answer_numbers::Answer;
+use answer_numbers::accepting;
+use answer_numbers::faulting;
+use answers::Judged;
+use codes::SOURCE_TABLE;
+use codes::TREE;
+use loaded_embedding::MAP;
+use loaded_table::TABLE;
+use setting_judge::Verdict;
+
+// Judges a table: number of types.
+pub fn judge_table(table: &[u8]) -> Answer
+    ensures { λ r. ⌜ numbers r ≡ answerOf (judgeTable (now (table .entry))) ⌝ }
+{
+    let mut loaded = [0u16; TABLE];
+    let judged = table_judge::judge(table, &mut loaded);
+    match judged {
+        Judged::Has(f) => faulting(f, SOURCE_TABLE),
+        Judged::Sound => accepting(loaded_table::types(&loaded) as u64, 0),
+    }
+}
+
+// Judges a tree by a loaded table: number of elements.
+fn judge_tree_by<'a>(table: &'a [u16; TABLE], tree: &'a [u8]) -> Answer
+    requires { ⌜ Bounded (now table) ⌝ }
+    ensures { λ r. ⌜ TreeAnswer (loaded_table.tableBy (now (table .entry))) (now (tree .entry)) r ⌝ }
+{
+    let r = tree_judge::judge::judge(table, tree);
+    let judged = r.judged;
+    match judged {
+        Judged::Has(f) => faulting(f, TREE),
+        Judged::Sound => accepting(r.elements as u64, 0),
+    }
+}
+
+// Judges a tree, after its table: number of elements.
+pub fn judge_tree(table: &[u8], tree: &[u8]) -> Answer
+    ensures { λ r. ⌜ numbers r ≡ answerOf (judgeTree (now (table .entry)) (now (tree .entry))) ⌝ }
+{
+    let mut loaded = [0u16; TABLE];
+    let judged = table_judge::judge(table, &mut loaded);
+    match judged {
+        Judged::Has(f) => faulting(f, SOURCE_TABLE),
+        Judged::Sound => judge_tree_by(&loaded, tree),
+    }
+}
+
+// Judges an embedding, after both tables: number of edges.
+pub fn judge_embedding(source: &[u8], target: &[u8], embedding: &[u8]) -> Answer
+    ensures { λ r. ⌜ numbers r ≡ answerOf (judgeEmbedding (now (source .entry)) (now (target .entry)) (now (embedding .entry))) ⌝ }
+{
+    let mut from = [0u16; TABLE];
+    let mut to = [0u16; TABLE];
+    let mut map = [0u16; MAP];
+    let verdict = setting_judge::judge(source, target, embedding, &mut from, &mut to, &mut map);
+    match verdict {
+        Verdict::Has(f, document) => faulting(f, document),
+        Verdict::Sound => {
+            let edges = embedding_checks::count::edge_count(&from);
+            accepting(edges as u64, 0)
+        }
+    }
+}
