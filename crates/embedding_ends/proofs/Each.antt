@@ -12,10 +12,14 @@ use Rattle.model.specs.Definitions.Basics.{Verdict, passes, fails, pick, orElse
 use Rattle.model.specs.Definitions.Table.{Kind, text, empty, sequence, choice, list, Table, kindOf, edgesOf}
 use Rattle.model.specs.Definitions.Embedding.{Edge, TypeMap, Embedding, noMap, targetOf, endOf, leaves}
 use Rattle.model.specs.Definitions.EmbeddingChecks.{eachType, firstEdge, endsAt, endsAtText, endsOf, rightSteps, stepsOf, firstClash, clashesOf, clash, wrongEnd, wrongSteps, pathClash}
-use Rattle.model.specs.Theorems.Tools.{pick-true, pick-false}
+use Rattle.model.specs.Theorems.Tools.{pick-true, pick-false, and-left, and-right}
+use Rattle.loaded_table.specs.Loaded.{tableBy, length-of}
+use Rattle.loaded_embedding.specs.Loaded.{targetsOf, startsOf, lengthsOf, embeddingBy}
+use Rattle.embedding_clash.specs.Ready.{Ready}
+use Rattle.embedding_clash.proofs.Arrays.{in-length, type-at}
 use Rattle.embedding_clash.specs.Edges.{noEdge, edgeOf, passed, clashesBelow, clashesAt}
 use Rattle.embedding_ends.specs.declared.checks.Check.{Check}
-use Rattle.embedding_ends.specs.declared.checks.Check.the-variants.{Ends, Steps, Clashes}
+use Rattle.embedding_ends.specs.declared.checks.Check.the-variants.{Ends, Steps, Clashes, All}
 use Rattle.embedding_ends.specs.Tests.{eachFrom, endRight, stepsRight, edgeRight, typeFault, firstFault}
 
 -- ---- a loop over checks i to n
@@ -164,6 +168,7 @@ pub type-each : (check : Check) (E : Embedding) (T : Table) (κ : Kind) (f : Typ
 type-each Ends E T κ f h = ends-each E T κ f h
 type-each Steps E T κ f h = steps-each T κ f h
 type-each Clashes E T κ f h = clashes-each T κ f h
+type-each All E T κ f h = refl
 
 -- a check of all goes through the types
 pub all-each : (check : Check) (S T : Table) (E : Embedding) → length E ≡ length S
@@ -172,3 +177,50 @@ unfolding wrongEnd wrongSteps pathClash
 all-each Ends S T E h = types-each (typeFault Ends E T) S E h
 all-each Steps S T E h = types-each (typeFault Steps E T) S E h
 all-each Clashes S T E h = types-each (typeFault Clashes E T) S E h
+all-each All S T E h = types-each (typeFault All E T) S E h
+
+-- ---- all three at once
+
+-- where one row of checks passes and each of its verdicts that passes says that another's does, the other row passes
+each-implies : (check other : ℕ → Verdict) (i k : ℕ) → ((j : ℕ) → j < i + k → check j ≡ passes → other j ≡ passes) → eachFrom check i k ≡ passes → eachFrom other i k ≡ passes
+unfolding eachFrom orElse
+each-implies check other i zero h e = refl
+each-implies check other i (suc k) h e = go (check i) refl (each-implies check other (suc i) k (λ j less. h j (omega arith))) e
+  where
+    go : (v : Verdict) → check i ≡ v → (eachFrom check (suc i) k ≡ passes → eachFrom other (suc i) k ≡ passes) → orElse v (eachFrom check (suc i) k) ≡ passes → orElse (other i) (eachFrom other (suc i) k) ≡ passes
+    go passes q later e = rw (h i (omega arith) q) (later e)
+    go (fails at) q later e = let z : _≡_ {A = ℕ} 0 1 = cc in absurd (omega arith)
+
+-- an edge that is right in all is right in each
+edge-implies : (check : Check) (E : Embedding) (T : Table) (κ : Kind) (f : TypeMap) (i : ℕ) → edgeVerdict All E T κ f i ≡ passes → edgeVerdict check E T κ f i ≡ passes
+unfolding pick
+edge-implies check E T κ f i e = right-passes (edgeOf f i .at) (part check (right (edgeRight All E T κ f i) e))
+  where
+    right : (b : Bool) → pick b passes (fails (edgeOf f i .at)) ≡ passes → b ≡ true
+    right true e = refl
+    right false e = let z : _≡_ {A = ℕ} 0 1 = cc in absurd (omega (arith, z))
+
+    part : (check : Check) → edgeRight All E T κ f i ≡ true → edgeRight check E T κ f i ≡ true
+    part Ends h = and-left _ _ h
+    part Steps h = and-left _ _ (and-right (endRight E T κ f i) _ h)
+    part Clashes h = and-right (stepsRight T κ f i) _ (and-right (endRight E T κ f i) _ h)
+    part All h = h
+
+-- an embedding that is right in all is right in each, where every source type has its edges
+all-implies : (check : Check) (S T : Table) (E : Embedding) → length E ≡ length S → ((s : ℕ) → s < length S → length (getD E s noMap .edges) ≡ edgesOf (kindOf S s))
+    → firstFault All S T E ≡ passes → firstFault check S T E ≡ passes
+all-implies check S T E same due e =
+    all-each check S T E same
+    ∙ each-implies (typeVerdict (typeFault All E T) S E) (typeVerdict (typeFault check E T) S E) 0 (length S)
+    (λ s less passed.
+    type-each check E T (kindOf S s) (getD E s noMap) (due s (omega arith))
+    ∙ each-implies (edgeVerdict All E T (kindOf S s) (getD E s noMap)) (edgeVerdict check E T (kindOf S s) (getD E s noMap)) 0 (edgesOf (kindOf S s))
+    (λ i few right. edge-implies check E T (kindOf S s) (getD E s noMap) i right) passed)
+    (sym (all-each All S T E same) ∙ e)
+
+-- so it is for loaded tables and a loaded embedding
+pub all-right : {source target em map : List ℕ} → Ready source target em map → firstFault All (tableBy source) (tableBy target) (embeddingBy em (tableBy source) map) ≡ passes → (check : Check)
+    → firstFault check (tableBy source) (tableBy target) (embeddingBy em (tableBy source) map) ≡ passes
+all-right {source} {target} {em} {map} r e check =
+    all-implies check (tableBy source) (tableBy target) (embeddingBy em (tableBy source) map) (in-length em (tableBy source) (targetsOf map) (startsOf map) (lengthsOf map))
+    (λ s less. type-at r s (rw (length-of source) at less) .edges-due) e

@@ -1,16 +1,16 @@
 -- The checks of edges, edge by edge: what the code asks of edge i of a source type.
-use mathlib.Core.Bool.{Bool, true, not}
+use mathlib.Core.Bool.{Bool, true, not, _&&_}
 use mathlib.Core.List.{[], _∷_}
 use Prim.Native.Nat.{ℕ, zero, suc}
 use lib.ListN.{getD}
 use lib.Dec.{eqb}
-use Rattle.model.specs.Definitions.Basics.{Verdict, passes, orElse}
-use Rattle.model.specs.Definitions.Table.{Kind, text, empty, sequence, choice, list, Table, kindOf, isText}
+use Rattle.model.specs.Definitions.Basics.{Verdict, passes, fails, pick, orElse}
+use Rattle.model.specs.Definitions.Table.{Kind, text, empty, sequence, choice, list, Table, kindOf, isText, edgesOf}
 use Rattle.model.specs.Definitions.Embedding.{TypeMap, Embedding, targetOf, endOf, leaves}
-use Rattle.model.specs.Definitions.EmbeddingChecks.{rightSteps, endsOf, stepsOf, clashesOf, wrongEnd, wrongSteps, pathClash}
+use Rattle.model.specs.Definitions.EmbeddingChecks.{eachType, rightSteps, endsOf, stepsOf, clashesOf, wrongEnd, wrongSteps, pathClash}
 use Rattle.embedding_clash.specs.Edges.{edgeOf, clashesAt}
 use Rattle.embedding_ends.specs.declared.checks.Check.{Check}
-use Rattle.embedding_ends.specs.declared.checks.Check.the-variants.{Ends, Steps, Clashes}
+use Rattle.embedding_ends.specs.declared.checks.Check.the-variants.{Ends, Steps, Clashes, All}
 
 -- the verdict of k checks, the first of them check i
 unfoldable pub eachFrom : (ℕ → Verdict) → ℕ → ℕ → Verdict
@@ -29,22 +29,25 @@ endRight E T (list m) f i = eqb (endOf T (f .target) (edgeOf f i .steps)) (targe
 unfoldable pub stepsRight : Table → Kind → TypeMap → ℕ → Bool
 stepsRight T κ f i = rightSteps κ (leaves T (f .target) (edgeOf f i .steps))
 
--- ---- the three checks of edges
+-- ---- the three checks of edges, and all of them at once
 
 -- what a check asks of edge i of a source type of a kind
 abbrev pub edgeRight : Check → Embedding → Table → Kind → TypeMap → ℕ → Bool
 edgeRight Ends E T κ f i = endRight E T κ f i
 edgeRight Steps E T κ f i = stepsRight T κ f i
 edgeRight Clashes E T κ f i = not (clashesAt T κ f i)
+edgeRight All E T κ f i = endRight E T κ f i && (stepsRight T κ f i && not (clashesAt T κ f i))
 
 -- a check of a source type
 abbrev pub typeFault : Check → Embedding → Table → Kind → TypeMap → Verdict
 typeFault Ends E T κ f = endsOf E T κ f
 typeFault Steps E T κ f = stepsOf T κ f
 typeFault Clashes E T κ f = clashesOf T κ f
+typeFault All E T κ f = eachFrom (λ i. pick (edgeRight All E T κ f i) passes (fails (edgeOf f i .at))) 0 (edgesOf κ)
 
 -- a check of all
 abbrev pub firstFault : Check → Table → Table → Embedding → Verdict
 firstFault Ends S T E = wrongEnd S T E
 firstFault Steps S T E = wrongSteps S T E
 firstFault Clashes S T E = pathClash S T E
+firstFault All S T E = eachType (typeFault All E T) S E

@@ -18,13 +18,16 @@ ghost use Rattle.loaded_table.specs.Loaded.{tableBy, typesIn};
 ghost use Rattle.loaded_embedding.specs.Loaded.{embeddingBy};
 ghost use Rattle.model.specs.Definitions.Table.{kindOf};
 ghost use Rattle.embedding_clash.specs.Ready.{mapOf, Ready, ReadyAt};
+ghost use Rattle.embedding_ends.specs.declared.checks.Check.the-variants as check;
 ghost use Rattle.embedding_ends.specs.Tests.{edgeRight, typeFault, firstFault};
 
-// What is asked of each edge: where its path ends, which kinds its steps leave, that it clashes with no earlier one.
+// What is asked of each edge: where its path ends, which kinds its steps leave, that it clashes with no earlier one; or all three,
+// which says whether every check passes, but not which one fails first.
 pub enum Check {
     Ends,
     Steps,
     Clashes,
+    All,
 }
 
 // The first path that a check refuses. The loop checks one source type a turn.
@@ -78,7 +81,47 @@ fn type_fault(
     Verdict::Passes
 }
 
-// Whether edge `i` of source type `s` is as a check asks, given the paths of the type's edges.
+// Whether the path of edge `i` of source type `s` ends at the right type, given the paths of the type's edges.
+fn ends_right(
+    source: &[u16; TABLE],
+    target: &[u16; TABLE],
+    em: &[u8],
+    map: &[u16; MAP],
+    s: usize,
+    i: usize,
+    paths: &[[u8; MAX_STEPS]; MAX_MEMBERS],
+) -> bool
+    requires { ⌜ ReadyAt (now source) (now target) (now em) (now map) s i (now paths) ⌝ }
+    ensures { λ r. ⌜ r ≡ edgeRight check.Ends (embeddingBy (now (em .entry)) (tableBy (now (source .entry))) (now (map .entry))) (tableBy (now (target .entry))) (kindOf (tableBy (now (source .entry))) s) (mapOf (now (source .entry)) (now (em .entry)) (now (map .entry)) s) i ⌝ }
+{
+    let path = paths[i];
+    let count = loaded_embedding::steps(map, s * MAX_MEMBERS + i);
+    let from = loaded_embedding::target(map, s);
+    let end = end_of(target, from, path, count);
+    right_end(source, target, em, map, s, i, end)
+}
+
+// Whether its steps are of the right kinds.
+fn steps_right(
+    source: &[u16; TABLE],
+    target: &[u16; TABLE],
+    em: &[u8],
+    map: &[u16; MAP],
+    s: usize,
+    i: usize,
+    paths: &[[u8; MAX_STEPS]; MAX_MEMBERS],
+) -> bool
+    requires { ⌜ ReadyAt (now source) (now target) (now em) (now map) s i (now paths) ⌝ }
+    ensures { λ r. ⌜ r ≡ edgeRight check.Steps (embeddingBy (now (em .entry)) (tableBy (now (source .entry))) (now (map .entry))) (tableBy (now (target .entry))) (kindOf (tableBy (now (source .entry))) s) (mapOf (now (source .entry)) (now (em .entry)) (now (map .entry)) s) i ⌝ }
+{
+    let path = paths[i];
+    let count = loaded_embedding::steps(map, s * MAX_MEMBERS + i);
+    let from = loaded_embedding::target(map, s);
+    let left = kinds_left(target, from, path, count);
+    right_kinds(loaded_table::kind(source, s), left, count)
+}
+
+// Whether edge `i` of source type `s` is as a check asks.
 fn edge_right(
     check: Check,
     source: &[u16; TABLE],
@@ -92,18 +135,18 @@ fn edge_right(
     requires { ⌜ ReadyAt (now source) (now target) (now em) (now map) s i (now paths) ⌝ }
     ensures { λ r. ⌜ r ≡ edgeRight check (embeddingBy (now (em .entry)) (tableBy (now (source .entry))) (now (map .entry))) (tableBy (now (target .entry))) (kindOf (tableBy (now (source .entry))) s) (mapOf (now (source .entry)) (now (em .entry)) (now (map .entry)) s) i ⌝ }
 {
-    let path = paths[i];
-    let count = loaded_embedding::steps(map, s * MAX_MEMBERS + i);
-    let from = loaded_embedding::target(map, s);
     match check {
-        Check::Ends => {
-            let end = end_of(target, from, path, count);
-            right_end(source, target, em, map, s, i, end)
-        }
-        Check::Steps => {
-            let left = kinds_left(target, from, path, count);
-            right_kinds(loaded_table::kind(source, s), left, count)
-        }
+        Check::Ends => ends_right(source, target, em, map, s, i, paths),
+        Check::Steps => steps_right(source, target, em, map, s, i, paths),
         Check::Clashes => !clashes_before(source, target, em, map, s, i, paths),
+        Check::All => {
+            if !ends_right(source, target, em, map, s, i, paths) {
+                return false;
+            }
+            if !steps_right(source, target, em, map, s, i, paths) {
+                return false;
+            }
+            !clashes_before(source, target, em, map, s, i, paths)
+        }
     }
 }

@@ -6,7 +6,7 @@ use Prim.Native.Nat.{ℕ, _≤_, _<_}
 use native.Mathlib.Omega.{arith}
 use lib.ListN.{length, getD}
 use borrow.Author.Tests.{le-leb, lt-leb}
-use Rattle.embedding_judge.specs.Judging.{pathChecks, Judgeable, EmbeddingJudged}
+use Rattle.embedding_judge.specs.Judging.{edgeChecks, pathChecks, Judgeable, EmbeddingJudged}
 use Rattle.answers.specs.Answers.{verdict, fault, judged}
 use Rattle.answers.specs.declared.Verdict.{Verdict}
 use Rattle.answers.specs.declared.Fault.{Fault}
@@ -41,21 +41,26 @@ module _ (S T : Table) (E : Embedding) where
   unfolding pathChecks faultUnless
   root-moved e = sym (rw e refl)
 
-  pub ends-wrong : (at : ℕ) → rootToRoot E ≡ true → wrongEnd S T E ≡ fails at → judged (Judged.Has (Fault.WrongEnd at)) ≡ pathChecks S T E
-  unfolding pathChecks faultUnless faultAt
-  ends-wrong at r e = sym (rw (r, e) refl)
+  -- the root is kept: the other checks decide
+  pub root-kept : (j : Judged) → rootToRoot E ≡ true → judged j ≡ edgeChecks S T E → judged j ≡ pathChecks S T E
+  unfolding pathChecks faultUnless
+  root-kept j r e = rw r e
 
-  pub steps-wrong : (at : ℕ) → rootToRoot E ≡ true → wrongEnd S T E ≡ passes → wrongSteps S T E ≡ fails at → judged (Judged.Has (Fault.WrongSteps at)) ≡ pathChecks S T E
-  unfolding pathChecks faultUnless faultAt
-  steps-wrong at r e f = sym (rw (r, e, f) refl)
+  pub ends-wrong : (at : ℕ) → wrongEnd S T E ≡ fails at → judged (Judged.Has (Fault.WrongEnd at)) ≡ edgeChecks S T E
+  unfolding edgeChecks faultAt
+  ends-wrong at e = sym (rw e refl)
 
-  pub paths-clash : (at : ℕ) → rootToRoot E ≡ true → wrongEnd S T E ≡ passes → wrongSteps S T E ≡ passes → pathClash S T E ≡ fails at → judged (Judged.Has (Fault.PathClash at)) ≡ pathChecks S T E
-  unfolding pathChecks faultUnless faultAt
-  paths-clash at r e f g = sym (rw (r, e, f, g) refl)
+  pub steps-wrong : (at : ℕ) → wrongEnd S T E ≡ passes → wrongSteps S T E ≡ fails at → judged (Judged.Has (Fault.WrongSteps at)) ≡ edgeChecks S T E
+  unfolding edgeChecks faultAt
+  steps-wrong at e f = sym (rw (e, f) refl)
 
-  pub paths-right : rootToRoot E ≡ true → wrongEnd S T E ≡ passes → wrongSteps S T E ≡ passes → pathClash S T E ≡ passes → judged Judged.Sound ≡ pathChecks S T E
-  unfolding pathChecks faultUnless faultAt
-  paths-right r e f g = sym (rw (r, e, f, g) refl)
+  pub paths-clash : (at : ℕ) → wrongEnd S T E ≡ passes → wrongSteps S T E ≡ passes → pathClash S T E ≡ fails at → judged (Judged.Has (Fault.PathClash at)) ≡ edgeChecks S T E
+  unfolding edgeChecks faultAt
+  paths-clash at e f g = sym (rw (e, f, g) refl)
+
+  pub paths-right : wrongEnd S T E ≡ passes → wrongSteps S T E ≡ passes → pathClash S T E ≡ passes → judged Judged.Sound ≡ edgeChecks S T E
+  unfolding edgeChecks faultAt
+  paths-right e f g = sym (rw (e, f, g) refl)
 
 -- ---- all checks
 
@@ -88,7 +93,7 @@ module _ (S T : Table) (bs map : List ℕ) where
             record { judgement = e ∙ ap (pathChecks S T) (loaded .same-embedding) ∙ sym same; loaded = λ accepted. loaded }
           where
             same : judgedEmbedding S T bs ≡ pathChecks S T (embeddingOf bs)
-            same = unfold judgedEmbedding pathChecks faultUnless faultAt fits maxLength in rw (le-leb (length bs) 60000 short, f, l, o) refl
+            same = unfold judgedEmbedding pathChecks edgeChecks faultUnless faultAt fits maxLength in rw (le-leb (length bs) 60000 short, f, l, o) refl
 
 -- what the path checks ask, once the operands are right
 pub paths-ready : {source target em map : List ℕ} → Judgeable source target → embeddingOperands (tableBy target) em ≡ passes → LoadedAs em (tableBy source) map

@@ -14,14 +14,19 @@ use Rattle.model.specs.Definitions.Refusals.{Judged, sound, root-moved, wrong-e
 use Rattle.model.specs.Definitions.Entries.{judgedEmbedding}
 use Rattle.model.specs.Theorems.Facts.{SoundTable}
 
--- checks 7 to 10
-unfoldable pub pathChecks : Table → Table → Embedding → Judged
-pathChecks S T E =
-    faultUnless root-moved (rootToRoot E) λ u.
+-- checks 8 to 10, in order
+unfoldable pub edgeChecks : Table → Table → Embedding → Judged
+edgeChecks S T E =
     faultAt wrong-end (wrongEnd S T E) λ u.
     faultAt wrong-steps (wrongSteps S T E) λ u.
     faultAt path-clash (pathClash S T E) λ u.
     sound
+
+-- checks 7 to 10
+unfoldable pub pathChecks : Table → Table → Embedding → Judged
+pathChecks S T E =
+    faultUnless root-moved (rootToRoot E) λ u.
+    edgeChecks S T E
 
 -- loaded tables that were accepted
 pub record Judgeable (source target : List ℕ) : Type 0 where

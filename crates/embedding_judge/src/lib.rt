@@ -19,16 +19,13 @@ ghost use Rattle.answers.specs.Answers.{judged};
 ghost use Rattle.loaded_table.specs.Loaded.{tableBy};
 ghost use Rattle.loaded_embedding.specs.Loaded.{embeddingBy};
 ghost use Rattle.embedding_clash.specs.Ready.{Ready};
-ghost use Rattle.embedding_judge.specs.Judging.{pathChecks, Judgeable, EmbeddingJudged};
+ghost use Rattle.embedding_judge.specs.Judging.{edgeChecks, pathChecks, Judgeable, EmbeddingJudged};
 
-// Checks 7 to 10 of a loaded embedding.
-fn judge_paths(source: &[u16; TABLE], target: &[u16; TABLE], em: &[u8], map: &[u16; MAP]) -> Judged
+// Checks 8 to 10 of a loaded embedding, one after the other.
+fn judge_each(source: &[u16; TABLE], target: &[u16; TABLE], em: &[u8], map: &[u16; MAP]) -> Judged
     requires { ⌜ Ready (now source) (now target) (now em) (now map) ⌝ }
-    ensures { λ r. ⌜ judged r ≡ pathChecks (tableBy (now (source .entry))) (tableBy (now (target .entry))) (embeddingBy (now (em .entry)) (tableBy (now (source .entry))) (now (map .entry))) ⌝ }
+    ensures { λ r. ⌜ judged r ≡ edgeChecks (tableBy (now (source .entry))) (tableBy (now (target .entry))) (embeddingBy (now (em .entry)) (tableBy (now (source .entry))) (now (map .entry))) ⌝ }
 {
-    if !root_to_root(map) {
-        return Judged::Has(Fault::RootMoved);
-    }
     let ends = first_fault(Check::Ends, source, target, em, map);
     if let Verdict::Fails(at) = ends {
         return Judged::Has(Fault::WrongEnd(at));
@@ -42,6 +39,22 @@ fn judge_paths(source: &[u16; TABLE], target: &[u16; TABLE], em: &[u8], map: &[u
         return Judged::Has(Fault::PathClash(at));
     }
     Judged::Sound
+}
+
+// Checks 7 to 10 of a loaded embedding. Where nothing is wrong one pass over the edges shows it; else the checks are made one
+// after the other.
+fn judge_paths(source: &[u16; TABLE], target: &[u16; TABLE], em: &[u8], map: &[u16; MAP]) -> Judged
+    requires { ⌜ Ready (now source) (now target) (now em) (now map) ⌝ }
+    ensures { λ r. ⌜ judged r ≡ pathChecks (tableBy (now (source .entry))) (tableBy (now (target .entry))) (embeddingBy (now (em .entry)) (tableBy (now (source .entry))) (now (map .entry))) ⌝ }
+{
+    if !root_to_root(map) {
+        return Judged::Has(Fault::RootMoved);
+    }
+    let all = first_fault(Check::All, source, target, em, map);
+    match all {
+        Verdict::Passes => Judged::Sound,
+        Verdict::Fails(_) => judge_each(source, target, em, map),
+    }
 }
 
 // Judges an embedding's bytes, given the loaded source and target tables, and loads it where it is accepted.

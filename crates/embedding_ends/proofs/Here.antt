@@ -1,0 +1,28 @@
+-- What a check of one edge knows of it.
+use mathlib.Core.Path.{_≡_}
+use mathlib.Core.List.{List, []}
+use Prim.Native.Nat.{ℕ, _+_, _*_, _<_}
+use native.Mathlib.Omega.{arith}
+use lib.ListN.{getD}
+use Rattle.loaded_embedding.specs.Loaded.{targetsOf, lengthsOf}
+use Rattle.embedding_clash.specs.Paths.{Walkable, pathOf}
+use Rattle.embedding_clash.specs.Ready.{ReadyAt}
+use Rattle.embedding_clash.proofs.Arrays.{TypeAt, EdgeAt, type-at, edge-at}
+
+module _ {source target em map : List ℕ} {s i : ℕ} {paths : List (List ℕ)} (h : ReadyAt source target em map s i paths) where
+  pub type-here : TypeAt source target em map s
+  type-here = type-at (h .ready) _ (h .type-exists)
+
+  pub edge-here : EdgeAt source target em map s i
+  edge-here = edge-at (h .ready) _ _ (h .type-exists) (h .edge-exists)
+
+  pub few-before : i < 16
+  few-before = omega (arith, h .edge-exists, type-here .at-most)
+
+  -- its path stands among the paths
+  pub path-here : getD paths i [] ≡ pathOf em map (s * 16 + i)
+  path-here = h .stored .path-at _ (h .edge-exists)
+
+  -- and its steps exist
+  pub walkable-here : {from count : ℕ} → from ≡ getD (targetsOf map) s 0 → count ≡ getD (lengthsOf map) (s * 16 + i) 0 → Walkable target from (getD paths i []) count
+  walkable-here from-is count-is = rw (from-is, count-is, path-here) (edge-here .walkable)
