@@ -17,7 +17,7 @@ ghost use mathlib.Core.Path.{_≡_};
 ghost use lib.ListN.{length};
 ghost use Rattle.answers.specs.Answers.{judged};
 ghost use Rattle.loaded_table.specs.Loaded.{tableBy};
-ghost use Rattle.loaded_embedding.specs.Loaded.{embeddingBy};
+ghost use Rattle.loaded_embedding.specs.Loaded.{embeddingBy, Cleared};
 ghost use Rattle.embedding_clash.specs.Ready.{Ready};
 ghost use Rattle.embedding_judge.specs.Judging.{edgeChecks, pathChecks, Judgeable, EmbeddingJudged};
 
@@ -57,7 +57,7 @@ fn judge_paths(source: &[u16; TABLE], target: &[u16; TABLE], em: &[u8], map: &[u
     }
 }
 
-// Judges an embedding's bytes, given the loaded source and target tables, and loads it where it is accepted.
+// Judges an embedding's bytes, given the loaded source and target tables, and loads it into a cleared array where it is accepted.
 pub fn judge(
     source: &[u16; TABLE],
     target: &[u16; TABLE],
@@ -65,7 +65,7 @@ pub fn judge(
     map: &mut [u16; MAP],
 ) -> Judged
     requires { ⌜ Judgeable (now source) (now target) ⌝ }
-    requires { ⌜ length (now map) ≡ 2112 ⌝ }
+    requires { ⌜ Cleared (now map) ⌝ }
     ensures { λ r. ⌜ EmbeddingJudged (tableBy (now (source .entry))) (tableBy (now (target .entry))) (now (em .entry)) r (now (map .exit)) ⌝ }
 {
     if MAX_BYTES < em.len() {

@@ -9,7 +9,8 @@ use lib.Seq.{getD-set-same, getD-set-other}
 use lib.Dec.{eqb, ltb}
 use borrow.Author.Tests.{eqb-true, eqb-false, ltb-true, ltb-false}
 use Rattle.loaded_table.specs.Loaded.{section, in-section, section-long}
-use Rattle.embedding_load.specs.Loading.{Arrays, loadedIn, Cleared, mapped}
+use Rattle.loaded_embedding.specs.Loaded.{Cleared}
+use Rattle.embedding_load.specs.Loading.{Arrays, loadedIn, mapped}
 
 -- the arrays have their lengths, and every path is within the document and has at most 12 steps
 pub record Shaped (em : List ℕ) (a : Arrays) : Type 0 where
@@ -20,14 +21,14 @@ pub record Shaped (em : List ℕ) (a : Arrays) : Type 0 where
   pub within : (i : ℕ) → getD (a .starts) i 0 + 1 + 2 * getD (a .lengths) i 0 ≤ length em
 
 -- a section of an array of zeros is one of zeros
-section-zeros : (map : List ℕ) → Cleared 2112 map → (from many : ℕ) → from + many ≤ 2112 → (i : ℕ) → getD (section from many map) i 0 ≡ 0
+section-zeros : (map : List ℕ) → Cleared map → (from many : ℕ) → from + many ≤ 2112 → (i : ℕ) → getD (section from many map) i 0 ≡ 0
 section-zeros map h from many fits i = go (ltb i many) refl
   where
     go : (b : Bool) → ltb i many ≡ b → getD (section from many map) i 0 ≡ 0
-    go true e = in-section from many map i (ltb-true i many e) ∙ h .zeros (from + i) (omega (arith, ltb-true i many e))
+    go true e = in-section from many map i (ltb-true i many e) ∙ h .zeros (from + i)
     go false e = List·getD-eq-default (section from many map) 0 (rw (section-long from many map (rw (h .size) fits)) (ltb-false i many e))
 
-pub shaped-cleared : (em map : List ℕ) → 1 ≤ length em → Cleared 2112 map → Shaped em (loadedIn 0 0 map)
+pub shaped-cleared : (em map : List ℕ) → 1 ≤ length em → Cleared map → Shaped em (loadedIn 0 0 map)
 shaped-cleared em map some h =
     let size = h .size in
     record {
@@ -38,14 +39,7 @@ shaped-cleared em map some h =
       within = λ i. rw (section-zeros map h 1088 1024 (omega arith) i, section-zeros map h 64 1024 (omega arith) i) (omega arith);
     }
 
--- one number more is 0
-pub cleared-more : (map : List ℕ) (n : ℕ) → n < 2112 → Cleared n map → Cleared (n + 1) (set map n 0)
-cleared-more map n few h = record { size = length-set map n 0 ∙ h .size; zeros = λ i low. go i low (eqb i n) refl }
-  where
-    go : (i : ℕ) → i < n + 1 → (b : Bool) → eqb i n ≡ b → getD (set map n 0) i 0 ≡ 0
-    go i low true q = rw (eqb-true i n q) (getD-set-same map n 0 0 (rw (h .size) few))
-    go i low false q = getD-set-other map n i 0 0 (eqb-false i n q) ∙ h .zeros i (omega (arith, eqb-false i n q))
-
+-- each command keeps it
 pub shaped-mapped : (em : List ℕ) (a : Arrays) (t : ℕ) → Shaped em a → Shaped em (mapped a t)
 unfolding mapped
 shaped-mapped em a t h =

@@ -14,7 +14,7 @@ use borrow.Author.Tests.{ltb-true}
 use Rattle.embedding_checks.proofs.Machines.{form-stops, ended-stops, count-stops}
 use Rattle.embedding_checks.proofs.Forms.{step-on, step-off}
 use Rattle.embedding_checks.proofs.Turns.{some-width}
-use Rattle.loaded_embedding.specs.Loaded.{mapsFrom, embeddingIn}
+use Rattle.loaded_embedding.specs.Loaded.{mapsFrom, embeddingIn, Cleared}
 use Rattle.model.specs.Definitions.Basics.{passes, Next, goes, stops, run}
 use Rattle.model.specs.Definitions.Commands.{EmbeddingCommand, mapsTo, path, step, embeddingEnd, alienE, embeddingCommand, embeddingCommands, embeddingWidth}
 use Rattle.model.specs.Definitions.Table.{Table, edgesOf}
@@ -24,7 +24,7 @@ use Rattle.model.specs.Theorems.JudgedTables.{goes-if, pick-passes}
 use Rattle.model.specs.Theorems.Runs.{passes-fails, goes-stops}
 use Rattle.model.specs.Theorems.Tools.{true-false}
 use Rattle.model.specs.Theorems.Reading.{rawAt, ReadsAt, left-stops, left-goes, left-ends, embedding-reads, no-embedding-commands}
-use Rattle.embedding_load.specs.Loading.{Arrays, loadedIn, Cleared, mapped, begun, stepped, puts, Maps, Begins, Steps, Room, LoadedAs}
+use Rattle.embedding_load.specs.Loading.{Arrays, loadedIn, mapped, begun, stepped, puts, Maps, Begins, Steps, Room, LoadedAs}
 use Rattle.embedding_load.proofs.Continuation.{continued, edgesDue, continued-mapped, continued-begun, continued-stepped, continued-full}
 use Rattle.embedding_load.proofs.Shapes.{Shaped, shaped-cleared, shaped-mapped, shaped-written}
 use Rattle.embedding_load.proofs.Sources.{Source, some-bytes, next-type, none-next, operand-behind}
@@ -312,7 +312,7 @@ pub record Loading (em : List ℕ) (S : Table) (a : Arrays) (at : ℕ) : Type 0 
   limits-left : run embeddingWidth stepCount (λ n. true) count-state at (embeddingCommands (drop at em)) ≡ passes
   loaded : Loaded em S form-state count-state a at (embeddingTail at (embeddingCommands (drop at em))) (embeddingOf em)
 
-pub loading-starts : {em : List ℕ} {S : Table} (map : List ℕ) → Cleared 2112 map → Source em S → embeddingForm S em ≡ passes → embeddingLimits em ≡ passes → Loading em S (loadedIn 0 0 map) 0
+pub loading-starts : {em : List ℕ} {S : Table} (map : List ℕ) → Cleared map → Source em S → embeddingForm S em ≡ passes → embeddingLimits em ≡ passes → Loading em S (loadedIn 0 0 map) 0
 unfolding embeddingForm embeddingLimits embeddingOf continued edgesDue
 loading-starts {em} {S} map cleared source form limits =
     record {

@@ -25,11 +25,6 @@ loadedIn maps edges map = record { maps = maps; edges = edges; targets = targets
 abbrev pub loadedAt : Place → List ℕ → Arrays
 loadedAt p map = loadedIn (p .types) (p .edges) map
 
--- the first n numbers of an array that has all its places are 0
-pub record Cleared (n : ℕ) (map : List ℕ) : Type 0 where
-  pub size : length map ≡ 2112
-  pub zeros : (i : ℕ) → i < n → getD map i 0 ≡ 0
-
 -- ---- what a command does
 
 -- one type more, mapped to t, with no path yet

@@ -15,27 +15,16 @@ ghost use mathlib.Core.Path.{_≡_};
 ghost use Prim.Native.Nat.{_≤_};
 ghost use lib.ListN.{length};
 ghost use Rattle.loaded_table.specs.Loaded.{tableBy, Bounded};
+ghost use Rattle.loaded_embedding.specs.Loaded.{Cleared};
 ghost use Rattle.embedding_checks.specs.Commands.{command};
 ghost use Rattle.model.specs.Definitions.Basics.{passes};
 ghost use Rattle.model.specs.Definitions.EmbeddingChecks.{embeddingForm, embeddingLimits};
-ghost use Rattle.embedding_load.specs.Loading.{loadedAt, Cleared, Room, Put, LoadedAs};
+ghost use Rattle.embedding_load.specs.Loading.{loadedAt, Room, Put, LoadedAs};
 
 // How many types are loaded so far, and how many paths of the last of them.
 pub struct Place {
     pub types: usize,
     pub edges: usize,
-}
-
-// Stores zeros. The loop has stored them below i.
-fn clear(map: &mut [u16; MAP])
-    requires { ⌜ length (now map) ≡ 2112 ⌝ }
-    ensures { λ r. ⌜ Cleared 2112 (now (map .exit)) ⌝ }
-{
-    let mut i: usize = 0;
-    while i < MAP {
-        map[i] = 0;
-        i += 1;
-    }
 }
 
 // What the command at an offset does to the array and the place reached.
@@ -73,7 +62,8 @@ fn put(map: &mut [u16; MAP], p: Place, at: usize, c: EmbeddingCommand) -> Place
     }
 }
 
-// Loads the embedding that a document of the right form and within the limits writes, for a loaded source table. Each turn
+// Loads the embedding that a document of the right form and within the limits writes, for a loaded source table, into an
+// array that is cleared. Each turn
 // of the loop puts one command: what is loaded, continued by what the commands from `at` on say, stays the document's
 // embedding.
 pub fn load(source: &[u16; TABLE], em: &[u8], map: &mut [u16; MAP])
@@ -81,10 +71,9 @@ pub fn load(source: &[u16; TABLE], em: &[u8], map: &mut [u16; MAP])
     requires { ⌜ embeddingForm (tableBy (now source)) (now em) ≡ passes ⌝ }
     requires { ⌜ embeddingLimits (now em) ≡ passes ⌝ }
     requires { ⌜ length (now em) ≤ 60000 ⌝ }
-    requires { ⌜ length (now map) ≡ 2112 ⌝ }
+    requires { ⌜ Cleared (now map) ⌝ }
     ensures { λ r. ⌜ LoadedAs (now (em .entry)) (tableBy (now (source .entry))) (now (map .exit)) ⌝ }
 {
-    clear(map);
     let mut at: usize = 0;
     let mut place = Place { types: 0, edges: 0 };
     while at < em.len() {

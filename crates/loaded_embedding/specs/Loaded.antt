@@ -3,8 +3,8 @@ use mathlib.Core.Path.{_≡_, refl, ap}
 use mathlib.Core.List.{List, [], _∷_, _++_}
 use Prim.Native.Nat.{ℕ, zero, suc, _+_, _*_, _≤_}
 use native.Mathlib.Omega.{arith}
-use lib.ListN.{length, getD}
-use Rattle.loaded_table.specs.Loaded.{section}
+use lib.ListN.{length, getD, replicate}
+use Rattle.loaded_table.specs.Loaded.{section, getD-replicate}
 use Rattle.model.specs.Definitions.Table.{edgesOf}
 use Rattle.model.specs.Definitions.Table as table
 use Rattle.model.specs.Definitions.Embedding as model
@@ -64,3 +64,11 @@ steps-more em at zero rest = let here : at + 2 * zero ≡ at = omega arith in rw
 steps-more em at (suc n) rest =
     let there : at + 2 * suc n ≡ at + 2 + 2 * n = omega arith in
     rw there (ap {B = List ℕ} (λ ps. getD em at 0 ∷ ps) (steps-more em (at + 2) n rest))
+
+-- an array that holds nothing yet
+pub record Cleared (map : List ℕ) : Type 0 where
+  pub size : length map ≡ 2112
+  pub zeros : (i : ℕ) → getD map i 0 ≡ 0
+
+pub cleared-map : Cleared (replicate 2112 0)
+cleared-map = record { size = refl; zeros = getD-replicate 2112 }

@@ -5,7 +5,7 @@ use mathlib.Core.List.{List, [], _∷_}
 use Prim.Native.Nat.{ℕ, zero, suc, _+_, _*_, _≤_, _<_, min}
 use native.Mathlib.Nat.{add-zero, add-suc, suc-add}
 use native.Mathlib.Omega.{arith}
-use lib.ListN.{length, take, drop, getD, set, length-drop, List·getD-eq-default}
+use lib.ListN.{length, take, drop, getD, set, length-drop, List·getD-eq-default, replicate}
 use lib.Seq.{getD-take, getD-drop, getD-set-same, getD-set-other, length-take-le, take-set-lt, drop-set-add}
 use lib.Dec.{eqb, ltb}
 use borrow.Author.Tests.{eqb-true, eqb-false, ltb-true, ltb-false}
@@ -65,6 +65,12 @@ tableBy rows = tableIn (typesIn rows) (kindsOf rows) (countsOf rows) (membersIn 
 -- a number of a section is a number of the array
 pub in-section : (from many : ℕ) (rows : List ℕ) (i : ℕ) → i < many → getD (section from many rows) i 0 ≡ getD rows (from + i) 0
 in-section from many rows i h = getD-take many (drop from rows) i 0 h ∙ getD-drop from rows i 0
+
+-- a cleared array holds 0 at every place, and beyond its end
+pub getD-replicate : (n i : ℕ) → _≡_ {A = ℕ} (getD (replicate n 0) i 0) 0
+getD-replicate zero i = refl
+getD-replicate (suc n) zero = refl
+getD-replicate (suc n) (suc i) = getD-replicate n i
 
 -- a store elsewhere leaves a section
 pub section-kept : (from many : ℕ) (rows : List ℕ) (i v : ℕ) → (i < from) ⊎ (from + many ≤ i) → section from many (set rows i v) ≡ section from many rows

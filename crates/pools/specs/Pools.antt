@@ -1,21 +1,15 @@
 -- Arrays that are long enough for the rows of a setting.
-use mathlib.Core.Path.{_≡_, refl}
-use Prim.Native.Nat.{ℕ, zero, suc, _+_, _*_, _≤_, _<_}
+use Prim.Native.Nat.{ℕ, _+_, _*_, _≤_, _<_}
 use mathlib.Core.List.{List}
 use native.Mathlib.Omega.{arith}
-use lib.ListN.{length, getD, replicate}
-use Rattle.loaded_table.specs.Loaded.{typesIn, Bounded}
+use lib.ListN.{length, replicate}
+use Rattle.loaded_table.specs.Loaded.{typesIn, Bounded, getD-replicate}
 use Rattle.rows.specs.Rows.{toOf}
 use Rattle.preparing.specs.Preparing.{roomOf}
 
 -- cleared places hold no rows
-no-number : (n i : ℕ) → _≡_ {A = ℕ} (getD (replicate n 0) i 0) 0
-no-number zero i = refl
-no-number (suc n) zero = refl
-no-number (suc n) (suc i) = no-number n i
-
 pub no-rows : (n room row : ℕ) → toOf (replicate n 0) row ≤ room
-no-rows n room row = omega (arith, no-number n (3 * row + 1))
+no-rows n room row = omega (arith, getD-replicate n (3 * row + 1))
 
 -- 3,456 numbers are enough for the places of any setting's rows
 pub places-enough : {source : List ℕ} → Bounded source → 3 * (64 + typesIn source * 17) ≤ 3456

@@ -23,23 +23,35 @@ pub behind-within : {spans : List ℕ} {o : ℕ} → Bounded spans o → o + 2 +
     → o + 2 + getD spans (o + 2) 0 + 1 + getD spans (o + 2 + getD spans (o + 2) 0 + 1) 0 ≤ length spans
 behind-within {spans} {o} b h = b .within (o + 2 + getD spans (o + 2) 0 + 1) (omega arith) h
 
--- past an element
-pub element-span : {spans : List ℕ} {o b : ℕ} → Bounded spans o → b ≡ 0x30 → o + 2 + getD spans (o + 2) 0 + 1 < length spans
-    → SpanAt spans b o (o + 2 + getD spans (o + 2) 0 + 1 - o + getD spans (o + 2 + getD spans (o + 2) 0 + 1) 0)
-element-span {spans} {o} {b} bounded is h =
-    record {
-      short = omega (arith, behind-within bounded h);
+-- past an element; `far` is how far it is from inside it
+pub element-span : {spans : List ℕ} {o b far : ℕ} → Bounded spans o → far ≡ getD spans (o + 2) 0 → b ≡ 0x30 → o + 2 + far + 1 < length spans
+    → SpanAt spans b o (o + 2 + far + 1 - o + getD spans (o + 2 + far + 1) 0)
+element-span {spans} {o} {b} {far} bounded known is h =
+    let enough : o + 2 + getD spans (o + 2) 0 + 1 < length spans = rw known at h in
+    rw known
+    (record {
+      short = omega (arith, behind-within bounded enough);
       character = λ other far. absurd (omega arith);
       element = λ same far. omega arith;
       closing = λ not-open not-letter. absurd (not-open is);
+    })
+
+-- an element behind which the document ends
+pub element-last : {spans : List ℕ} {o b far : ℕ} → o < length spans → far ≡ getD spans (o + 2) 0 → b ≡ 0x30 → length spans ≤ o + 2 + far + 1 → SpanAt spans b o 0
+element-last {spans} {o} {b} {far} within known is h =
+    record {
+      short = omega arith;
+      character = λ other far. absurd (omega arith);
+      element = λ same far. absurd (omega (arith, known));
+      closing = λ not-open not-letter. refl;
     }
 
 -- past a character
-pub character-span : {spans : List ℕ} {o b : ℕ} → Bounded spans o → b ≡ 0x31 → o + 2 < length spans → SpanAt spans b o (2 + getD spans (o + 2) 0)
-character-span {spans} {o} {b} bounded is h =
+pub character-span : {spans : List ℕ} {o b far : ℕ} → Bounded spans o → far ≡ getD spans (o + 2) 0 → b ≡ 0x31 → o + 2 < length spans → SpanAt spans b o (2 + far)
+character-span {spans} {o} {b} bounded known is h =
     record {
-      short = omega (arith, inside-within bounded h);
-      character = λ same far. refl;
+      short = omega (arith, inside-within bounded h, known);
+      character = λ same far. omega (arith, known);
       element = λ other far. absurd (omega arith);
       closing = λ not-open not-letter. absurd (not-letter is);
     }
@@ -169,3 +181,18 @@ module _ {tr old spans : List ℕ} {n p : ℕ} (f : Filled tr n p old spans) (mo
 
   pub turn-filled : {far : ℕ} → n ≡ length tr → SpanAt (take n spans) (getD tr (p - 1) 0) (p - 1) far → Filled tr n (p - 1) old (set spans (p - 1) far)
   turn-filled is s = one-filled before is room s
+
+  -- the distances that are kept are those of the two offsets behind
+  pub turn-behind : {behind : ℕ} → (p + 1 < n → behind ≡ getD spans (p + 1) 0) → p - 1 + 2 < length (take n spans) → behind ≡ getD (take n spans) (p - 1 + 2) 0
+  turn-behind known inside =
+      let place : p - 1 + 2 ≡ p + 1 = omega arith in
+      let less : p + 1 < n = omega (arith, length-take-le n spans room) in
+      rw (place, getD-take n spans (p + 1) 0 less) (known less)
+
+  pub turn-near : (far : ℕ) → far ≡ getD (set spans (p - 1) far) (p - 1) 0
+  turn-near far = sym (getD-set-same spans (p - 1) far 0 (omega (arith, f .low)))
+
+  pub turn-next : {near : ℕ} (far : ℕ) → (p < n → near ≡ getD spans p 0) → p - 1 + 1 < n → near ≡ getD (set spans (p - 1) far) (p - 1 + 1) 0
+  turn-next far known less =
+      let place : p - 1 + 1 ≡ p = omega arith in
+      rw (place, getD-set-other spans (p - 1) p far 0 (λ e. omega (arith, e))) (known (omega arith))

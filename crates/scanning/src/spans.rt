@@ -1,7 +1,7 @@
 // Lengths of contents, found once for a document, so that an element is passed over in one step.
 ghost use mathlib.Core.Path.{_≡_};
 ghost use Prim.Native.Nat.{_+_, _≤_, _<_};
-ghost use lib.ListN.{length};
+ghost use lib.ListN.{length, getD};
 ghost use Rattle.model.specs.Definitions.Content.{Content, bytes};
 ghost use Rattle.scanning.specs.Scanning.{At};
 ghost use Rattle.scanning.specs.Spanning.{Spans, Bounded, SpanAt};
@@ -9,46 +9,46 @@ use codes::CHARACTER;
 use codes::OPENS;
 
 // How far it is from offset o, where the byte b stands, to the 32 that closes the element around it, by how far it is from the
-// offsets behind o; 0 where the document ends too soon.
-fn span_at(b: u8, spans: &[u16], o: usize) -> usize
+// offsets behind o, `behind` from the second of them; 0 where the document ends too soon.
+fn span_at(b: u8, spans: &[u16], o: usize, behind: usize) -> usize
     requires { ⌜ (o < length (now spans)) × (length (now spans) ≤ 60000) × Bounded (now spans) o ⌝ }
+    requires behind { ⌜ (o + 2 < length (now spans) → behind ≡ getD (now spans) (o + 2) 0) ⌝ }
     ensures { λ r. ⌜ SpanAt (now (spans .entry)) b o r ⌝ }
 {
+    let inside = o + 2;
+    if spans.len() <= inside {
+        return 0;
+    }
     match b {
         OPENS => {
-            let inside = o + 2;
-            if spans.len() <= inside {
-                return 0;
-            }
-            let next = inside + spans[inside] as usize + 1;
+            let next = inside + behind + 1;
             if spans.len() <= next {
                 return 0;
             }
             next - o + spans[next] as usize
         }
-        CHARACTER => {
-            let next = o + 2;
-            if spans.len() <= next {
-                return 0;
-            }
-            2 + spans[next] as usize
-        }
+        CHARACTER => 2 + behind,
         _ => 0,
     }
 }
 
 // Fills `spans`: for content that begins at an offset of the document, its length. The loop goes from the last offset to the
-// first, so that what is behind an offset is known.
+// first, so that what is behind an offset is known. `near` and `behind` are kept for the offsets o and o + 1: reading them from
+// where they were just stored would take longer than all else.
 pub fn fill_spans(tr: &[u8], spans: &mut [u16])
     requires { ⌜ (length (now tr) ≤ 60000) × (length (now tr) ≤ length (now spans)) ⌝ }
     ensures { λ r. ⌜ Spans (now (tr .entry)) (now (spans .exit)) ⌝ }
 {
     let n = tr.len();
     let mut o = n;
+    let mut near = 0;
+    let mut behind = 0;
     while 0 < o {
         o -= 1;
-        let far = span_at(tr[o], &spans[..n], o);
+        let far = span_at(tr[o], &spans[..n], o, behind);
         spans[o] = far as u16;
+        behind = near;
+        near = far;
     }
 }
 

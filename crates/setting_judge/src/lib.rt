@@ -1,6 +1,7 @@
 // Judging two tables and an embedding between them, in paper 01's order, and loading all three where none is refused.
 ghost use mathlib.Core.Path.{_≡_};
 ghost use lib.ListN.{length};
+ghost use Rattle.loaded_embedding.specs.Loaded.{Cleared};
 ghost use Rattle.setting_judge.specs.Judging.{ByVerdict};
 use answers::Fault;
 use answers::Judged;
@@ -26,7 +27,7 @@ pub fn judge(
     to: &mut [u16; TABLE],
     map: &mut [u16; MAP],
 ) -> Verdict
-    requires { ⌜ (length (now from) ≡ 1281) × (length (now to) ≡ 1281) × (length (now map) ≡ 2112) ⌝ }
+    requires { ⌜ (length (now from) ≡ 1281) × (length (now to) ≡ 1281) × Cleared (now map) ⌝ }
     ensures { λ r. ⌜ ByVerdict (now (source .entry)) (now (target .entry)) (now (embedding .entry)) (now (from .exit)) (now (to .exit)) (now (map .exit)) r ⌝ }
 {
     let first = table_judge::judge(source, from);

@@ -1,9 +1,11 @@
 -- `carry` meets its contract: the first of the four documents that is refused, or what is done with an accepted tree.
+use mathlib.Core.Path.{refl}
 use mathlib.Core.List.{List}
 use Prim.Native.Nat.{ℕ}
 use Rattle.model.specs.Definitions.Content.{contentOf}
 use Rattle.model.specs.Definitions.Image.{Setting}
 use Rattle.model.specs.Definitions.Entries.{Outcome, carryContent, carry}
+use Rattle.loaded_embedding.specs.Loaded.{cleared-map}
 use Rattle.setting_judge.specs.Laws.{standing, refusing, standing-ready}
 use Rattle.outcomes.specs.Outcomes.{setting-refused, sound-tree, tree-refused, tree-accepted}
 use borrow.Author.Needs.{needs}
@@ -15,7 +17,7 @@ abbrev done : List ℕ → List ℕ → Setting → Outcome
 done out tr X = carryContent out X (contentOf tr)
 
 judge-requires : tie.Need-judge-requires
-judge-requires c κs = search needs
+judge-requires c κs = (refl, refl, cleared-map)
 
 enum-known-setting : tie.Need-enum-known-setting
 enum-known-setting c = search needs

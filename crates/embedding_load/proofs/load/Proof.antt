@@ -18,18 +18,15 @@ Inv-loop source em map₀ at₀ place₀ map at place = (length map ≡ 2112) ×
 abbrev μ-loop : tie.MeasureT-loop
 μ-loop source em map₀ at₀ place₀ map at place = length em - at
 
-clear-requires : tie.Need-clear-requires Inv-loop μ-loop
-clear-requires c κs = c .before .before .pre .1 .1 .1 .1
-
 loop-holds : tie.Need-loop-holds Inv-loop μ-loop
 loop-holds c =
-    let pre = c .before .before .before .pre in
-    let cleared = c .clear .ensures in
+    let pre = c .before .pre in
+    let cleared = pre .1 .1 .1 .1 in
     (cleared .size, loading-starts _ cleared (source-in _ _ (pre .0) (pre .1 .1 .1 .0)) (pre .1 .0) (pre .1 .1 .0))
 
 -- the entry of the function, seen from the loop
 abbrev startOf : tie.In-loop Inv-loop μ-loop → tie.Start Inv-loop μ-loop
-startOf c = c .before .before .before .before .before
+startOf c = c .before .before .before
 
 -- what a turn needs and gives
 here : (c : tie.After-command-at Inv-loop μ-loop)
@@ -68,7 +65,6 @@ load-spec =
     (tie.spec
     Inv-loop
     μ-loop
-    clear-requires
     loop-holds
     command-at-requires
     put-requires

@@ -1,4 +1,6 @@
 -- `judge_embedding` meets its contract: by what judging the three documents answers.
+use mathlib.Core.Path.{refl}
+use Rattle.loaded_embedding.specs.Loaded.{cleared-map}
 use Rattle.setting_judge.specs.Laws.{standing, refusing}
 use Rattle.judge_entries.proofs.Judging.{embedding-refused, embedding-counted}
 use borrow.Author.Needs.{needs}
@@ -6,7 +8,7 @@ use Rattle.judge_entries.proofs.judge_embedding.Statement.{statement}
 use Rattle.judge_entries.proofs.judge_embedding.Tie as tie
 
 judge-requires : tie.Need-judge-requires
-judge-requires c κs = search needs
+judge-requires c κs = (refl, refl, cleared-map)
 
 enum-known-verdict : tie.Need-enum-known-verdict
 enum-known-verdict c = search needs
