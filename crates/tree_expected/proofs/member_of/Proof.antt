@@ -16,25 +16,9 @@ Inv-loop table m x many i₀ i = Searching x (m * 16) (getD (countsOf table) m 0
 abbrev μ-loop : tie.MeasureT-loop
 μ-loop table m x many i₀ i = getD (countsOf table) m 0 - i
 
-count-requires : tie.Need-count-requires Inv-loop μ-loop
-count-requires c κs = search needs
-
-loop-holds : tie.Need-loop-holds Inv-loop μ-loop
-loop-holds c = searching-start _ _ _ _
-
 -- the next place is within the members
 more : (c : tie.In-loop Inv-loop μ-loop) → c .before .loop .i < getD (countsOf (c .before .before .before .args .table .now)) (c .before .before .before .args .m) 0
 more c = let same = c .before .before .count .ensures .0 in omega (arith, same, c .loop-test .taken)
-
-member-requires : tie.Need-member-requires Inv-loop μ-loop
-member-requires c κs =
-    let start = c .before .before .before in
-    (start .pre .below, omega (arith, more c, start .pre .bounded .few-members (start .args .m)))
-
-returns : tie.Need-returns Inv-loop μ-loop
-returns c =
-    let turn = c .before .before in
-    searching-found _ _ _ _ _ (members-within _ _ (turn .before .before .before .pre)) (more turn) (turn .before .loop .inv) (c .if1 .taken ∙ c .before .member .ensures .0)
 
 add-i : tie.Need-add-i Inv-loop μ-loop
 add-i c =
@@ -42,18 +26,10 @@ add-i c =
     let start = turn .before .before .before in
     omega (arith, more turn, start .pre .bounded .few-members (start .args .m))
 
-loop-less : tie.Need-loop-less Inv-loop μ-loop
-loop-less c = omega (arith, more (c .before .before))
-
 loop-again : tie.Need-loop-again Inv-loop μ-loop
 loop-again c =
     let turn = c .before .before in
     searching-on _ _ _ _ _ (members-within _ _ (turn .before .before .before .pre)) (more turn) (turn .before .loop .inv) (λ e. c .if1 .left (e ∙ sym (c .before .member .ensures .0)))
-
-returns-2 : tie.Need-returns-2 Inv-loop μ-loop
-returns-2 c =
-    let same = c .before .before .count .ensures .0 in
-    searching-end _ _ _ _ _ (omega (arith, same, c .loop-test .left)) (c .before .loop .inv)
 
 pub member-of-spec : {M : Type 1} → statement M
 member-of-spec =
@@ -61,11 +37,11 @@ member-of-spec =
     (tie.spec
     Inv-loop
     μ-loop
-    count-requires
-    loop-holds
-    member-requires
-    returns
+    (λ c κs. search needs)
+    (λ c. searching-start _ _ _ _)
+    (λ c κs. let start = c .before .before .before in (start .pre .below, omega (arith, more c, start .pre .bounded .few-members (start .args .m))))
+    (λ c. let turn = c .before .before in searching-found _ _ _ _ _ (members-within _ _ (turn .before .before .before .pre)) (more turn) (turn .before .loop .inv) (c .if1 .taken ∙ c .before .member .ensures .0))
     add-i
-    loop-less
+    (λ c. omega (arith, more (c .before .before)))
     loop-again
-    returns-2)
+    (λ c. let same = c .before .before .count .ensures .0 in searching-end _ _ _ _ _ (omega (arith, same, c .loop-test .left)) (c .before .loop .inv)))

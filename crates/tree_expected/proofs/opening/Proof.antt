@@ -6,26 +6,11 @@ use Rattle.tree_expected.proofs.Rests.{opening-text, opening-empty, ope
 use Rattle.tree_expected.proofs.opening.Statement.{statement}
 use Rattle.tree_expected.proofs.opening.Tie as tie
 
-kind-requires : tie.Need-kind-requires
-kind-requires c κs = search needs
-
-count-requires : tie.Need-count-requires
-count-requires c κs = search needs
-
 member-requires : tie.Need-member-requires
 member-requires c κs =
     let start = c .before .before .before .before in
     let many = c .before .count .ensures .0 in
     (start .pre .below, omega (arith, many, c .if1 .left, start .pre .bounded .few-members (start .args .m)))
-
-add-result : tie.Need-add-result
-add-result c = search needs
-
-member-of-requires : tie.Need-member-of-requires
-member-of-requires c κs = search needs
-
-member-requires-2 : tie.Need-member-requires-2
-member-requires-2 c κs = search needs
 
 -- a sequence
 returns : tie.Need-returns
@@ -52,11 +37,6 @@ returns-6 c =
     opening-other _ _ _ _ (start .pre) sequence (omega (arith, many, c .before .before .if1 .left)) (λ e. c .if2 .left (e ∙ sym (c .before .member .ensures .0)))
 
 -- a choice
-returns-2 : tie.Need-returns-2
-returns-2 c =
-    let a = c .before .before .before .args in
-    opening-second (a .table .now) (a .m) (a .h) (a .x) (sym (c .before .before .kind .ensures .0) ∙ c .before .match .keys4) (c .if3 .taken)
-
 returns-7 : tie.Need-returns-7
 returns-7 c =
     let matched = c .before .before .before in
@@ -68,17 +48,6 @@ returns-8 c =
     let matched = c .before .before .before in
     let a = matched .before .before .args in
     opening-no-member (a .table .now) (a .m) (a .h) (a .x) (sym (matched .before .kind .ensures .0) ∙ matched .match .keys4) (c .before .before .if3 .left) (c .before .member-of .ensures) (c .if4 .left)
-
--- text, and an empty type
-returns-3 : tie.Need-returns-3
-returns-3 c =
-    let a = c .before .before .args in
-    opening-text (a .table .now) (a .m) (a .h) (a .x) (sym (c .before .kind .ensures .0) ∙ c .match .keys1)
-
-returns-4 : tie.Need-returns-4
-returns-4 c =
-    let a = c .before .before .args in
-    opening-empty (a .table .now) (a .m) (a .h) (a .x) (sym (c .before .kind .ensures .0) ∙ c .match .keys2)
 
 -- a list
 returns-9 : tie.Need-returns-9
@@ -100,16 +69,16 @@ pub opening-spec : {M : Type 1} → statement M
 opening-spec =
     tie.close
     (tie.spec
-    kind-requires
-    count-requires
+    (λ c κs. search needs)
+    (λ c κs. search needs)
     returns
     member-requires
-    add-result
-    returns-2
-    member-of-requires
-    member-requires-2
-    returns-3
-    returns-4
+    (λ c. search needs)
+    (λ c. let a = c .before .before .before .args in opening-second (a .table .now) (a .m) (a .h) (a .x) (sym (c .before .before .kind .ensures .0) ∙ c .before .match .keys4) (c .if3 .taken))
+    (λ c κs. search needs)
+    (λ c κs. search needs)
+    (λ c. let a = c .before .before .args in opening-text (a .table .now) (a .m) (a .h) (a .x) (sym (c .before .kind .ensures .0) ∙ c .match .keys1))
+    (λ c. let a = c .before .before .args in opening-empty (a .table .now) (a .m) (a .h) (a .x) (sym (c .before .kind .ensures .0) ∙ c .match .keys2))
     returns-5
     returns-6
     returns-7

@@ -7,33 +7,6 @@ use Rattle.tree_pass.proofs.Turns.{stands}
 use Rattle.tree_pass.proofs.checked_at.Statement.{statement}
 use Rattle.tree_pass.proofs.checked_at.Tie as tie
 
-shared-slice-read-b : tie.Need-shared-slice-read-b
-shared-slice-read-b c = search needs
-
-add-x : tie.Need-add-x
-add-x c = search needs
-
-shared-slice-read-x : tie.Need-shared-slice-read-x
-shared-slice-read-x c = search needs
-
-entering-requires : tie.Need-entering-requires
-entering-requires c κs = search needs
-
-add-c : tie.Need-add-c
-add-c c = search needs
-
-shared-slice-read-c : tie.Need-shared-slice-read-c
-shared-slice-read-c c = search needs
-
-holds-requires : tie.Need-holds-requires
-holds-requires c κs = search needs
-
-complete-requires : tie.Need-complete-requires
-complete-requires c κs = search needs
-
-returns : tie.Need-returns
-returns c = search needs
-
 returns-2 : tie.Need-returns-2
 returns-2 c =
     let matched = c .before .before .before in
@@ -62,9 +35,6 @@ returns-3 c =
       character .fine,
     )
 
-returns-4 : tie.Need-returns-4
-returns-4 c = search needs
-
 returns-5 : tie.Need-returns-5
 returns-5 c =
     let matched = c .before .before in
@@ -74,28 +44,22 @@ returns-5 c =
       ready = sym (c .before .complete .ensures) ∙ c .if3 .taken;
     }
 
-returns-6 : tie.Need-returns-6
-returns-6 c = search needs
-
-returns-7 : tie.Need-returns-7
-returns-7 c = search needs
-
 pub checked-at-spec : {M : Type 1} → statement M
 checked-at-spec =
     tie.close
     (tie.spec
-    shared-slice-read-b
-    add-x
-    shared-slice-read-x
-    entering-requires
-    add-c
-    shared-slice-read-c
-    holds-requires
-    complete-requires
-    returns
+    (λ c. search needs)
+    (λ c. search needs)
+    (λ c. search needs)
+    (λ c κs. search needs)
+    (λ c. search needs)
+    (λ c. search needs)
+    (λ c κs. search needs)
+    (λ c κs. search needs)
+    (λ c. search needs)
     returns-2
     returns-3
-    returns-4
+    (λ c. search needs)
     returns-5
-    returns-6
-    returns-7)
+    (λ c. search needs)
+    (λ c. search needs))

@@ -23,10 +23,6 @@ Inv-loop t at₀ s₀ at s = (at ≤ length t) × (rest form-machine t (state s)
 abbrev μ-loop : tie.MeasureT-loop
 μ-loop t at₀ s₀ at s = length t - at
 
-loop-holds : tie.Need-loop-holds Inv-loop μ-loop
-unfolding tableForm
-loop-holds c = (search needs, refl)
-
 -- what a turn comes to, by what `step` answered
 turned : (d : tie.After-step Inv-loop μ-loop) {n : Next} → d .step .result ≡ n
     → let at-loop = d .before .before .before in
@@ -57,13 +53,13 @@ at-end d answered =
     (at-loop .loop .inv .1)
 
 pub form-spec : {M : Type 1} → statement M
-unfolding pick
+unfolding pick tableForm
 form-spec =
     tie.close
     (tie.spec
     Inv-loop
     μ-loop
-    loop-holds
+    (λ c. (search needs, refl))
     (λ c κs. search needs)
     (λ c κs. search needs)
     (λ c. c .match .keys1)

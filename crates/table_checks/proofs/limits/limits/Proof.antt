@@ -21,10 +21,6 @@ Inv-loop t at₀ n₀ at n = (at ≤ length t) × (rest limit-machine t (counts 
 abbrev μ-loop : tie.MeasureT-loop
 μ-loop t at₀ n₀ at n = length t - at
 
-loop-holds : tie.Need-loop-holds Inv-loop μ-loop
-unfolding tableLimits
-loop-holds c = (search needs, refl)
-
 -- what a turn comes to, by what `step` answered
 turned : (d : tie.After-step Inv-loop μ-loop) {n : Next} → d .step .result ≡ n
     → let at-loop = d .before .before .before in
@@ -45,12 +41,13 @@ went : (c : tie.After-width Inv-loop μ-loop)
 went c = turned (c .before .before .before .before) (c .before .before .later .given .1) (c .width .result) (c .width .ensures)
 
 pub limits-spec : {M : Type 1} → statement M
+unfolding tableLimits
 limits-spec =
     tie.close
     (tie.spec
     Inv-loop
     μ-loop
-    loop-holds
+    (λ c. (search needs, refl))
     (λ c κs. search needs)
     (λ c κs. search needs)
     (λ c. c .match .keys1)

@@ -21,10 +21,6 @@ Inv-loop t types at₀ at = (at ≤ length t) × (rest (names-machine types) t t
 abbrev μ-loop : tie.MeasureT-loop
 μ-loop t types at₀ at = length t - at
 
-loop-holds : tie.Need-loop-holds Inv-loop μ-loop
-unfolding tableOperands
-loop-holds c = (search needs, refl)
-
 -- what a turn comes to, by what `named` answered
 turned : (d : tie.After-named Inv-loop μ-loop) {b : Bool} → d .named .result ≡ b
     → let at-loop = d .before .before .before in
@@ -47,13 +43,13 @@ unfolding goesIf
 went c = turned (c .before .before) (c .before .if1 .taken) (c .width .result) (c .width .ensures)
 
 pub operands-spec : {M : Type 1} → statement M
-unfolding goesIf
+unfolding goesIf tableOperands
 operands-spec =
     tie.close
     (tie.spec
     Inv-loop
     μ-loop
-    loop-holds
+    (λ c. (search needs, refl))
     (λ c κs. search needs)
     (λ c κs. search needs)
     (λ c κs. search needs)

@@ -25,10 +25,6 @@ Inv-loop t at₀ inside₀ seen₀ at inside seen = (at ≤ length t) × Kept t 
 abbrev μ-loop : tie.MeasureT-loop
 μ-loop t at₀ inside₀ seen₀ at inside seen = length t - at
 
-loop-holds : tie.Need-loop-holds Inv-loop μ-loop
-unfolding tableRepeats
-loop-holds c = (search needs, record { state = elsewhere; stands = outside; same = refl })
-
 -- the model's state where a turn begins
 abbrev state-at : tie.After-role-of Inv-loop μ-loop → Chosen
 state-at d = d .before .before .before .before .loop .inv .1 .state
@@ -68,12 +64,13 @@ came c =
     (c .match .came)
 
 pub repeats-spec : {M : Type 1} → statement M
+unfolding tableRepeats
 repeats-spec =
     tie.close
     (tie.spec
     Inv-loop
     μ-loop
-    loop-holds
+    (λ c. (search needs, record { state = elsewhere; stands = outside; same = refl }))
     (λ c κs. search needs)
     (λ c κs. search needs)
     (λ c κs. search needs)

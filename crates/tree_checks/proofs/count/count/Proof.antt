@@ -43,87 +43,31 @@ loop-again-4 c =
     let read = c .before .before in
     counting-treeEnd _ _ (read .before .before .loop .inv) (here read (c .enum-told4 .given .1))
 
-loop-holds : tie.Need-loop-holds Inv-loop μ-loop
-loop-holds c = counting-start _
-
-command-at-requires : tie.Need-command-at-requires Inv-loop μ-loop
-command-at-requires c κs = search needs
-
-enum-told : tie.Need-enum-told Inv-loop μ-loop
-enum-told c = search needs
-
-add-n : tie.Need-add-n Inv-loop μ-loop
-add-n c = omega (arith, loop-again c .within, loop-again c .few)
-
-add-at : tie.Need-add-at Inv-loop μ-loop
-add-at c = omega (arith, loop-again c .within)
-
-loop-less : tie.Need-loop-less Inv-loop μ-loop
-loop-less c = omega (arith, loop-again c .within)
-
-enum-told-2 : tie.Need-enum-told-2 Inv-loop μ-loop
-enum-told-2 c = search needs
-
-add-at-2 : tie.Need-add-at-2 Inv-loop μ-loop
-add-at-2 c = omega (arith, loop-again-2 c .within)
-
-loop-less-2 : tie.Need-loop-less-2 Inv-loop μ-loop
-loop-less-2 c = omega (arith, loop-again-2 c .within)
-
-enum-told-3 : tie.Need-enum-told-3 Inv-loop μ-loop
-enum-told-3 c = search needs
-
-add-at-3 : tie.Need-add-at-3 Inv-loop μ-loop
-add-at-3 c = omega (arith, loop-again-3 c .within)
-
-loop-less-3 : tie.Need-loop-less-3 Inv-loop μ-loop
-loop-less-3 c = omega (arith, loop-again-3 c .within)
-
-enum-told-4 : tie.Need-enum-told-4 Inv-loop μ-loop
-enum-told-4 c = search needs
-
-add-at-4 : tie.Need-add-at-4 Inv-loop μ-loop
-add-at-4 c = omega (arith, loop-again-4 c .within)
-
-loop-less-4 : tie.Need-loop-less-4 Inv-loop μ-loop
-loop-less-4 c = omega (arith, loop-again-4 c .within)
-
-enum-told-5 : tie.Need-enum-told-5 Inv-loop μ-loop
-enum-told-5 c = search needs
-
-returns : tie.Need-returns Inv-loop μ-loop
-returns c =
-    let read = c .before .before in
-    counting-alien _ _ (read .before .before .loop .inv) (here read (c .enum-told5 .given .1))
-
-returns-2 : tie.Need-returns-2 Inv-loop μ-loop
-returns-2 c = counting-end _ _ _ (c .loop-test .left) (c .before .loop .inv)
-
 pub count-spec : {M : Type 1} → statement M
 count-spec =
     tie.close
     (tie.spec
     Inv-loop
     μ-loop
-    loop-holds
-    command-at-requires
-    enum-told
-    add-n
-    add-at
-    loop-less
+    (λ c. counting-start _)
+    (λ c κs. search needs)
+    (λ c. search needs)
+    (λ c. omega (arith, loop-again c .within, loop-again c .few))
+    (λ c. omega (arith, loop-again c .within))
+    (λ c. omega (arith, loop-again c .within))
     loop-again
-    enum-told-2
-    add-at-2
-    loop-less-2
+    (λ c. search needs)
+    (λ c. omega (arith, loop-again-2 c .within))
+    (λ c. omega (arith, loop-again-2 c .within))
     loop-again-2
-    enum-told-3
-    add-at-3
-    loop-less-3
+    (λ c. search needs)
+    (λ c. omega (arith, loop-again-3 c .within))
+    (λ c. omega (arith, loop-again-3 c .within))
     loop-again-3
-    enum-told-4
-    add-at-4
-    loop-less-4
+    (λ c. search needs)
+    (λ c. omega (arith, loop-again-4 c .within))
+    (λ c. omega (arith, loop-again-4 c .within))
     loop-again-4
-    enum-told-5
-    returns
-    returns-2)
+    (λ c. search needs)
+    (λ c. let read = c .before .before in counting-alien _ _ (read .before .before .loop .inv) (here read (c .enum-told5 .given .1)))
+    (λ c. counting-end _ _ _ (c .loop-test .left) (c .before .loop .inv)))

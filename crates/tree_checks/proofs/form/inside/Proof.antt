@@ -39,96 +39,32 @@ loop-again-3 c =
     let read = c .before .before in
     form-closes _ _ (read .before .before .loop-test .taken) (read .before .before .before .loop .inv) (here read (c .enum-told3 .given .1))
 
-loop-holds : tie.Need-loop-holds Inv-loop μ-loop
-loop-holds c = c .before .pre
-
-returns : tie.Need-returns Inv-loop μ-loop
-returns c = form-short _ _ _ (c .if1 .taken) (c .before .before .loop .inv)
-
-command-at-requires : tie.Need-command-at-requires Inv-loop μ-loop
-command-at-requires c κs = search needs
-
-enum-told : tie.Need-enum-told Inv-loop μ-loop
-enum-told c = search needs
-
-add-depth : tie.Need-add-depth Inv-loop μ-loop
-add-depth c = omega (arith, loop-again c .within, loop-again c .deep)
-
-add-at : tie.Need-add-at Inv-loop μ-loop
-add-at c = omega (arith, loop-again c .within)
-
-loop-less : tie.Need-loop-less Inv-loop μ-loop
-loop-less c = omega (arith, loop-again c .within)
-
-enum-told-2 : tie.Need-enum-told-2 Inv-loop μ-loop
-enum-told-2 c = search needs
-
-add-at-2 : tie.Need-add-at-2 Inv-loop μ-loop
-add-at-2 c = omega (arith, loop-again-2 c .within)
-
-loop-less-2 : tie.Need-loop-less-2 Inv-loop μ-loop
-loop-less-2 c = omega (arith, loop-again-2 c .within)
-
-enum-told-3 : tie.Need-enum-told-3 Inv-loop μ-loop
-enum-told-3 c = search needs
-
-sub-depth : tie.Need-sub-depth Inv-loop μ-loop
-sub-depth c = search needs
-
-add-at-3 : tie.Need-add-at-3 Inv-loop μ-loop
-add-at-3 c = omega (arith, loop-again-3 c .within)
-
-loop-less-3 : tie.Need-loop-less-3 Inv-loop μ-loop
-loop-less-3 c = omega (arith, loop-again-3 c .within)
-
-enum-told-4 : tie.Need-enum-told-4 Inv-loop μ-loop
-enum-told-4 c = search needs
-
-returns-2 : tie.Need-returns-2 Inv-loop μ-loop
-returns-2 c =
-    let read = c .before .before in
-    form-end-inside _ _ (read .before .before .loop-test .taken) (read .before .before .before .loop .inv) (here read (c .enum-told4 .given .1))
-
-enum-told-5 : tie.Need-enum-told-5 Inv-loop μ-loop
-enum-told-5 c = search needs
-
-returns-3 : tie.Need-returns-3 Inv-loop μ-loop
-returns-3 c =
-    let read = c .before .before in
-    form-alien-inside _ _ (read .before .before .before .loop .inv) (here read (c .enum-told5 .given .1))
-
-after-root-requires : tie.Need-after-root-requires Inv-loop μ-loop
-after-root-requires c κs = form-root-closed _ _ (c .loop-test .left) (c .before .loop .inv)
-
-returns-4 : tie.Need-returns-4 Inv-loop μ-loop
-returns-4 c = search needs
-
 pub inside-spec : {M : Type 1} → statement M
 inside-spec =
     tie.close
     (tie.spec
     Inv-loop
     μ-loop
-    loop-holds
-    returns
-    command-at-requires
-    enum-told
-    add-depth
-    add-at
-    loop-less
+    (λ c. c .before .pre)
+    (λ c. form-short _ _ _ (c .if1 .taken) (c .before .before .loop .inv))
+    (λ c κs. search needs)
+    (λ c. search needs)
+    (λ c. omega (arith, loop-again c .within, loop-again c .deep))
+    (λ c. omega (arith, loop-again c .within))
+    (λ c. omega (arith, loop-again c .within))
     loop-again
-    enum-told-2
-    add-at-2
-    loop-less-2
+    (λ c. search needs)
+    (λ c. omega (arith, loop-again-2 c .within))
+    (λ c. omega (arith, loop-again-2 c .within))
     loop-again-2
-    enum-told-3
-    sub-depth
-    add-at-3
-    loop-less-3
+    (λ c. search needs)
+    (λ c. search needs)
+    (λ c. omega (arith, loop-again-3 c .within))
+    (λ c. omega (arith, loop-again-3 c .within))
     loop-again-3
-    enum-told-4
-    returns-2
-    enum-told-5
-    returns-3
-    after-root-requires
-    returns-4)
+    (λ c. search needs)
+    (λ c. let read = c .before .before in form-end-inside _ _ (read .before .before .loop-test .taken) (read .before .before .before .loop .inv) (here read (c .enum-told4 .given .1)))
+    (λ c. search needs)
+    (λ c. let read = c .before .before in form-alien-inside _ _ (read .before .before .before .loop .inv) (here read (c .enum-told5 .given .1)))
+    (λ c κs. form-root-closed _ _ (c .loop-test .left) (c .before .loop .inv))
+    (λ c. search needs))

@@ -15,37 +15,6 @@ use Rattle.tree_judge.proofs.judge.by_checks.Tie as tie
 checked : (c : tie.After-checks) {j : Judged} → c .checks .result ≡ j → judged j ≡ judgedBefore (length (tableBy (c .before .before .before .args .table .now))) (c .before .before .before .args .t .now)
 checked c q = by-types (c .before .before .before .args .table .now) _ (c .before .types .ensures .0) (told-judged q (c .checks .ensures))
 
-types-requires : tie.Need-types-requires
-types-requires c κs = search needs
-
-checks-requires : tie.Need-checks-requires
-checks-requires c κs = search needs
-
-enum-known-before : tie.Need-enum-known-before
-enum-known-before c = search needs
-
-enum-told : tie.Need-enum-told
-enum-told c = search needs
-
-expected-requires : tie.Need-expected-requires
-expected-requires c κs =
-    let before = c .before .before in
-    passed-before _ _ (before .before .before .before .pre) (checked before (c .enum-told .given .1))
-
-enum-known-e : tie.Need-enum-known-e
-enum-known-e c = search needs
-
-enum-told-2 : tie.Need-enum-told-2
-enum-told-2 c = search needs
-
-count-requires : tie.Need-count-requires
-count-requires c κs = search needs
-
-returns : tie.Need-returns
-returns c =
-    let f = fault-before _ _ (checked (c .before .before .before) (c .before .before2 .given .1)) in
-    record { same-judgement = f; counted = λ s. fault-not-sound f s }
-
 returns-2 : tie.Need-returns-2
 returns-2 c =
     let told = c .before .before .before .before in
@@ -66,14 +35,14 @@ pub by-checks-spec : {M : Type 1} → statement M
 by-checks-spec =
     tie.close
     (tie.spec
-    types-requires
-    checks-requires
-    enum-known-before
-    enum-told
-    expected-requires
-    enum-known-e
-    enum-told-2
-    count-requires
-    returns
+    (λ c κs. search needs)
+    (λ c κs. search needs)
+    (λ c. search needs)
+    (λ c. search needs)
+    (λ c κs. let before = c .before .before in passed-before _ _ (before .before .before .before .pre) (checked before (c .enum-told .given .1)))
+    (λ c. search needs)
+    (λ c. search needs)
+    (λ c κs. search needs)
+    (λ c. let f = fault-before _ _ (checked (c .before .before .before) (c .before .before2 .given .1)) in record { same-judgement = f; counted = λ s. fault-not-sound f s })
     returns-2
     returns-3)

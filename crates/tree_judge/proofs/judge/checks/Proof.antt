@@ -14,42 +14,6 @@ formed c = told-verdict (c .enum-told .given .1) (c .before .before .form .ensur
 leveled : (c : tie.After-enum-told2) → passes ≡ treeLevels (c .before .before .before .before .before .before .before .before .args .t .now)
 leveled c = told-verdict (c .enum-told2 .given .1) (c .before .before .levels .ensures)
 
-returns : tie.Need-returns
-returns c = judged-long _ _ (c .if1 .taken)
-
-form-requires : tie.Need-form-requires
-form-requires c κs = search needs
-
-enum-known-f : tie.Need-enum-known-f
-enum-known-f c = search needs
-
-returns-2 : tie.Need-returns-2
-returns-2 c = judged-form _ _ (c .before .before .before .before .if1 .left) (told-verdict (c .before .f .given .1) (c .before .before .before .form .ensures))
-
-enum-told : tie.Need-enum-told
-enum-told c = search needs
-
-levels-requires : tie.Need-levels-requires
-levels-requires c κs = search needs
-
-enum-known-l : tie.Need-enum-known-l
-enum-known-l c = search needs
-
-returns-3 : tie.Need-returns-3
-returns-3 c = judged-levels _ _ (c .before .before .before .before .before .before .before .if1 .left) (formed (c .before .before .before .before)) (told-verdict (c .before .l .given .1) (c .before .before .before .levels .ensures))
-
-enum-told-2 : tie.Need-enum-told-2
-enum-told-2 c = search needs
-
-operands-requires : tie.Need-operands-requires
-operands-requires c κs = search needs
-
-enum-known-o : tie.Need-enum-known-o
-enum-known-o c = search needs
-
-enum-told-3 : tie.Need-enum-told-3
-enum-told-3 c = search needs
-
 returns-4 : tie.Need-returns-4
 returns-4 c =
     let levels-passed = c .before .before .before .before in
@@ -64,17 +28,17 @@ pub checks-spec : {M : Type 1} → statement M
 checks-spec =
     tie.close
     (tie.spec
-    returns
-    form-requires
-    enum-known-f
-    returns-2
-    enum-told
-    levels-requires
-    enum-known-l
-    returns-3
-    enum-told-2
-    operands-requires
-    enum-known-o
-    enum-told-3
+    (λ c. judged-long _ _ (c .if1 .taken))
+    (λ c κs. search needs)
+    (λ c. search needs)
+    (λ c. judged-form _ _ (c .before .before .before .before .if1 .left) (told-verdict (c .before .f .given .1) (c .before .before .before .form .ensures)))
+    (λ c. search needs)
+    (λ c κs. search needs)
+    (λ c. search needs)
+    (λ c. judged-levels _ _ (c .before .before .before .before .before .before .before .if1 .left) (formed (c .before .before .before .before)) (told-verdict (c .before .l .given .1) (c .before .before .before .levels .ensures)))
+    (λ c. search needs)
+    (λ c κs. search needs)
+    (λ c. search needs)
+    (λ c. search needs)
     returns-4
     returns-5)
