@@ -6,17 +6,11 @@ use Rattle.table_fill.proofs.Arrays.{getD-any}
 use Rattle.table_fill.proofs.fill_at.Statement.{statement}
 use Rattle.table_fill.proofs.fill_at.Tie as tie
 
-mul-result : tie.Need-mul-result
-mul-result c = search needs
-
-shared-slice-read-result : tie.Need-shared-slice-read-result
-shared-slice-read-result c = search needs
-
-returns : tie.Need-returns
-returns c = getD-any (c .before .before .args .fill .now) (c .before .before .args .t) 0 3 (c .before .if1 .taken)
-
-returns-2 : tie.Need-returns-2
-returns-2 c = sym (List·getD-eq-default (c .before .args .fill .now) 3 (c .if1 .left))
-
 pub fill-at-spec : {M : Type 1} → statement M
-fill-at-spec = tie.close (tie.spec mul-result shared-slice-read-result returns returns-2)
+fill-at-spec =
+    tie.close
+    (tie.spec
+    (λ c. search needs)
+    (λ c. search needs)
+    (λ c. getD-any (c .before .before .args .fill .now) (c .before .before .args .t) 0 3 (c .before .if1 .taken))
+    (λ c. sym (List·getD-eq-default (c .before .args .fill .now) 3 (c .if1 .left))))

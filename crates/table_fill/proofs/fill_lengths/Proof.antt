@@ -13,21 +13,6 @@ Inv-loop table all found₀ n₀ found n = (n ≤ all) × HoldsFillTo (tableBy t
 abbrev μ-loop : tie.MeasureT-loop
 μ-loop table all found₀ n₀ found n = all - n
 
-types-requires : tie.Need-types-requires Inv-loop μ-loop
-types-requires c κs = tt
-
-loop-holds : tie.Need-loop-holds Inv-loop μ-loop
-loop-holds c = (omega arith, fill-to-none (tableBy (c .before .args .table .now)))
-
-fill-round-requires : tie.Need-fill-round-requires Inv-loop μ-loop
-fill-round-requires c κs = c .before .before .before .before .pre .0
-
-same-lengths-requires : tie.Need-same-lengths-requires Inv-loop μ-loop
-same-lengths-requires c κs = tt
-
-loop-less : tie.Need-loop-less Inv-loop μ-loop
-loop-less c = omega (arith, c .before .before .before .before .before .before .loop-test .taken)
-
 loop-again : tie.Need-loop-again Inv-loop μ-loop
 loop-again c =
     let l = c .before .before .before .before .before .before .before in
@@ -35,12 +20,6 @@ loop-again c =
     let rows = s .args .table .now in
     let r = c .before .before .before .before .fill-round in
     (omega arith, fill-to-last (tableBy rows) (l .loop .n) (l .before .types .result) (heightsOf rows) (l .loop .found) (r .result) (s .pre .1) (l .loop .inv .0) (l .loop .inv .1) (r .ensures) (c .before .same-lengths .ensures (c .if1 .taken)))
-
-add-n : tie.Need-add-n Inv-loop μ-loop
-add-n c = omega (arith, c .before .before .before .before .before .before .before .before .types .ensures .1)
-
-loop-less-2 : tie.Need-loop-less-2 Inv-loop μ-loop
-loop-less-2 c = omega (arith, c .before .before .before .before .before .before .loop-test .taken)
 
 loop-again-2 : tie.Need-loop-again-2 Inv-loop μ-loop
 loop-again-2 c =
@@ -64,13 +43,13 @@ fill-lengths-spec =
     (tie.spec
     Inv-loop
     μ-loop
-    types-requires
-    loop-holds
-    fill-round-requires
-    same-lengths-requires
-    loop-less
+    (λ c κs. tt)
+    (λ c. (omega arith, fill-to-none (tableBy (c .before .args .table .now))))
+    (λ c κs. c .before .before .before .before .pre .0)
+    (λ c κs. tt)
+    (λ c. omega (arith, c .before .before .before .before .before .before .loop-test .taken))
     loop-again
-    add-n
-    loop-less-2
+    (λ c. omega (arith, c .before .before .before .before .before .before .before .before .types .ensures .1))
+    (λ c. omega (arith, c .before .before .before .before .before .before .loop-test .taken))
     loop-again-2
     returns)

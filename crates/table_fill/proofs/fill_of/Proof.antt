@@ -8,21 +8,6 @@ use Rattle.table_fill.specs.Fill.{fillIn, fillOfKind}
 use Rattle.table_fill.proofs.fill_of.Statement.{statement}
 use Rattle.table_fill.proofs.fill_of.Tie as tie
 
-kind-requires : tie.Need-kind-requires
-kind-requires c κs = omega (arith, c .before .pre .1, c .before .pre .0 .few-types)
-
-fill-sum-requires : tie.Need-fill-sum-requires
-fill-sum-requires c κs = c .before .before .before .pre
-
-least-member-requires : tie.Need-least-member-requires
-least-member-requires c κs = c .before .before .before .pre
-
-fill-at-requires : tie.Need-fill-at-requires
-fill-at-requires c κs = tt
-
-held-sum-requires : tie.Need-held-sum-requires
-held-sum-requires c κs = tt
-
 returns : tie.Need-returns
 unfolding fillOfKind
 returns c =
@@ -51,11 +36,11 @@ pub fill-of-spec : {M : Type 1} → statement M
 fill-of-spec =
     tie.close
     (tie.spec
-    kind-requires
-    fill-sum-requires
-    least-member-requires
-    fill-at-requires
-    held-sum-requires
+    (λ c κs. omega (arith, c .before .pre .1, c .before .pre .0 .few-types))
+    (λ c κs. c .before .before .before .pre)
+    (λ c κs. c .before .before .before .pre)
+    (λ c κs. tt)
+    (λ c κs. tt)
     returns
     returns-2
     returns-3)

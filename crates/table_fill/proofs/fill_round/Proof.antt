@@ -19,29 +19,6 @@ abbrev μ-loop : tie.MeasureT-loop
 few : (c : tie.After-types Inv-loop μ-loop) → c .types .result ≤ 64
 few c = omega (arith, c .types .ensures .0, c .before .pre .few-types)
 
-types-requires : tie.Need-types-requires Inv-loop μ-loop
-types-requires c κs = tt
-
-loop-holds : tie.Need-loop-holds Inv-loop μ-loop
-loop-holds c = (omega arith, filled-none (nextFill (tableBy (c .before .args .table .now)) (heightsOf (c .before .args .table .now)) (c .before .args .fill .now)) 3)
-
-fill-of-requires : tie.Need-fill-of-requires Inv-loop μ-loop
-fill-of-requires c κs =
-    let n = c .before .before .before in
-    (n .before .pre, omega (arith, c .before .loop-test .taken, n .types .ensures .0))
-
-mul-next : tie.Need-mul-next Inv-loop μ-loop
-mul-next c = omega (arith, c .before .before .loop-test .taken, few (c .before .before .before .before))
-
-array-write-next : tie.Need-array-write-next Inv-loop μ-loop
-array-write-next c = omega (arith, c .before .before .loop-test .taken, few (c .before .before .before .before))
-
-add-t : tie.Need-add-t Inv-loop μ-loop
-add-t c = omega (arith, c .before .before .loop-test .taken, few (c .before .before .before .before))
-
-loop-less : tie.Need-loop-less Inv-loop μ-loop
-loop-less c = omega arith
-
 loop-again : tie.Need-loop-again Inv-loop μ-loop
 loop-again c =
     let l = c .before .before .before in
@@ -63,12 +40,12 @@ fill-round-spec =
     (tie.spec
     Inv-loop
     μ-loop
-    types-requires
-    loop-holds
-    fill-of-requires
-    mul-next
-    array-write-next
-    add-t
-    loop-less
+    (λ c κs. tt)
+    (λ c. (omega arith, filled-none (nextFill (tableBy (c .before .args .table .now)) (heightsOf (c .before .args .table .now)) (c .before .args .fill .now)) 3))
+    (λ c κs. let n = c .before .before .before in (n .before .pre, omega (arith, c .before .loop-test .taken, n .types .ensures .0)))
+    (λ c. omega (arith, c .before .before .loop-test .taken, few (c .before .before .before .before)))
+    (λ c. omega (arith, c .before .before .loop-test .taken, few (c .before .before .before .before)))
+    (λ c. omega (arith, c .before .before .loop-test .taken, few (c .before .before .before .before)))
+    (λ c. omega arith)
     loop-again
     returns)

@@ -15,29 +15,11 @@ Inv-loop table t fill many total₀ i₀ total i = (i ≤ many) × (total ≤ 60
 abbrev μ-loop : tie.MeasureT-loop
 μ-loop table t fill many total₀ i₀ total i = many - i
 
-count-requires : tie.Need-count-requires Inv-loop μ-loop
-count-requires c κs = omega (arith, c .before .pre .1, c .before .pre .0 .few-types)
-
-loop-holds : tie.Need-loop-holds Inv-loop μ-loop
-loop-holds c = (omega arith, omega arith, refl)
-
 member-requires : tie.Need-member-requires Inv-loop μ-loop
 member-requires c κs =
     let n = c .before .before in
     let s = n .before .before in
     (omega (arith, s .pre .1, s .pre .0 .few-types), omega (arith, c .loop-test .taken, n .count .ensures .0, s .pre .0 .few-members (s .args .t)))
-
-fill-at-requires : tie.Need-fill-at-requires Inv-loop μ-loop
-fill-at-requires c κs = tt
-
-held-sum-requires : tie.Need-held-sum-requires Inv-loop μ-loop
-held-sum-requires c κs = tt
-
-add-i : tie.Need-add-i Inv-loop μ-loop
-add-i c = omega arith
-
-loop-less : tie.Need-loop-less Inv-loop μ-loop
-loop-less c = omega arith
 
 loop-again : tie.Need-loop-again Inv-loop μ-loop
 loop-again c =
@@ -65,12 +47,12 @@ fill-sum-spec =
     (tie.spec
     Inv-loop
     μ-loop
-    count-requires
-    loop-holds
+    (λ c κs. omega (arith, c .before .pre .1, c .before .pre .0 .few-types))
+    (λ c. (omega arith, omega arith, refl))
     member-requires
-    fill-at-requires
-    held-sum-requires
-    add-i
-    loop-less
+    (λ c κs. tt)
+    (λ c κs. tt)
+    (λ c. omega arith)
+    (λ c. omega arith)
     loop-again
     returns)

@@ -5,12 +5,6 @@ use Rattle.loaded_table.specs.Loaded.{length-of}
 use Rattle.table_fill.proofs.find_fill.Statement.{statement}
 use Rattle.table_fill.proofs.find_fill.Tie as tie
 
-fill-lengths-requires : tie.Need-fill-lengths-requires
-fill-lengths-requires c κs = c .before .pre
-
-store-fill-requires : tie.Need-store-fill-requires
-store-fill-requires c κs = c .before .before .before .before .pre .0
-
 returns : tie.Need-returns
 returns c =
     let s = c .before .before .before .before .before in
@@ -22,6 +16,6 @@ pub find-fill-spec : {M : Type 1} → statement M
 find-fill-spec =
     tie.close
     (tie.spec
-    fill-lengths-requires
-    store-fill-requires
+    (λ c κs. c .before .pre)
+    (λ c κs. c .before .before .before .before .pre .0)
     returns)

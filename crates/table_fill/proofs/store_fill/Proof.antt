@@ -14,24 +14,6 @@ Inv-loop table₀ fill t₀ table t = (t ≤ 64) × Elsewhere 192 64 table₀ ta
 abbrev μ-loop : tie.MeasureT-loop
 μ-loop table₀ fill t₀ table t = 64 - t
 
-loop-holds : tie.Need-loop-holds Inv-loop μ-loop
-loop-holds c = (omega arith, elsewhere-same 192 64 _, λ k low. absurd (omega arith))
-
-mul-set-fill : tie.Need-mul-set-fill Inv-loop μ-loop
-mul-set-fill c = omega arith
-
-element-copy-out-set-fill : tie.Need-element-copy-out-set-fill Inv-loop μ-loop
-element-copy-out-set-fill c = omega arith
-
-set-fill-requires : tie.Need-set-fill-requires Inv-loop μ-loop
-set-fill-requires c κs = omega arith
-
-add-t : tie.Need-add-t Inv-loop μ-loop
-add-t c = omega arith
-
-loop-less : tie.Need-loop-less Inv-loop μ-loop
-loop-less c = omega arith
-
 loop-again : tie.Need-loop-again Inv-loop μ-loop
 loop-again c =
     let l = c .before .before .before .before in
@@ -43,20 +25,17 @@ loop-again c =
       section-more (λ k. getD fill k 0) 192 64 (l .loop .table) (l .loop .t) (getD fill (l .loop .t) 0) (omega (arith, size, l .before .pre .size)) (omega arith) refl (c .set-fill .ensures) (l .loop .inv .2),
     )
 
-returns : tie.Need-returns Inv-loop μ-loop
-returns c = (c .before .loop .inv .1, λ t low. c .before .loop .inv .2 t (omega (arith, c .before .loop .inv .0)))
-
 pub store-fill-spec : {M : Type 1} → statement M
 store-fill-spec =
     tie.close
     (tie.spec
     Inv-loop
     μ-loop
-    loop-holds
-    mul-set-fill
-    element-copy-out-set-fill
-    set-fill-requires
-    add-t
-    loop-less
+    (λ c. (omega arith, elsewhere-same 192 64 _, λ k low. absurd (omega arith)))
+    (λ c. omega arith)
+    (λ c. omega arith)
+    (λ c κs. omega arith)
+    (λ c. omega arith)
+    (λ c. omega arith)
     loop-again
-    returns)
+    (λ c. (c .before .loop .inv .1, λ t low. c .before .loop .inv .2 t (omega (arith, c .before .loop .inv .0)))))
