@@ -10,7 +10,7 @@ use borrow.Author.Tests.{eqb-true, eqb-false}
 use Rattle.model.specs.Definitions.Basics.{goes, stops, goesIf, memberOf}
 use Rattle.model.specs.Definitions.TableChecks.{Chosen, elsewhere, among, chooses, tableRepeats}
 use Rattle.model.specs.Theorems.Tools.{true-false}
-use Rattle.table_checks.proofs.Loop.{rest, Turned}
+use Rattle.table_checks.proofs.Loop.{At}
 use Rattle.table_checks.proofs.Machines.{repeat-machine}
 
 -- The state that the code is in: outside a choice, or in one whose members have their flags set.
@@ -22,7 +22,7 @@ pub data Seen : Bool → List Bool → Chosen → Type 0 where
 pub record Kept (t : List ℕ) (within : Bool) (seen : List Bool) (at : ℕ) : Type 0 where
   pub state : Chosen
   pub stands : Seen within seen state
-  pub same : rest repeat-machine t state at ≡ tableRepeats t
+  pub here : At repeat-machine t state at (tableRepeats t)
 
 no-flag : (n m : ℕ) → getD (replicate n false) m false ≡ false
 no-flag zero m = refl
@@ -71,12 +71,7 @@ added {seen = seen} m h (inside {ms = ms} l f) e unset = record {
   stands = inside (length-set seen m true ∙ l) (flags-more seen ms m (rw l h) f);
 }
 
--- what holds after a turn over a command of so many bytes
-pub record After (t : List ℕ) (within : Bool) (seen : List Bool) (at w : ℕ) : Type 0 where
-  pub state : Chosen
-  pub stands : Seen within seen state
-  pub turned : Turned repeat-machine t state at w (tableRepeats t)
-
-pub after : {t : List ℕ} {within within′ : Bool} {seen seen′ : List Bool} {at w : ℕ} {s : Chosen}
-    → Turned repeat-machine t s at w (tableRepeats t) → Seen within seen s → within′ ≡ within → seen′ ≡ seen → After t within′ seen′ at w
-after {s = s} turned stands e f = record { state = s; stands = rw (e, f) stands; turned = turned }
+-- what holds behind a command, by the flags that the code then has
+pub after : {t : List ℕ} {within within′ : Bool} {seen seen′ : List Bool} {at : ℕ} {s : Chosen}
+    → At repeat-machine t s at (tableRepeats t) → Seen within seen s → within′ ≡ within → seen′ ≡ seen → Kept t within′ seen′ at
+after {s = s} here stands e f = record { state = s; stands = rw (e, f) stands; here = here }

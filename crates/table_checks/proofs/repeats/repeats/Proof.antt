@@ -3,7 +3,7 @@
 use mathlib.Core.Path.{_≡_, refl, sym, ap, _∙_}
 use mathlib.Core.List.{[]}
 use mathlib.Core.Logic.{⊎-elim}
-use Prim.Native.Nat.{_≤_, _-_}
+use Prim.Native.Nat.{_-_}
 use native.Mathlib.Omega.{arith}
 use borrow.Author.Needs.{needs}
 use lib.ListN.{length}
@@ -13,21 +13,21 @@ use Rattle.model.specs.Definitions.TableChecks.{Chosen, elsewhere, among, table
 use Rattle.table_checks.specs.declared.repeats.Role.{Role}
 use Rattle.table_checks.specs.Read.{command}
 use Rattle.table_checks.specs.Repeats.{does}
-use Rattle.table_checks.proofs.Loop.{Then, turn, passed}
+use Rattle.table_checks.proofs.Loop.{some-width, Then, turn, passed}
 use Rattle.table_checks.proofs.Machines.{repeat-machine}
-use Rattle.table_checks.proofs.Chosen.{outside, Kept, opened, not-inside, again-there, added, After, after}
+use Rattle.table_checks.proofs.Chosen.{outside, Kept, opened, not-inside, again-there, added, after}
 use Rattle.table_checks.proofs.repeats.repeats.Statement.{statement}
 use Rattle.table_checks.proofs.repeats.repeats.Tie as tie
 
 abbrev Inv-loop : tie.InvT-loop
-Inv-loop t at₀ inside₀ seen₀ at inside seen = (at ≤ length t) × Kept t inside seen at
+Inv-loop t at₀ inside₀ seen₀ at inside seen = Kept t inside seen at
 
 abbrev μ-loop : tie.MeasureT-loop
 μ-loop t at₀ inside₀ seen₀ at inside seen = length t - at
 
 -- the model's state where a turn begins
 abbrev state-at : tie.After-role-of Inv-loop μ-loop → Chosen
-state-at d = d .before .before .before .before .loop .inv .1 .state
+state-at d = d .before .before .before .before .loop .inv .state
 
 -- what a turn comes to, by the role that `role_of` answered and the machine's move
 turned : (d : tie.After-role-of Inv-loop μ-loop) (m : Next Chosen) {r : Role} → d .role-of .result ≡ r → does (state-at d) r ≡ m
@@ -36,25 +36,20 @@ turned : (d : tie.After-role-of Inv-loop μ-loop) (m : Next Chosen) {r : Role} �
     Then repeat-machine t (at-loop .loop .at) (command (d .before .before .command-at .result)) (tableRepeats t) m
 turned d m answered moved =
     let at-loop = d .before .before .before .before in
-    turn repeat-machine (now (at-loop .before .before .args .t)) (state-at d) m (d .before .before .before .loop-test .taken)
-    (d .before .before .command-at .ensures)
-    (sym (d .role-of .ensures (state-at d)) ∙ ap (does (state-at d)) answered ∙ moved)
-    (at-loop .loop .inv .1 .same)
+    turn repeat-machine (state-at d) m (at-loop .loop .inv .here) (d .before .before .before .loop-test .taken) (d .before .before .command-at .ensures) (sym (d .role-of .ensures (state-at d)) ∙ ap (does (state-at d)) answered ∙ moved)
 
 -- a member that is there already
 repeated : tie.Need-returns Inv-loop μ-loop
 repeated c =
     let at-role = c .before .before .before in
     let d = at-role .before .before in
-    turned d stops (at-role .r .given .1) (again-there (at-role .r .given .0 .0) (search needs) (d .before .before .before .before .loop .inv .1 .stands) (c .before .if1 .taken) (c .if2 .taken))
+    turned d stops (at-role .r .given .1) (again-there (at-role .r .given .0 .0) (search needs) (d .before .before .before .before .loop .inv .stands) (c .before .if1 .taken) (c .if2 .taken))
 
--- a turn that goes on, by the arm that it came through
-came : (c : tie.At-match-came Inv-loop μ-loop)
-    → let at-loop = c .before .before .before .before .before in
-    After (now (at-loop .before .before .args .t)) (c .match .inside) (c .match .seen) (at-loop .loop .at) (c .before .before .width .result)
-came c =
+-- behind a command that goes on, by the arm that it came through
+loop-again : tie.Need-loop-again Inv-loop μ-loop
+loop-again c =
     let d = c .before in
-    let kept = d .before .before .before .before .loop .inv .1 in
+    let kept = d .before .before .before .before .loop .inv in
     let wide = d .before .width .ensures in
     ⊎-elim (λ w. after (turned d (goes elsewhere) (w .1 .given .1) refl _ wide) outside (w .2) (w .3))
     (⊎-elim (λ w. after (turned d (goes (among [])) (w .1 .given .1) refl _ wide) opened (w .2) (w .3))
@@ -70,7 +65,7 @@ repeats-spec =
     (tie.spec
     Inv-loop
     μ-loop
-    (λ c. (search needs, record { state = elsewhere; stands = outside; same = refl }))
+    (λ c. record { state = elsewhere; stands = outside; here = record { within = search needs; same = refl } })
     (λ c κs. search needs)
     (λ c κs. search needs)
     (λ c κs. search needs)
@@ -84,7 +79,7 @@ repeats-spec =
     (λ c. c .match .keys4)
     (λ c. c .match .keys5)
     (λ c. turned (c .before .before) stops (c .enum-told4 .given .1) refl)
-    (λ c. omega (arith, came c .turned .within, c .before .before .before .before .before .before .before .good))
-    (λ c. came c .turned .falls)
-    (λ c. (came c .turned .within, record { state = came c .state; stands = came c .stands; same = came c .turned .same }))
-    (λ c. passed repeat-machine (now (c .before .before .before .args .t)) (c .before .loop .inv .1 .state) (c .loop-test .left) refl (c .before .loop .inv .1 .same)))
+    (λ c. omega (arith, loop-again c .here .within, c .before .before .before .before .before .before .before .good))
+    (λ c. omega (arith, loop-again c .here .within, some-width _ (c .before .before .width .ensures)))
+    loop-again
+    (λ c. passed repeat-machine _ (c .before .loop .inv .here) (c .loop-test .left) refl))
