@@ -55,19 +55,18 @@ counting-end bs at n h i =
     sym (add-zero n) ∙ rw none at (i .whole)
 
 -- a command that is not alien: what it opens is counted, and the others are left
-counting-on : {bs : List ℕ} (at n m : ℕ) (c : TreeCommand) → Counting bs at n → Reads bs at c → (c ≡ alienT → ⊥) → m ≤ at + treeWidth c
+counting-on : {bs : List ℕ} (at n m : ℕ) (c : TreeCommand) → Counting bs at n → Reads bs at c → (c ≡ alienT → ⊥) → m ≤ n + treeWidth c
     → ((rest : List TreeCommand) → n + opensIn (c ∷ rest) ≡ m + opensIn rest) → Counting bs (at + treeWidth c) m
 counting-on {bs} at n m c i r known few same =
     let left : n + opensIn (treeCommands (drop at bs)) ≡ m + opensIn (treeCommands (drop (at + treeWidth c) bs))
     = ap (λ (cs : List TreeCommand). n + opensIn cs) (r .reads) ∙ same (r .rest) ∙ ap (λ (cs : List TreeCommand). m + opensIn cs) (r .onward known) in
-    record { within = r .within known; few = few; whole = sym left ∙ i .whole }
+    record { within = r .within known; few = omega (arith, i .few, few); whole = sym left ∙ i .whole }
 
 module _ {bs : List ℕ} where
   -- an element is counted
   pub counting-opens : {t : ℕ} (at n : ℕ) → Counting bs at n → Reads bs at (opens t) → Counting bs (at + 2) (n + 1)
   unfolding opensIn treeWidth
   counting-opens {t} at n i r =
-      let few : n ≤ at = i .few in
       counting-on at n (n + 1) (opens t) i r (λ e. let z : _≡_ {A = ℕ} 0 1 = cc in omega arith) (omega arith) (λ rest. one-more n (opensIn rest))
     where
       one-more : (n k : ℕ) → n + suc k ≡ n + 1 + k
@@ -76,23 +75,17 @@ module _ {bs : List ℕ} where
   -- a character is none
   pub counting-character : {c : ℕ} (at n : ℕ) → Counting bs at n → Reads bs at (character c) → Counting bs (at + 2) n
   unfolding opensIn treeWidth
-  counting-character {c} at n i r =
-      let few : n ≤ at = i .few in
-      counting-on at n n (character c) i r (λ e. let z : _≡_ {A = ℕ} 0 1 = cc in omega arith) (omega arith) (λ rest. refl)
+  counting-character {c} at n i r = counting-on at n n (character c) i r (λ e. let z : _≡_ {A = ℕ} 0 1 = cc in omega arith) (omega arith) (λ rest. refl)
 
   -- nor is a close
   pub counting-closes : (at n : ℕ) → Counting bs at n → Reads bs at closes → Counting bs (at + 1) n
   unfolding opensIn treeWidth
-  counting-closes at n i r =
-      let few : n ≤ at = i .few in
-      counting-on at n n closes i r (λ e. let z : _≡_ {A = ℕ} 0 1 = cc in omega arith) (omega arith) (λ rest. refl)
+  counting-closes at n i r = counting-on at n n closes i r (λ e. let z : _≡_ {A = ℕ} 0 1 = cc in omega arith) (omega arith) (λ rest. refl)
 
   -- nor is 3F
   pub counting-treeEnd : (at n : ℕ) → Counting bs at n → Reads bs at treeEnd → Counting bs (at + 1) n
   unfolding opensIn treeWidth
-  counting-treeEnd at n i r =
-      let few : n ≤ at = i .few in
-      counting-on at n n treeEnd i r (λ e. let z : _≡_ {A = ℕ} 0 1 = cc in omega arith) (omega arith) (λ rest. refl)
+  counting-treeEnd at n i r = counting-on at n n treeEnd i r (λ e. let z : _≡_ {A = ℕ} 0 1 = cc in omega arith) (omega arith) (λ rest. refl)
 
   -- an alien command ends the count
   pub counting-alien : (at n : ℕ) → Counting bs at n → Reads bs at alienT → n ≡ opensIn (treeCommands bs)

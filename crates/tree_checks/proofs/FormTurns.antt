@@ -66,10 +66,9 @@ pub form-opens : {bs : List ℕ} {t : ℕ} (depth at : ℕ) → 0 < depth → In
 unfolding treeStep treeWidth closed
 form-opens zero at h i r = absurd (omega arith)
 form-opens {bs} (suc n) at h i r =
-    let deep : suc n ≤ at = i .deep in
     record {
       within = form-within (inside n) (inside (suc n)) r refl;
-      deep = omega arith;
+      deep = omega (arith, i .deep);
       whole = rw (add-one (suc n)) (form-goes (inside n) (inside (suc n)) r refl (i .whole));
     }
 
@@ -78,10 +77,9 @@ pub form-character : {bs : List ℕ} {c : ℕ} (depth at : ℕ) → 0 < depth �
 unfolding treeStep treeWidth closed
 form-character zero at h i r = absurd (omega arith)
 form-character {bs} (suc n) at h i r =
-    let deep : suc n ≤ at = i .deep in
     record {
       within = form-within (inside n) (inside n) r refl;
-      deep = omega arith;
+      deep = omega (arith, i .deep);
       whole = form-goes (inside n) (inside n) r refl (i .whole);
     }
 
@@ -90,10 +88,9 @@ pub form-closes : {bs : List ℕ} (depth at : ℕ) → 0 < depth → InForm bs d
 unfolding treeStep treeWidth closed
 form-closes zero at h i r = absurd (omega arith)
 form-closes {bs} (suc n) at h i r =
-    let deep : suc n ≤ at = i .deep in
     record {
       within = form-within (inside n) (closed n) r refl;
-      deep = omega arith;
+      deep = omega (arith, i .deep);
       whole = rw (sub-one (suc n)) (form-goes (inside n) (closed n) r refl (i .whole));
     }
 

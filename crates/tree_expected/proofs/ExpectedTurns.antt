@@ -203,16 +203,18 @@ module _ {rows bs : List ℕ} {at : ℕ} (o : Outside rows bs at) where
 
 -- ---- where the checks before have passed
 
+-- a number is below another where the opposite says so too
+below-still : (a b : ℕ) → (b ≤ a → a < b) → a < b
+below-still a b still = go (ltb a b) refl
+  where
+    go : (t : Bool) → ltb a b ≡ t → a < b
+    go true e = ltb-true a b e
+    go false e = still (ltb-false a b e)
+
 module _ {rows bs : List ℕ} (p : Passed rows bs) where
   -- the document has bytes
   pub passed-nonempty : 0 < length bs
-  passed-nonempty = go (ltb 0 (length bs)) refl
-    where
-      go : (b : Bool) → ltb 0 (length bs) ≡ b → 0 < length bs
-      go true e = ltb-true 0 (length bs) e
-      go false e =
-          let short : length bs ≤ 0 = ltb-false 0 (length bs) e in
-          passes-fails (p .form) (sym (form-empty bs (omega arith)))
+  passed-nonempty = below-still 0 (length bs) (λ none. passes-fails (p .form) (sym (form-empty bs (omega arith))))
 
   -- none but a command that opens an element stands at the beginning
   pub passed-stops {ℓ} : {X : Type ℓ} {c : TreeCommand} → Reads bs 0 c → treeStep noRoot c ≡ stops → X
@@ -220,19 +222,11 @@ module _ {rows bs : List ℕ} (p : Passed rows bs) where
 
   -- the type of the root exists
   pub passed-root : {t : ℕ} → Reads bs 0 (opens t) → t < typesIn rows
-  passed-root {t} r = go (ltb t (typesIn rows)) refl
-    where
-      go : (b : Bool) → ltb t (typesIn rows) ≡ b → t < typesIn rows
-      go true e = ltb-true t (typesIn rows) e
-      go false e = passes-fails (p .operands) (sym (operands-no-type (typesIn rows) 0 (ltb-false t (typesIn rows) e) (operands-start (typesIn rows) bs) r))
+  passed-root {t} r = below-still t (typesIn rows) (λ none. passes-fails (p .operands) (sym (operands-no-type (typesIn rows) 0 none (operands-start (typesIn rows) bs) r)))
 
   -- bytes are left where the form check has not ended
   form-left : (depth at : ℕ) → InForm bs depth at → at < length bs
-  form-left depth at f = go (ltb at (length bs)) refl
-    where
-      go : (b : Bool) → ltb at (length bs) ≡ b → at < length bs
-      go true e = ltb-true at (length bs) e
-      go false e = passes-fails (p .form) (sym (form-short bs depth at (ltb-false at (length bs) e) f))
+  form-left depth at f = below-still at (length bs) (λ none. passes-fails (p .form) (sym (form-short bs depth at none f)))
 
   module _ {opened had : List ℕ} {top m h at : ℕ} (i : Inside rows bs opened had top m h at) where
     pub passed-more : at < length bs
@@ -240,19 +234,11 @@ module _ {rows bs : List ℕ} (p : Passed rows bs) where
 
     -- there is room for an element that is opened
     pub passed-room : {x : ℕ} → Reads bs at (opens x) → top + 1 < 128
-    passed-room r = go (ltb (top + 1) 128) refl
-      where
-        go : (b : Bool) → ltb (top + 1) 128 ≡ b → top + 1 < 128
-        go true e = ltb-true (top + 1) 128 e
-        go false e = passes-fails (p .levels) (sym (levels-deep (top + 1) at (ltb-false (top + 1) 128 e) (i .levels) r))
+    passed-room r = below-still (top + 1) 128 (λ none. passes-fails (p .levels) (sym (levels-deep (top + 1) at none (i .levels) r)))
 
     -- and its type exists
     pub passed-exists : {x : ℕ} → Reads bs at (opens x) → x < typesIn rows
-    passed-exists {x} r = go (ltb x (typesIn rows)) refl
-      where
-        go : (b : Bool) → ltb x (typesIn rows) ≡ b → x < typesIn rows
-        go true e = ltb-true x (typesIn rows) e
-        go false e = passes-fails (p .operands) (sym (operands-no-type (typesIn rows) at (ltb-false x (typesIn rows) e) (i .operands) r))
+    passed-exists {x} r = below-still x (typesIn rows) (λ none. passes-fails (p .operands) (sym (operands-no-type (typesIn rows) at none (i .operands) r)))
 
     -- a character is allowed
     pub passed-allowed : {c : ℕ} → Reads bs at (character c) → allowed c ≡ true
@@ -277,11 +263,9 @@ module _ {rows bs : List ℕ} (p : Passed rows bs) where
   module _ {at : ℕ} (o : Outside rows bs at) where
     -- behind 3F nothing is left
     last-byte : Reads bs at treeEnd → length bs ≤ at + 1
-    last-byte r = go (ltb (at + 1) (length bs)) refl
-      where
-        go : (b : Bool) → ltb (at + 1) (length bs) ≡ b → length bs ≤ at + 1
-        go true q = passes-fails (p .form) (sym (form-more bs (at + 1) (ltb-true (at + 1) (length bs) q) (form-root-end at (o .form) r)))
-        go false q = ltb-false (at + 1) (length bs) q
+    last-byte r =
+        let before : length bs < at + 2 = below-still (length bs) (at + 2) (λ more. passes-fails (p .form) (sym (form-more bs (at + 1) (omega arith) (form-root-end at (o .form) r)))) in
+        omega arith
 
     -- any other command than 3F is refused by the form check
     behind-root : (c : TreeCommand) → Reads bs at c → passes ≡ treeExpected (tableBy rows) bs
