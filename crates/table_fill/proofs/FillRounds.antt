@@ -1,115 +1,111 @@
--- Filler lengths by rounds: sums of held values, held, are the sums held, so the arrays hold the model's lengths at
--- 60,001 after each round.
-use mathlib.Core.Path.{_≡_, refl, sym, ap, _∙_, subst}
+-- Filler lengths by rounds in place. The members of a type's filler are lower than the type, so a round that finds those of
+-- the types of height at most n right makes those of height n + 1 right too; and lengths that are their own next ones are right.
+use mathlib.Core.Path.{_≡_, refl, ap, ap₂, _∙_}
 use mathlib.Core.Bool.{Bool, true, false}
-use mathlib.Core.List.{List, [], _∷_, map}
-use Prim.Native.Nat.{ℕ, zero, suc, _+_, _-_, _≤_, _<_, min}
-use native.Mathlib.Nat.{zero-add}
-use native.Mathlib.Numerals.{add-one}
+use mathlib.Core.List.{List, [], _∷_, List·Memᴰ, List·Memᴰ·head, List·Memᴰ·tail}
+use mathlib.Core.Logic.{_⊎_, inl, inr, ⊎-elim}
+use Prim.Native.Nat.{ℕ, _+_, _≤_, _<_, min}
 use native.Mathlib.Omega.{arith}
-use lib.ListN.{length, getD, replicate, length-map, length-replicate, List·getD-eq-default}
-use lib.Seq.{ext-getD}
-use lib.Dec.{leb}
-use borrow.Author.Tests.{leb-true, leb-false}
+use lib.ListN.{length, getD, set}
+use lib.Seq.{getD-set-same, getD-set-other}
+use lib.Dec.{eqb}
+use borrow.Author.Tests.{eqb-true, eqb-false}
+use Rattle.loaded_table.specs.Loaded.{heightsOf, fillOf, tableBy}
 use Rattle.model.specs.Definitions.Table.{Kind, text, empty, sequence, choice, list, Table, kindOf}
-use Rattle.model.specs.Definitions.Heights.{heightIn, heights, leastMember}
-use Rattle.model.specs.Definitions.Filler.{lengthOf, known, fillMembers, fillKind, fillTo, fillers, fillerLength}
-use Rattle.model.specs.Theorems.HeightLaws.{getD-of-map}
+use Rattle.model.specs.Definitions.Heights.{heightIn, heights, heightOf}
+use Rattle.model.specs.Definitions.Filler.{lengthOf, fillMembers, fillers, fillerLength}
+use Rattle.model.specs.Theorems.Facts.{SoundTable}
+use Rattle.model.specs.Theorems.HeightLaws.{finite-height, kind-positive}
+use Rattle.model.specs.Theorems.FillerLaws.{filled, fill-filled, filled-members, filled-lower, filler-induction, fill-step}
+use Rattle.table_heights.specs.Sections.{Elsewhere, section-elsewhere, table-elsewhere}
 use Rattle.table_heights.specs.Heights.{HoldsHeights, least-same}
-use Rattle.table_fill.specs.Fill.{HoldsFill, HoldsFillRound, fillIn, fillSum, fillOfKind}
-use Rattle.table_fill.proofs.Arrays.{Filled, filled-none, getD-any}
+use Rattle.table_fill.specs.Fill.{HoldsFill, FillTo, fillSum, nextFill, HoldsFillRound}
 
--- the next filler length of a type, held
-abbrev pub nextFill : Table → List ℕ → List ℕ → ℕ → ℕ
-nextFill T hs fill t = min 60001 (fillOfKind hs fill (kindOf T t))
+-- filler has the same members by an array that holds the heights
+filled-same : (T : Table) (hs : List ℕ) → HoldsHeights T hs → (κ : Kind) → filled hs κ ≡ filled (heights T) κ
+unfolding filled heightIn
+filled-same T hs held text = refl
+filled-same T hs held empty = refl
+filled-same T hs held (sequence ms) = refl
+filled-same T hs held (choice ms) = ap (λ (m : ℕ). m ∷ []) (least-same hs (heights T) ms (λ m here. held .height-at m))
+filled-same T hs held (list m) = refl
 
--- an array that is filled with the next lengths holds the round
-pub fill-round-done : (T : Table) (hs fill xs : List ℕ) → Filled (nextFill T hs fill) 3 (length T) xs → HoldsFillRound hs fill T xs
-fill-round-done T hs fill xs filled = record { within = filled .long; fill-round-at = filled .done; fill-beyond = filled .rest }
+-- so the next lengths by a loaded table whose filler lengths alone may have changed are those by the heights
+pub next-is : {rows after : List ℕ} {v : ℕ} (t : ℕ) → HoldsHeights (tableBy rows) (heightsOf rows) → Elsewhere 192 64 rows after → v ≡ nextFill (tableBy after) (heightsOf after) (fillOf after) t
+    → v ≡ nextFill (tableBy rows) (heights (tableBy rows)) (fillOf after) t
+next-is {rows} {after} t held kept e =
+    e
+    ∙ ap₂ (λ T hs. nextFill T hs (fillOf after) t) (table-elsewhere (omega arith) (omega arith) kept) (section-elsewhere 128 64 (inl (omega arith)) kept)
+    ∙ ap (λ (ms : List ℕ). min 60001 (3 + fillSum (fillOf after) ms)) (filled-same (tableBy rows) (heightsOf rows) held (kindOf (tableBy rows) t))
 
--- an array holds the lengths of n rounds, held
-pub record HoldsFillTo (T : Table) (n : ℕ) (fill : List ℕ) : Type 0 where
-  pub entries : length fill ≡ 64
-  pub fill-to-at : (t : ℕ) → fillIn fill t ≡ min 60001 (3 + known lengthOf (fillTo lengthOf (heights T) T n) t)
+-- a type's length in an array is right
+abbrev Right : Table → List ℕ → ℕ → Type 0
+Right T fill t = getD fill t 0 ≡ min 60001 (fillerLength T t)
 
--- before the first round all are 3
-pub fill-to-none : (T : Table) → HoldsFillTo T 0 (replicate 64 3)
-unfolding known fillTo lengthOf
-fill-to-none T = record { entries = length-replicate {A = ℕ} 64 3; fill-to-at = λ t. filled-none (λ k. 3) 3 .rest t (omega arith) }
+module _ (T : Table) (sound : SoundTable T) where
+  -- sums of held values, held, are the sums held
+  members-held : (fill ms : List ℕ) → ((m : ℕ) → List·Memᴰ m ms → Right T fill m) → min 60001 (fillSum fill ms) ≡ min 60001 (fillMembers lengthOf (fillers lengthOf T) ms)
+  unfolding fillSum fillMembers lengthOf fillerLength
+  members-held fill [] each = refl
+  members-held fill (m ∷ ms) each = omega (arith, each m (List·Memᴰ·head refl), members-held fill ms (λ n here. each n (List·Memᴰ·tail here)))
 
--- Where an array holds the lengths that F gives, held, what is made of them is held.
-module _ (F fill : List ℕ) (holds : (t : ℕ) → fillIn fill t ≡ min 60001 (3 + known lengthOf F t)) where
-  -- the sum over members
-  members-held : (ms : List ℕ) → min 60001 (fillSum fill ms) ≡ min 60001 (fillMembers lengthOf F ms)
-  unfolding fillSum fillMembers lengthOf
-  members-held [] = refl
-  members-held (m ∷ ms) = omega (arith, holds m, members-held ms)
+  -- so a type's next length is right where those of the members of its filler are
+  next-right : (fill : List ℕ) (t : ℕ) → t < length T → ((m : ℕ) → List·Memᴰ m (filled (heights T) (kindOf T t)) → Right T fill m)
+      → nextFill T (heights T) fill t ≡ min 60001 (fillerLength T t)
+  unfolding fillerLength
+  next-right fill t exists each =
+      omega (arith, fill-step T sound lengthOf t exists, fill-filled lengthOf (heights T) (fillers lengthOf T) (kindOf T t), members-held fill (filled (heights T) (kindOf T t)) each)
 
-  -- the length of a kind
-  kind-held : (hs gs : List ℕ) → ((t : ℕ) → heightIn hs t ≡ heightIn gs t) → (κ : Kind)
-      → min 60001 (fillOfKind hs fill κ) ≡ min 60001 (3 + fillKind lengthOf gs F κ)
-  unfolding fillOfKind fillKind fillMembers lengthOf
-  kind-held hs gs same text = refl
-  kind-held hs gs same empty = refl
-  kind-held hs gs same (sequence ms) = omega (arith, members-held ms)
-  kind-held hs gs same (choice ms) = rw (least-same hs gs ms (λ m here. same m)) (omega (arith, holds (leastMember gs ms)))
-  kind-held hs gs same (list m) = refl
+  -- and these are lower
+  next-higher : (n : ℕ) (fill : List ℕ) → FillTo T n fill → (t : ℕ) → t < length T → heightOf T t ≤ n + 1 → nextFill T (heights T) fill t ≡ min 60001 (fillerLength T t)
+  next-higher n fill right t exists low =
+      next-right fill t exists
+      (λ m here.
+      right m (sound .well-formed .members-exist t m (filled-members (heights T) (kindOf T t) (sound .well-formed .choices-choose t) m here))
+      (omega (arith, filled-lower T (sound .well-formed) t exists (sound .finite t exists) m here)))
 
--- an array that holds a table's heights gives the same heights
-heights-same : (T : Table) (hs : List ℕ) → HoldsHeights T hs → (t : ℕ) → heightIn hs t ≡ heightIn (heights T) t
-unfolding heightIn
-heights-same T hs holds t = holds .height-at t
+  -- no type is as low as 0
+  pub fill-none : (fill : List ℕ) → FillTo T 0 fill
+  fill-none fill t exists low = absurd (omega (arith, finite-height T t exists (sound .finite t exists), kind-positive (heights T) (kindOf T t)))
 
--- the model's length of a type after one round more
-round-type : (T : Table) (n t : ℕ) → t < length T
-    → known lengthOf (fillTo lengthOf (heights T) T (suc n)) t ≡ fillKind lengthOf (heights T) (fillTo lengthOf (heights T) T n) (kindOf T t)
-unfolding known fillTo kindOf
-round-type T n t here = getD-of-map (fillKind lengthOf (heights T) (fillTo lengthOf (heights T) T n)) T t empty (lengthOf .none) here
+  -- and none is higher than there are types
+  pub fill-all : {fill : List ℕ} {n : ℕ} → length T ≤ n → FillTo T n fill → HoldsFill T fill
+  fill-all all right = record { fill-at = λ t exists. right t exists (omega (arith, sound .finite t exists)) }
 
--- and beyond the types
-round-beyond : (T : Table) (n t : ℕ) → length T ≤ t → known lengthOf (fillTo lengthOf (heights T) T (suc n)) t ≡ 0
-unfolding known fillTo lengthOf
-round-beyond T n t past =
-    let long : length (map (fillKind lengthOf (heights T) (fillTo lengthOf (heights T) T n)) T) ≤ t = rw length-map past in
-    List·getD-eq-default (map (fillKind lengthOf (heights T) (fillTo lengthOf (heights T) T n)) T) 0 long
+  -- in a round that began with some lengths, the types below t are still to do
+  pub record Filling (before : List ℕ) (t : ℕ) (fill : List ℕ) (changed : Bool) : Type 0 where
+    right : (n : ℕ) → FillTo T n before → (k : ℕ) → k < length T → (heightOf T k ≤ n) ⊎ ((t ≤ k) × (heightOf T k ≤ n + 1)) → Right T fill k
+    fixed : changed ≡ false → (k : ℕ) → k < length T → t ≤ k → getD fill k 0 ≡ nextFill T (heights T) fill k
 
--- a round more
-pub fill-to-more : (T : Table) (n : ℕ) (hs fill xs : List ℕ) → HoldsHeights T hs → HoldsFillTo T n fill → HoldsFillRound hs fill T xs → HoldsFillTo T (n + 1) xs
-unfolding kindOf
-fill-to-more T n hs fill xs heights-held holds round =
-    record { entries = round .within; fill-to-at = λ t. rw (add-one n) (at t (leb (length T) t) refl) }
-  where
-    at : (t : ℕ) (b : Bool) → leb (length T) t ≡ b → fillIn xs t ≡ min 60001 (3 + known lengthOf (fillTo lengthOf (heights T) T (suc n)) t)
-    at t true e =
-        let past : length T ≤ t = leb-true (length T) t e in
-        round .fill-beyond t past ∙ ap (λ (k : ℕ). min 60001 (3 + k)) (sym (round-beyond T n t past))
-    at t false e =
-        let here : t < length T = leb-false (length T) t e in
-        round .fill-round-at t here
-        ∙ kind-held (fillTo lengthOf (heights T) T n) fill (λ m. holds .fill-to-at m) hs (heights T) (heights-same T hs heights-held) (kindOf T t)
-        ∙ ap (λ (k : ℕ). min 60001 (3 + k)) (sym (round-type T n t here))
+  pub filling-starts : {fill : List ℕ} {t : ℕ} {changed : Bool} → length T ≤ t → Filling fill t fill changed
+  filling-starts all =
+      record { right = λ n before k exists low. ⊎-elim (λ h. before k exists h) (λ h. absurd (omega (arith, h .0))) low; fixed = λ e k exists past. absurd (omega arith) }
 
--- where a round changes nothing, so do all that come after it
-fill-to-stays : (T : Table) (k n : ℕ) (hs fill : List ℕ) → HoldsHeights T hs → HoldsFillTo T n fill → HoldsFillRound hs fill T fill → HoldsFillTo T (k + n) fill
-fill-to-stays T zero n hs fill heights-held holds round = rw zero-add holds
-fill-to-stays T (suc k) n hs fill heights-held holds round =
-    let more : suc k + n ≡ k + n + 1 = omega arith in
-    rw more (fill-to-more T (k + n) hs fill fill heights-held (fill-to-stays T k n hs fill heights-held holds round) round)
+  -- the length of type s is found anew
+  pub filling-turn : {before fill : List ℕ} {t : ℕ} {changed : Bool} (s v : ℕ) (later : Bool) → t ≤ s + 1 → s < length fill → v ≡ nextFill T (heights T) fill s
+      → (later ≡ false → (changed ≡ false) × (set fill s v ≡ fill)) → Filling before t fill changed → Filling before s (set fill s v) later
+  filling-turn {before} {fill} {t} s v later next within e same f = record { right = λ n was k exists low. at n was k exists low (eqb k s) refl; fixed = still }
+    where
+      at : (n : ℕ) → FillTo T n before → (k : ℕ) → k < length T → (heightOf T k ≤ n) ⊎ ((s ≤ k) × (heightOf T k ≤ n + 1)) → (b : Bool) → eqb k s ≡ b → Right T (set fill s v) k
+      at n was k exists low true q =
+          let here : k ≡ s = eqb-true k s q in
+          rw here (getD-set-same fill s v 0 within ∙ e ∙ next-higher n fill (λ m there lower. f .right n was m there (inl lower)) s (rw here at exists) (⊎-elim (λ h. omega arith) (λ h. omega (arith, h .1)) (rw here at low)))
+      at n was k exists low false q =
+          let other = eqb-false k s q in
+          getD-set-other fill s k v 0 other ∙ f .right n was k exists (⊎-elim (λ h. inl h) (λ h. inr (omega (arith, other, h .0), h .1)) low)
 
-pub fill-to-last : (T : Table) (n types : ℕ) (hs fill xs : List ℕ) → HoldsHeights T hs → n ≤ types → HoldsFillTo T n fill → HoldsFillRound hs fill T xs
-    → ((t : ℕ) → t < 64 → getD fill t 0 ≡ getD xs t 0) → HoldsFillTo T types fill
-fill-to-last T n types hs fill xs heights-held low holds round same =
-    let long : length fill ≡ length xs = holds .entries ∙ sym (round .within) in
-    let kept : fill ≡ xs = ext-getD 0 fill xs long (λ t here. same t (rw (holds .entries) at here)) in
-    let all : types - n + n ≡ types = omega arith in
-    subst (λ k. HoldsFillTo T k fill) all (fill-to-stays T (types - n) n hs fill heights-held holds (subst (HoldsFillRound hs fill T) (sym kept) round))
+      still : later ≡ false → (k : ℕ) → k < length T → s ≤ k → getD (set fill s v) k 0 ≡ nextFill T (heights T) (set fill s v) k
+      still q k exists past = rw (same q .1) (here (eqb k s) refl)
+        where
+          here : (b : Bool) → eqb k s ≡ b → getD fill k 0 ≡ nextFill T (heights T) fill k
+          here true p =
+              let stored : getD (set fill s v) s 0 ≡ v = getD-set-same fill s v 0 within in
+              rw (eqb-true k s p) (rw (same q .1) at stored ∙ e)
+          here false p = f .fixed (same q .0) k exists (omega (arith, eqb-false k s p))
 
--- after as many rounds as there are types the array holds the lengths
-pub fill-to-all : (T : Table) (types n : ℕ) (fill : List ℕ) → length T ≡ types → types ≤ 64 → n ≡ types → HoldsFillTo T n fill → HoldsFill T fill
-unfolding fillerLength fillers
-fill-to-all T types n fill long few e holds =
-    let same : n ≡ length T = omega arith in
-    record {
-      fill-at = λ t here. let low : t < length fill = omega (arith, holds .entries) in
-          getD-any fill t 0 3 low ∙ holds .fill-to-at t ∙ ap (λ (k : ℕ). min 60001 (3 + known lengthOf (fillTo lengthOf (heights T) T k) t)) same;
-    }
+  pub filling-ends : {before fill : List ℕ} {t : ℕ} {changed : Bool} → t ≡ 0 → Filling before t fill changed → HoldsFillRound T before fill changed
+  filling-ends {fill = fill} none f =
+      record {
+        higher = λ n was k exists low. f .right n was k exists (inr (omega arith, low));
+        unchanged = λ e. record { fill-at = λ k exists. filler-induction T (sound .well-formed) (Right T fill) (λ t there finite each. f .fixed e t there (omega arith) ∙ next-right fill t there each) k exists (sound .finite k exists) };
+      }

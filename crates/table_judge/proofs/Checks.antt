@@ -25,6 +25,8 @@ use Rattle.model.specs.Definitions.TableChecks.{tableForm, tableLimits, tableOp
 use Rattle.model.specs.Definitions.Refusals as refusals
 use Rattle.model.specs.Definitions.Refusals.{sound, has, faultAt, faultUnless, fits, maxLength}
 use Rattle.model.specs.Definitions.Entries.{judgedTable}
+use Rattle.model.specs.Theorems.Facts.{SoundTable}
+use Rattle.model.specs.Theorems.JudgedTables.{table-sound}
 
 -- a fault is no acceptance
 has-sound : {X : Type 0} {f : refusals.Fault} {j : refusals.Judged} → j ≡ has f → j ≡ sound → X
@@ -38,7 +40,7 @@ verdict-is v p x q e = sym p ∙ ap verdict q ∙ e
 
 -- a fault found is the judgement, and nothing need be loaded
 refusing : (bs : List ℕ) (f : Fault) (after : List ℕ) → laterChecks bs ≡ has (fault f) → AfterLimits bs (Judged.Has f) after
-refusing bs f after g = record { judgement = sym g; loaded = λ accepted. has-sound g accepted }
+refusing bs f after g = record { judgement = sym g; loaded = λ accepted whole. has-sound g accepted }
 
 -- checks 4 and 5, where the loaded table is the document's
 module _ (bs rows : List ℕ) (loaded : LoadedAs bs rows) where
@@ -80,7 +82,7 @@ module _ (bs rows : List ℕ) (loaded : LoadedAs bs rows) where
     all-accepted after n o p e fill =
         record {
           judgement = sym (unfold laterChecks faultAt in rw (operands-by n o, p, e));
-          loaded = λ accepted. record { same-table = same-after ∙ same; bounded = bounded-elsewhere (omega arith) (omega arith) (fill .elsewhere) (ready .0); kept = subst (Kept after) same kept };
+          loaded = λ accepted whole. record { same-table = same-after ∙ same; bounded = bounded-elsewhere (omega arith) (omega arith) (fill .elsewhere) (ready .0); kept = subst (Kept after) same (kept whole) };
         }
       where
         same : loaded_table.tableBy mid ≡ tableOf bs
@@ -92,8 +94,8 @@ module _ (bs rows : List ℕ) (loaded : LoadedAs bs rows) where
         heights-kept : heightsOf after ≡ heightsOf mid
         heights-kept = section-elsewhere 128 64 (inl (omega arith)) (fill .elsewhere)
 
-        kept : Kept after (loaded_table.tableBy mid)
-        kept = record { height-at = λ t exists. rw heights-kept (ready .1 .height-at t); fill-at = fill .found .fill-at }
+        kept : SoundTable (tableOf bs) → Kept after (loaded_table.tableBy mid)
+        kept whole = record { height-at = λ t exists. rw heights-kept (ready .1 .height-at t); fill-at = fill .found (subst SoundTable (sym same) whole) .fill-at }
 
 -- ---- all checks
 
@@ -114,7 +116,7 @@ module _ (bs rows : List ℕ) where
 -- after the first three checks the others decide
 pub later-decides : (bs : List ℕ) (r : Judged) (rows : List ℕ) → length bs ≤ 60000 → tableForm bs ≡ passes → tableLimits bs ≡ passes → AfterLimits bs r rows → TableJudged bs r rows
 later-decides bs r rows short f l h =
-    record { judgement = h .judgement ∙ sym same; loaded = λ accepted. h .loaded (sym same ∙ accepted) }
+    record { judgement = h .judgement ∙ sym same; loaded = λ accepted. h .loaded (sym same ∙ accepted) (table-sound bs accepted) }
   where
     same : judgedTable bs ≡ laterChecks bs
     same = unfold judgedTable laterChecks faultUnless faultAt fits maxLength in rw (le-leb (length bs) 60000 short, f, l)

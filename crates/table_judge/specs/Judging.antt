@@ -11,6 +11,7 @@ use Rattle.model.specs.Definitions.Heights.{endlessType}
 use Rattle.model.specs.Definitions.TableChecks.{tableOperands, tableRepeats}
 use Rattle.model.specs.Definitions.Refusals.{Judged, sound, bad-operand, repeated-member, no-finite-instance, faultAt}
 use Rattle.model.specs.Definitions.Entries.{judgedTable}
+use Rattle.model.specs.Theorems.Facts.{SoundTable}
 
 -- the model's judgement, and where it accepts, the table loaded
 pub record TableJudged (bs : List ℕ) (r : answers.Judged) (rows : List ℕ) : Type 0 where
@@ -25,7 +26,7 @@ laterChecks bs =
     faultAt no-finite-instance (endlessType (tableOf bs)) λ u.
     sound
 
--- the same of these checks alone
+-- the same of these checks alone, where the table is sound
 pub record AfterLimits (bs : List ℕ) (r : answers.Judged) (rows : List ℕ) : Type 0 where
   pub judgement : judged r ≡ laterChecks bs
-  pub loaded : laterChecks bs ≡ sound → Stands rows (tableOf bs)
+  pub loaded : laterChecks bs ≡ sound → SoundTable (tableOf bs) → Stands rows (tableOf bs)

@@ -1,8 +1,9 @@
 -- `fill_at` meets its contract.
 use mathlib.Core.Path.{sym}
-use lib.ListN.{List·getD-eq-default}
+use native.Mathlib.Omega.{arith}
+use lib.ListN.{drop, length-take, List·getD-eq-default}
 use borrow.Author.Needs.{needs}
-use Rattle.table_fill.proofs.Arrays.{getD-any}
+use Rattle.loaded_table.specs.Loaded.{fillOf}
 use Rattle.table_fill.proofs.fill_at.Statement.{statement}
 use Rattle.table_fill.proofs.fill_at.Tie as tie
 
@@ -10,7 +11,7 @@ pub fill-at-spec : {M : Type 1} → statement M
 fill-at-spec =
     tie.close
     (tie.spec
-    (λ c. search needs)
-    (λ c. search needs)
-    (λ c. getD-any (c .before .before .args .fill .now) (c .before .before .args .t) 0 3 (c .before .if1 .taken))
-    (λ c. sym (List·getD-eq-default (c .before .args .fill .now) 3 (c .if1 .left))))
+    (λ c κs. search needs)
+    (λ c. record { fits = omega (arith, c .fill .ensures .1) })
+    (λ c. c .fill .ensures .0)
+    (λ c. let rows = c .before .args .table .now in sym (List·getD-eq-default (fillOf rows) 0 (omega (arith, length-take 64 (drop 192 rows), c .if1 .left)))))
