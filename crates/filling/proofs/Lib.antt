@@ -1,5 +1,2 @@
-pub mod Left
 pub mod Finding
-pub mod Filling
-pub mod Running
-pub mod Listing
+pub mod Writing

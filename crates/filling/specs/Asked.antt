@@ -109,8 +109,12 @@ pub record ImageAsked (source pool places tr : List ℕ) (bs : List ℕ) : Type 
 
 -- ---- room for them
 
--- bytes are asked for, and there is room for them from offset `at` on
-pub record Fits (Asked : List ℕ → Type 0) (at long : ℕ) : Type 0 where
+-- bytes are asked for, of which Room holds
+pub record SomeAsked (Asked Room : List ℕ → Type 0) : Type 0 where
   pub bytes : List ℕ
   pub asked : Asked bytes
-  pub room : at + length bytes ≤ long
+  pub room : Room bytes
+
+-- there is room for them from offset `at` on
+abbrev pub Fits : (List ℕ → Type 0) → ℕ → ℕ → Type 0
+Fits Asked at long = SomeAsked Asked (λ (bs : List ℕ). at + length bs ≤ long)

@@ -3,6 +3,7 @@ use mathlib.Core.Path.{_≡_, refl, sym, ap, _∙_, subst}
 use mathlib.Core.List.{List, [], _++_}
 use Prim.Native.Nat.{ℕ, _+_, _-_, _<_}
 use native.Mathlib.Nat.{add-zero}
+use native.Mathlib.Omega.{arith}
 use lib.ListN.{length, drop}
 use Rattle.model.specs.Definitions.Table.{kindOf}
 use Rattle.model.specs.Definitions.Content.{Content, end, elem}
@@ -12,6 +13,7 @@ use Rattle.model.specs.Definitions.Templates.{Hole, characters, child, items, i
 use Rattle.loaded_table.specs.Loaded.{tableBy}
 use Rattle.rows.specs.Rows.{rowAt, sourceRow}
 use Rattle.scanning.specs.Scanning.{At}
+use Rattle.scanning.specs.Laws.{content-within}
 use Rattle.model.specs.Theorems.TemplateShapes.{HoleOfItem}
 use Rattle.model.specs.Theorems.Templates.{writes-again}
 use Rattle.filling.specs.Model.{item-symbols}
@@ -36,12 +38,6 @@ element-row {source} {pool} {places} p {s} {k} exists holds there is-row =
       is = writes-again (settingOf p) s k
           ∙ ap (filledRow (settingOf p .target) (heldBy (settingOf p) s k)) (sym (ap (rowAt pool places) is-row ∙ p .rows .template-at s (firstIn k) exists (first-chosen holds)));
     }
-
--- of an element that opens at an offset
-pub child-row : {source pool places tr : List ℕ} {i : ℕ} {bs : List ℕ} (a : ChildAsked source pool places tr i bs) {o : ℕ} → ElementAt tr o (a .type) (a .inside)
-    → {part : List ℕ} → part ≡ drop (o + 2) tr → {r : ℕ} → r ≡ sourceRow (tableBy source) (a .type) (firstIn (a .inside)) → RowAsked source pool places part r bs
-child-row {source} {pool} {places} a {o} e {part} is-part {r} is-row =
-    subst (RowAsked source pool places part r) (sym (a .is)) (element-row (a .prepared) (a .is-type) (a .child .holds) (inside-part o is-part (e .within)) is-row)
 
 -- ---- the items of a list
 
@@ -97,3 +93,16 @@ child-sought a = record { around = a .around; there = a .there; type = a .type; 
 abbrev pub child-first : {source pool places tr : List ℕ} {i : ℕ} {bs : List ℕ} (a : ChildAsked source pool places tr i bs) {o : ℕ} → ((c : ChildThere tr i) → ElementAt tr o (c .type) (c .inside))
     → FirstThere (tableBy source) tr o
 child-first a found = record { type = a .type; inside = a .inside; element = found (child-sought a); is-type = a .is-type; holds = a .child .holds }
+
+-- what it holds begins within the document
+pub child-within : {source pool places tr : List ℕ} {i : ℕ} {bs : List ℕ} (a : ChildAsked source pool places tr i bs) {o : ℕ} → ((c : ChildThere tr i) → ElementAt tr o (c .type) (c .inside))
+    → o + 2 < length tr
+child-within a found = omega (arith, content-within (found (child-sought a) .within))
+
+-- and its row is asked for
+pub child-row : {source pool places tr : List ℕ} {i : ℕ} {bs : List ℕ} (a : ChildAsked source pool places tr i bs) {o : ℕ} → ((c : ChildThere tr i) → ElementAt tr o (c .type) (c .inside))
+    → {part : List ℕ} → part ≡ drop (o + 2) tr → {r : ℕ} → ((c : FirstThere (tableBy source) tr o) → r ≡ sourceRow (tableBy source) (c .type) (firstIn (c .inside)))
+    → RowAsked source pool places part r bs
+child-row {source} {pool} {places} a {o} found {part} is-part {r} row-is =
+    subst (RowAsked source pool places part r) (sym (a .is))
+    (element-row (a .prepared) (a .is-type) (a .child .holds) (inside-part o is-part (found (child-sought a) .within)) (row-is (child-first a found)))

@@ -7,4 +7,5 @@ pub mod RowNumbers
 pub mod Turns
 pub mod Elements
 pub mod Items
+pub mod Loops
 pub mod Whole

@@ -1,5 +1,5 @@
 -- The loop of `same_part`, and the end of a document.
-use mathlib.Core.Path.{_≡_, refl, sym, ap, _∙_}
+use mathlib.Core.Path.{_≡_, refl, sym, ap, _∙_, subst}
 use mathlib.Core.Bool.{Bool, true, false}
 use mathlib.Core.List.{List, [], _∷_, _++_}
 use mathlib.Core.Logic.{_↔_}
@@ -12,7 +12,7 @@ use lib.Dec.{eqb}
 use borrow.Author.Tests.{eqb-true, eq-eqb}
 use Rattle.model.specs.Theorems.Tools.{true-false}
 use Rattle.writing.specs.Laws.{part-cons}
-use Rattle.matching.specs.Same.{Same, Reached, reached-all, reached-more, reached-stops, reached-ends, byte-same, byte-differs}
+use Rattle.matching.specs.Same.{Same, ToCompare, compare-all, compare-turn, compare-stops, all-compared, byte-same, byte-differs}
 
 -- the document ends before the e bytes of `from` do
 pub part-short : (from : List ℕ) (e : ℕ) (doc : List ℕ) (at next : ℕ) → e ≤ length from → length doc - at < e → Same doc at (take e from) false next
@@ -27,10 +27,10 @@ part-short from e doc at next within short =
 -- the bytes of `from` before index i stand in the document
 pub record PartGoes (from : List ℕ) (e : ℕ) (doc : List ℕ) (at i next : ℕ) : Type 0 where
   pub place : next ≡ at + i
-  pub reached : Reached doc at (take e from) (take (e - i) (drop i from)) next
+  pub left : ToCompare doc at next (take e from) (take (e - i) (drop i from))
 
 pub part-goes : (from : List ℕ) (e : ℕ) {doc : List ℕ} {at : ℕ} → at ≤ length doc → PartGoes from e doc at 0 at
-part-goes from e {at = at} within = let all : e - 0 ≡ e = omega arith in record { place = sym (add-zero at); reached = rw all (reached-all within) }
+part-goes from e {at = at} within = let all : e - 0 ≡ e = omega arith in record { place = sym (add-zero at); left = rw all (compare-all within _) }
 
 module _ {from : List ℕ} {e : ℕ} {doc : List ℕ} {at i next : ℕ} (g : PartGoes from e doc at i next) where
   module _ (less : i < e) where
@@ -43,17 +43,17 @@ module _ {from : List ℕ} {e : ℕ} {doc : List ℕ} {at i next : ℕ} (g : Par
       part-on room same =
           record {
             place = omega (arith, g .place);
-            reached = reached-more (g .reached) (getD from i 0 ∷ []) (take (e - (i + 1)) (drop (i + 1) from)) (part-cons from i e less within)
-                (byte-same doc next (getD from i 0) (part-inside room) same) refl;
+            left = compare-turn refl .takes (g .left) (getD from i 0 ∷ []) (take (e - (i + 1)) (drop (i + 1) from)) (part-cons from i e less within)
+                (byte-same doc next (getD from i 0) (part-inside room) same);
           }
 
       pub part-stops : (getD doc next 0 ≡ getD from i 0 → ⊥) → Same doc at (take e from) false at
       part-stops other =
-          reached-stops (g .reached) (getD from i 0 ∷ []) (take (e - (i + 1)) (drop (i + 1) from)) (part-cons from i e less within)
-          (byte-differs doc next (getD from i 0) at (λ inside same. other same)) refl
+          compare-stops refl .takes (g .left) (getD from i 0 ∷ []) (take (e - (i + 1)) (drop (i + 1) from)) (part-cons from i e less within)
+          (byte-differs doc next (getD from i 0) at (λ inside same. other same))
 
   pub part-ends : e ≤ i → Same doc at (take e from) true next
-  part-ends all = let none : e - i ≡ 0 = omega arith in reached-ends (g .reached) (rw none refl)
+  part-ends all = let none : e - i ≡ 0 = omega arith in all-compared (subst (ToCompare doc at next (take e from)) (rw none refl) (g .left))
 
 -- bytes stand in a document, and nothing behind them
 pub same-ends : {doc : List ℕ} {at : ℕ} {bs : List ℕ} {b : Bool} {next : ℕ} → Same doc at bs b next → b ≡ true → (eqb next (length doc) ≡ true) ↔ (drop at doc ≡ bs ++ [])

@@ -9,12 +9,12 @@ use native.Mathlib.Omega.{arith}
 use lib.ListN.{length, drop, getD, length-append, length-drop}
 use lib.Seq.{drop-cons}
 use Rattle.model.specs.Theorems.Tools.{true-false}
+use Rattle.filling.specs.Asked.{SomeAsked}
+use Rattle.filling.specs.Loops.{Turn, Roomy}
 
 -- bytes are asked for, and the place is one of the document
-pub record Reads (Asked : List ℕ → Type 0) (at long : ℕ) : Type 0 where
-  pub bytes : List ℕ
-  pub asked : Asked bytes
-  pub within : at ≤ long
+abbrev pub Compares : (List ℕ → Type 0) → ℕ → ℕ → Type 0
+Compares Asked at long = SomeAsked Asked (λ (bs : List ℕ). at ≤ long)
 
 -- `same` says whether the bytes bs stand in the document at offset `at`; then `next` is the offset behind them
 pub record Same (doc : List ℕ) (at : ℕ) (bs : List ℕ) (same : Bool) (next : ℕ) : Type 0 where
@@ -57,43 +57,43 @@ same-stops {bs = bs} first apart cs =
     }
 
 -- Of the bytes `whole`, to be compared at offset `at`, the bytes before `rest` are found, and `rest` is left for offset `next`.
-pub record Reached (doc : List ℕ) (at : ℕ) (whole rest : List ℕ) (next : ℕ) : Type 0 where
+pub record ToCompare (doc : List ℕ) (at next : ℕ) (whole rest : List ℕ) : Type 0 where
   pub done : List ℕ
   pub split : whole ≡ done ++ rest
   pub found : Same doc at done true next
 
-module _ {doc : List ℕ} {at : ℕ} {whole : List ℕ} where
-  -- at first all is left
-  pub reached-all : at ≤ length doc → Reached doc at whole whole at
-  reached-all h = record { done = []; split = refl; found = same-none doc at h }
+-- at first all is left
+pub compare-all : {doc : List ℕ} {at : ℕ} → at ≤ length doc → (whole : List ℕ) → ToCompare doc at at whole whole
+compare-all h whole = record { done = []; split = refl; found = same-none _ _ h }
 
-  module _ {rest : List ℕ} {next : ℕ} (g : Reached doc at whole rest next) where
-    -- the next offset is one of the document, and not before the first
-    pub reached-within : next ≤ length doc
-    reached-within = g .found .within refl
+module _ {doc : List ℕ} {at next : ℕ} where
+  -- the next offset is one of the document
+  pub compare-room : {whole : List ℕ} → Roomy (ToCompare doc at next whole) (λ (bs : List ℕ). next ≤ length doc)
+  compare-room = record { room = λ g bs more e. g .found .within refl }
 
-    pub reached-later : at ≤ next
-    reached-later = omega (arith, g .found .place refl)
+  again : {whole rest : List ℕ} (g : ToCompare doc at next whole rest) (bs more : List ℕ) → rest ≡ bs ++ more → whole ≡ (g .done ++ bs) ++ more
+  again g bs more e = g .split ∙ ap (λ (r : List ℕ). g .done ++ r) e ∙ sym (append-assoc (g .done) bs more)
 
-    module _ (bs more : List ℕ) (e : rest ≡ bs ++ more) {b : Bool} {after : ℕ} (s : Same doc next bs b after) where
-      again : whole ≡ (g .done ++ bs) ++ more
-      again = g .split ∙ ap (λ (r : List ℕ). g .done ++ r) e ∙ sym (append-assoc (g .done) bs more)
-
-      -- the next bytes stand there
-      pub reached-more : b ≡ true → Reached doc at whole more after
-      reached-more agrees = record { done = g .done ++ bs; split = again; found = subst (λ (c : Bool). Same doc at (g .done ++ bs) c after) agrees (same-then (g .found) refl s) }
-
-      -- they do not
-      pub reached-stops : b ≡ false → Same doc at whole b after
-      reached-stops apart = rw again (same-stops (same-then (g .found) refl s) apart more)
-
-    -- nothing is left
-    pub reached-ends : rest ≡ [] → Same doc at whole true next
-    reached-ends none = rw (g .split ∙ ap (λ (r : List ℕ). g .done ++ r) none ∙ append-nil (g .done)) (g .found)
-
+  module _ {b : Bool} {after : ℕ} where
     -- the last bytes are compared
-    pub reached-last : {bs : List ℕ} → rest ≡ bs → {b : Bool} {after : ℕ} → Same doc next bs b after → Same doc at whole b after
-    reached-last {bs} e s = rw (g .split ∙ ap (λ (r : List ℕ). g .done ++ r) e) (same-then (g .found) refl s)
+    pub compare-last : {whole bs : List ℕ} → ToCompare doc at next whole bs → Same doc next bs b after → Same doc at whole b after
+    compare-last g s = rw (g .split) (same-then (g .found) refl s)
+
+    -- the next bytes stand there
+    pub compare-turn : b ≡ true → Turn (ToCompare doc at next) (ToCompare doc at after) (λ (bs : List ℕ). Same doc next bs b after)
+    compare-turn agrees =
+        record {
+          takes = λ g bs more e s.
+              record { done = g .done ++ bs; split = again g bs more e; found = subst (λ (c : Bool). Same doc at (g .done ++ bs) c after) agrees (same-then (g .found) refl s) };
+        }
+
+    -- they do not
+    pub compare-stops : b ≡ false → Turn (ToCompare doc at next) (λ (whole rest : List ℕ). Same doc at whole b after) (λ (bs : List ℕ). Same doc next bs b after)
+    compare-stops apart = record { takes = λ g bs more e s. rw (again g bs more e) (same-stops (same-then (g .found) refl s) apart more) }
+
+  -- nothing is left
+  pub all-compared : {whole : List ℕ} → ToCompare doc at next whole [] → Same doc at whole true next
+  all-compared g = rw (g .split ∙ append-nil (g .done)) (g .found)
 
 -- one byte
 pub byte-same : (doc : List ℕ) (at b : ℕ) → at < length doc → getD doc at 0 ≡ b → Same doc at (b ∷ []) true (at + 1)

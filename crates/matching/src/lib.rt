@@ -7,7 +7,7 @@ ghost use Prim.Native.Nat.{ℕ, _≤_};
 ghost use lib.ListN.{length, take, drop};
 ghost use Rattle.scanning.specs.Spanning.{Spans};
 ghost use Rattle.filling.specs.Asked.{FillerAsked, PlainAsked, ChildAsked, ItemsAsked, RowAsked, ImageAsked};
-ghost use Rattle.matching.specs.Same.{Same, Reads};
+ghost use Rattle.matching.specs.Same.{Same, Compares};
 use codes::CLOSES;
 use codes::MAX_MEMBERS;
 use codes::OPENS;
@@ -83,7 +83,7 @@ fn same_part<'a>(from: &'a [u8], e: usize, doc: &'a [u8], at: usize) -> Match
 
 // Compares a filler element of target type t: one for each symbol of its row.
 fn filler<'a>(pool: &'a [u8], places: &'a [u32], t: u8, doc: &'a [u8], at: usize) -> Match
-    requires { ⌜ Reads (FillerAsked (now pool) (now places) t) at (length (now doc)) ⌝ }
+    requires { ⌜ Compares (FillerAsked (now pool) (now places) t) at (length (now doc)) ⌝ }
     ensures { λ r. ⌜ ((bs : List ℕ) → FillerAsked (now (pool .entry)) (now (places .entry)) t bs → Same (now (doc .entry)) at bs (r .same) (r .at)) ⌝ }
 {
     let row = wide(t);
@@ -108,7 +108,7 @@ fn filler<'a>(pool: &'a [u8], places: &'a [u32], t: u8, doc: &'a [u8], at: usize
 
 // Compares a filler element of target type t. Most rows of filler are empty, and these elements are compared without recursion.
 fn filler_element<'a>(pool: &'a [u8], places: &'a [u32], t: u8, doc: &'a [u8], at: usize) -> Match
-    requires { ⌜ Reads (FillerAsked (now pool) (now places) t) at (length (now doc)) ⌝ }
+    requires { ⌜ Compares (FillerAsked (now pool) (now places) t) at (length (now doc)) ⌝ }
     ensures { λ r. ⌜ ((bs : List ℕ) → FillerAsked (now (pool .entry)) (now (places .entry)) t bs → Same (now (doc .entry)) at bs (r .same) (r .at)) ⌝ }
 {
     let row = wide(t);
@@ -135,7 +135,7 @@ fn plain<'a>(
     at: usize,
 ) -> Match
     requires spans { ⌜ Spans (now tr) (now sp) ⌝ }
-    requires task { ⌜ Reads (PlainAsked (now pool) (now places) (now tr) x) at (length (now doc)) ⌝ }
+    requires task { ⌜ Compares (PlainAsked (now pool) (now places) (now tr) x) at (length (now doc)) ⌝ }
     ensures { λ r. ⌜ ((bs : List ℕ) → PlainAsked (now (pool .entry)) (now (places .entry)) (now (tr .entry)) x bs → Same (now (doc .entry)) at bs (r .same) (r .at)) ⌝ }
 {
     if x < FILLER {
@@ -163,7 +163,7 @@ fn run<'a>(
     at: usize,
 ) -> Match
     requires spans { ⌜ Spans (now tr) (now sp) ⌝ }
-    requires task { ⌜ Reads (RowAsked (now source) (now pool) (now places) (now tr) r) at (length (now doc)) ⌝ }
+    requires task { ⌜ Compares (RowAsked (now source) (now pool) (now places) (now tr) r) at (length (now doc)) ⌝ }
     ensures { λ r′. ⌜ ((bs : List ℕ) → RowAsked (now (source .entry)) (now (pool .entry)) (now (places .entry)) (now (tr .entry)) r bs → Same (now (doc .entry)) at bs (r′ .same) (r′ .at)) ⌝ }
 {
     let to = rows::to(places, r);
@@ -203,7 +203,7 @@ fn child<'a>(
     at: usize,
 ) -> Match
     requires spans { ⌜ Spans (now tr) (now sp) ⌝ }
-    requires task { ⌜ Reads (ChildAsked (now source) (now pool) (now places) (now tr) i) at (length (now doc)) ⌝ }
+    requires task { ⌜ Compares (ChildAsked (now source) (now pool) (now places) (now tr) i) at (length (now doc)) ⌝ }
     ensures { λ r. ⌜ ((bs : List ℕ) → ChildAsked (now (source .entry)) (now (pool .entry)) (now (places .entry)) (now (tr .entry)) i bs → Same (now (doc .entry)) at bs (r .same) (r .at)) ⌝ }
 {
     let o = element_at(tr, sp, i);
@@ -233,7 +233,7 @@ fn items<'a>(
     at: usize,
 ) -> Match
     requires spans { ⌜ Spans (now tr) (now sp) ⌝ }
-    requires task { ⌜ Reads (ItemsAsked (now source) (now pool) (now places) (now tr) r) at (length (now doc)) ⌝ }
+    requires task { ⌜ Compares (ItemsAsked (now source) (now pool) (now places) (now tr) r) at (length (now doc)) ⌝ }
     ensures { λ r′. ⌜ ((bs : List ℕ) → ItemsAsked (now (source .entry)) (now (pool .entry)) (now (places .entry)) (now (tr .entry)) r bs → Same (now (doc .entry)) at bs (r′ .same) (r′ .at)) ⌝ }
 {
     let mut o: usize = 0;

@@ -10,9 +10,9 @@ use Rattle.scanning.specs.Laws.{content-within}
 use Rattle.scanning.specs.Spanning.{spans-part}
 use Rattle.filling.specs.RowNumbers.{rank, rank-bounds, item-rank}
 use Rattle.filling.specs.Turns.{row-there, items-rank}
-use Rattle.filling.specs.Elements.{child-sought, child-first, child-row}
-use Rattle.filling.proofs.Running.{RowGoes, row-goes, row-written, row-symbol-there, items-fit, child-fits, plain-fits, items-turn, child-turn, plain-turn}
-use Rattle.filling.proofs.Listing.{ListGoes, list-goes, list-within, list-written, item-fits, item-inside, item-passed, item-turn}
+use Rattle.filling.specs.Elements.{child-sought, child-first, child-within, child-row}
+use Rattle.filling.specs.Loops.{RowGoes, row-goes, row-last, row-less, row-symbol-there, asks-items, asks-child, asks-plain, items-done, child-done, plain-done, ListGoes, list-goes, list-within, list-last, item-inside, item-passed, item-asks, item-on}
+use Rattle.filling.proofs.Writing.{ToWrite, write-all, write-room, write-turn, all-written, row-writes}
 use Prim.Native.Nat.{ℕ, _<_}
 use borrow.Fn.Kinds.{In}
 use borrow.Fn.PlainCycle.{Measures, is, falls, and}
@@ -74,307 +74,135 @@ items-calls t = (run-below t, run.Post, close-of-reads.Asked, close-of-reads.Lea
 abbrev run-calls : ℕ → run-lts.Claims
 run-calls t = (to-reads.Asked, to-reads.Learnt, from-reads.Asked, from-reads.Learnt, child-of-reads.Asked, child-of-reads.Learnt, items-below t, items.Post, child-below t, child.Post, plain-reads.Asked, plain-reads.Learnt)
 
-child-element-at-requires : (t : ℕ) → child-lts.Need-element-at-requires (child-calls t) (child-at t) child.Post
-child-element-at-requires t c κs =
-    let start = c .before .before .before .before .before in
-    (start .pre .1 .0, child-sought (start .pre .1 .1 .asked))
-
-child-row-of-requires : (t : ℕ) → child-lts.Need-row-of-requires (child-calls t) (child-at t) child.Post
-child-row-of-requires t c κs =
-    let start = c .before .before .before .before .before .before in
-    let a = start .pre .1 .1 .asked in
-    (a .prepared .ready .source-bounded, child-first a (c .element-at .ensures))
-
-child-add-inside : (t : ℕ) → child-lts.Need-add-inside (child-calls t) (child-at t) child.Post
-child-add-inside t c =
-    let start = c .before .before .before .before .before .before .before in
-    let found = c .before .element-at .ensures (child-sought (start .pre .1 .1 .asked)) in
-    omega (arith, content-within (found .within), start .pre .1 .0 .short)
-
-child-sub-run : (t : ℕ) → child-lts.Need-sub-run (child-calls t) (child-at t) child.Post
-child-sub-run t c =
-    let start = c .before .before .before .before .before .before .before in
-    let found = c .before .element-at .ensures (child-sought (start .pre .1 .1 .asked)) in
-    omega (arith, content-within (found .within))
-
-child-part-run-start : (t : ℕ) → child-lts.Need-part-run-start (child-calls t) (child-at t) child.Post
-child-part-run-start t c =
-    let start = c .before .before .before .before .before .before .before in
-    let found = c .before .element-at .ensures (child-sought (start .pre .1 .1 .asked)) in
-    omega (arith, content-within (found .within))
-
-child-part-run-end : (t : ℕ) → child-lts.Need-part-run-end (child-calls t) (child-at t) child.Post
-child-part-run-end t c = omega arith
-
-child-mul-run : (t : ℕ) → child-lts.Need-mul-run (child-calls t) (child-at t) child.Post
-child-mul-run t c =
-    let start = c .before .before .before .before .before .before .before .before in
-    let found = c .before .before .element-at .ensures (child-sought (start .pre .1 .1 .asked)) in
-    omega (arith, content-within (found .within), start .pre .1 .0 .short)
-
-child-sub-run-2 : (t : ℕ) → child-lts.Need-sub-run-2 (child-calls t) (child-at t) child.Post
-child-sub-run-2 t c =
-    let start = c .before .before .before .before .before .before .before .before in
-    let found = c .before .before .element-at .ensures (child-sought (start .pre .1 .1 .asked)) in
-    omega (arith, content-within (found .within), start .pre .1 .0 .whole)
-
-child-part-run-start-2 : (t : ℕ) → child-lts.Need-part-run-start-2 (child-calls t) (child-at t) child.Post
-child-part-run-start-2 t c =
-    let start = c .before .before .before .before .before .before .before .before in
-    let found = c .before .before .element-at .ensures (child-sought (start .pre .1 .1 .asked)) in
-    omega (arith, content-within (found .within), start .pre .1 .0 .whole)
-
-child-part-run-end-2 : (t : ℕ) → child-lts.Need-part-run-end-2 (child-calls t) (child-at t) child.Post
-child-part-run-end-2 t c = omega arith
-
 child-run-requires : (t : ℕ) → child-lts.Need-run-requires (child-calls t) (child-at t) child.Post
 child-run-requires t c κs =
     let start = c .before .before .before .before .before .before .before .before .before .before in
     let f = start .pre .1 .1 in
     let found = c .before .before .before .before .element-at .ensures in
+    let row = c .before .before .before .row-of in
     let o = c .before .before .before .before .element-at .result + 2 in
     let is-part = part-to-end (start .args .tr .now) o in
-    (omega (arith, start .pre .0, content-within (found (child-sought (f .asked)) .within), rank-bounds (c .before .before .before .row-of .result) .1, c .before .before .run-arg .given .2), (spans-part o (start .pre .1 .0) is-part (part-to-end (start .args .sp .now) o), record { bytes = f .bytes; asked = child-row (f .asked) (found (child-sought (f .asked))) is-part (c .before .before .before .row-of .ensures (child-first (f .asked) found)); room = f .room }))
-
-child-same-length : (t : ℕ) → child-lts.Need-same-length (child-calls t) (child-at t) child.Post
-child-same-length t c =
-    let start = c .before .before .before .before .before .before .before .before .before .before .before .before .before in
-    let a = start .pre .1 .1 .asked in
-    let found = c .before .before .before .before .before .before .before .element-at .ensures in
-    let is-part = part-to-end (start .args .tr .now) (c .before .before .before .before .before .before .before .element-at .result + 2) in
-    writes-length (c .before .before .run .ensures _ (child-row a (found (child-sought a)) is-part (c .before .before .before .before .before .before .row-of .ensures (child-first a found))))
+    (omega (arith, start .pre .0, child-within (f .asked) found, rank-bounds (row .result) .1, c .before .before .run-arg .given .2), (spans-part o (start .pre .1 .0) is-part (part-to-end (start .args .sp .now) o), record { bytes = f .bytes; asked = child-row (f .asked) found is-part (row .ensures); room = f .room }))
 
 child-returns : (t : ℕ) → child-lts.Need-returns (child-calls t) (child-at t) child.Post
 child-returns t c =
-    let start = c .before .before .before .before .before .before .before .before .before .before .before .before .before in
-    let found = c .before .before .before .before .before .before .before .element-at .ensures in
-    let is-part = part-to-end (start .args .tr .now) (c .before .before .before .before .before .before .before .element-at .result + 2) in
-    λ bs a. c .before .before .run .ensures bs (child-row a (found (child-sought a)) is-part (c .before .before .before .before .before .before .row-of .ensures (child-first a found)))
+    let found = c .before .before .before .before .before .before .before .element-at in
+    λ bs a. c .before .before .run .ensures bs (child-row a (found .ensures) (part-to-end (c .before .before .before .before .before .before .before .before .before .before .before .before .before .args .tr .now) (found .result + 2)) (c .before .before .before .before .before .before .row-of .ensures))
 
 abbrev items-Inv-loop : items-lts.InvT-loop
-items-Inv-loop source pool places tr sp r out₀ at o₀ next₀ out o next = ListGoes source pool places tr r out₀ at out o next
+items-Inv-loop source pool places tr sp r out₀ at o₀ next₀ out o next = ListGoes source pool places tr r o (ToWrite out₀ at out next)
 
 abbrev items-μ-loop : items-lts.MeasureT-loop
 items-μ-loop source pool places tr sp r out₀ at o₀ next₀ out o next = length tr - o
-
-items-loop-holds : (t : ℕ) → items-lts.Need-loop-holds (items-calls t) (items-at t) items.Post items-Inv-loop items-μ-loop
-items-loop-holds t c = list-goes
-
-items-shared-slice-read-if1 : (t : ℕ) → items-lts.Need-shared-slice-read-if1 (items-calls t) (items-at t) items.Post items-Inv-loop items-μ-loop
-items-shared-slice-read-if1 t c =
-    let f = c .before .before .before .before .before .before .before .pre .1 .1 in
-    list-within (f .asked) _ (f .room) (c .before .loop .inv)
-
-items-sub-run : (t : ℕ) → items-lts.Need-sub-run (items-calls t) (items-at t) items.Post items-Inv-loop items-μ-loop
-items-sub-run t c =
-    let f = c .before .before .before .before .before .before .before .before .pre .1 .1 in
-    omega (arith, list-within (f .asked) _ (f .room) (c .before .before .loop .inv))
-
-items-part-run-start : (t : ℕ) → items-lts.Need-part-run-start (items-calls t) (items-at t) items.Post items-Inv-loop items-μ-loop
-items-part-run-start t c =
-    let f = c .before .before .before .before .before .before .before .before .pre .1 .1 in
-    omega (arith, list-within (f .asked) _ (f .room) (c .before .before .loop .inv))
-
-items-part-run-end : (t : ℕ) → items-lts.Need-part-run-end (items-calls t) (items-at t) items.Post items-Inv-loop items-μ-loop
-items-part-run-end t c = omega arith
-
-items-mul-run : (t : ℕ) → items-lts.Need-mul-run (items-calls t) (items-at t) items.Post items-Inv-loop items-μ-loop
-items-mul-run t c =
-    let start = c .before .before .before .before .before .before .before .before .before in
-    let f = start .pre .1 .1 in
-    omega (arith, list-within (f .asked) _ (f .room) (c .before .before .before .loop .inv), start .pre .1 .0 .short)
-
-items-sub-run-2 : (t : ℕ) → items-lts.Need-sub-run-2 (items-calls t) (items-at t) items.Post items-Inv-loop items-μ-loop
-items-sub-run-2 t c =
-    let start = c .before .before .before .before .before .before .before .before .before in
-    let f = start .pre .1 .1 in
-    omega (arith, list-within (f .asked) _ (f .room) (c .before .before .before .loop .inv), start .pre .1 .0 .whole)
-
-items-part-run-start-2 : (t : ℕ) → items-lts.Need-part-run-start-2 (items-calls t) (items-at t) items.Post items-Inv-loop items-μ-loop
-items-part-run-start-2 t c =
-    let start = c .before .before .before .before .before .before .before .before .before in
-    let f = start .pre .1 .1 in
-    omega (arith, list-within (f .asked) _ (f .room) (c .before .before .before .loop .inv), start .pre .1 .0 .whole)
-
-items-part-run-end-2 : (t : ℕ) → items-lts.Need-part-run-end-2 (items-calls t) (items-at t) items.Post items-Inv-loop items-μ-loop
-items-part-run-end-2 t c = omega arith
 
 items-run-requires : (t : ℕ) → items-lts.Need-run-requires (items-calls t) (items-at t) items.Post items-Inv-loop items-μ-loop
 items-run-requires t c κs =
     let start = c .before .before .before .before .before .before .before .before .before .before .before in
     let f = start .pre .1 .1 in
-    let o = c .before .before .before .before .before .loop .o in
-    let is-part = part-to-end (start .args .tr .now) o in
-    (omega (arith, start .pre .0, item-rank (f .asked .listed .type) (start .args .r) (f .asked .listed .is-row), c .before .before .run-arg .given .2), (spans-part o (start .pre .1 .0) is-part (part-to-end (start .args .sp .now) o), item-fits (f .asked) _ (f .room) (c .before .before .before .before .before .loop .inv) (c .before .before .before .if1 .taken) is-part))
-
-items-add-close-of : (t : ℕ) → items-lts.Need-add-close-of (items-calls t) (items-at t) items.Post items-Inv-loop items-μ-loop
-items-add-close-of t c =
-    let start = c .before .before .before .before .before .before .before .before .before .before .before .before .before .before in
-    let f = start .pre .1 .1 in
-    let k = item-inside (f .asked) _ (f .room) (c .before .before .before .before .before .before .before .before .loop .inv) (c .before .before .before .before .before .before .if1 .taken) in
-    omega (arith, content-within (k .1), start .pre .1 .0 .short)
-
-items-close-of-requires : (t : ℕ) → items-lts.Need-close-of-requires (items-calls t) (items-at t) items.Post items-Inv-loop items-μ-loop
-items-close-of-requires t c κs =
-    let start = c .before .before .before .before .before .before .before .before .before .before .before .before .before .before in
-    let f = start .pre .1 .1 in
-    (start .pre .1 .0, item-inside (f .asked) _ (f .room) (c .before .before .before .before .before .before .before .before .loop .inv) (c .before .before .before .before .before .before .if1 .taken))
-
-items-add-o : (t : ℕ) → items-lts.Need-add-o (items-calls t) (items-at t) items.Post items-Inv-loop items-μ-loop
-items-add-o t c =
-    let start = c .before .before .before .before .before .before .before .before .before .before .before .before .before .before .before in
-    let f = start .pre .1 .1 in
-    let far = item-passed (f .asked) _ (f .room) (c .before .before .before .before .before .before .before .before .before .loop .inv) (c .before .before .before .before .before .before .before .if1 .taken) (c .close-of .ensures) in
-    omega (arith, far .1, start .pre .1 .0 .short)
-
-items-loop-less : (t : ℕ) → items-lts.Need-loop-less (items-calls t) (items-at t) items.Post items-Inv-loop items-μ-loop
-items-loop-less t c =
-    let f = c .before .before .before .before .before .before .before .before .before .before .before .before .before .before .before .pre .1 .1 in
-    let far = item-passed (f .asked) _ (f .room) (c .before .before .before .before .before .before .before .before .before .loop .inv) (c .before .before .before .before .before .before .before .if1 .taken) (c .close-of .ensures) in
-    omega (arith, far .0, far .1)
+    let l = c .before .before .before .before .before .loop in
+    let is-part = part-to-end (start .args .tr .now) (l .o) in
+    (omega (arith, start .pre .0, item-rank (f .asked .listed .type) (start .args .r) (f .asked .listed .is-row), c .before .before .run-arg .given .2), (spans-part (l .o) (start .pre .1 .0) is-part (part-to-end (start .args .sp .now) (l .o)), item-asks (l .inv) (c .before .before .before .if1 .taken) is-part (f .asked) (write-room (f .room))))
 
 items-loop-again : (t : ℕ) → items-lts.Need-loop-again (items-calls t) (items-at t) items.Post items-Inv-loop items-μ-loop
 items-loop-again t c =
-    let start = c .before .before .before .before .before .before .before .before .before .before .before .before .before .before .before in
-    let f = start .pre .1 .1 in
-    item-turn (f .asked) _ (f .room) (c .before .before .before .before .before .before .before .before .before .loop .inv) (c .before .before .before .before .before .before .before .if1 .taken) (part-to-end (start .args .tr .now) (c .before .before .before .before .before .before .before .before .before .loop .o)) (c .before .before .before .run .ensures) (c .close-of .ensures)
-
-items-same-length : (t : ℕ) → items-lts.Need-same-length (items-calls t) (items-at t) items.Post items-Inv-loop items-μ-loop
-items-same-length t c = c .before .before .loop .inv .long
+    let l = c .before .before .before .before .before .before .before .before .before .loop in
+    item-on (l .inv) (c .before .before .before .before .before .before .before .if1 .taken) (part-to-end (c .before .before .before .before .before .before .before .before .before .before .before .before .before .before .before .args .tr .now) (l .o)) write-turn (c .before .before .before .run .ensures) (c .close-of .ensures)
 
 items-returns : (t : ℕ) → items-lts.Need-returns (items-calls t) (items-at t) items.Post items-Inv-loop items-μ-loop
-items-returns t c =
-    let f = c .before .before .before .before .before .before .before .before .pre .1 .1 in
-    list-written (f .asked) _ (f .room) (c .before .before .loop .inv) (c .if1 .left)
+items-returns t c bs a = all-written (list-last (c .before .before .loop .inv) (c .if1 .left) bs a)
 
 abbrev run-Inv-loop : run-lts.InvT-loop
-run-Inv-loop source pool places tr sp r out₀ at to i₀ next₀ out i next = RowGoes source pool places tr r out₀ at to out i next
+run-Inv-loop source pool places tr sp r out₀ at to i₀ next₀ out i next = RowGoes source pool places tr r to i (ToWrite out₀ at out next)
 
 abbrev run-μ-loop : run-lts.MeasureT-loop
 run-μ-loop source pool places tr sp r out₀ at to i₀ next₀ out i next = to - i
-
-run-to-requires : (t : ℕ) → run-lts.Need-to-requires (run-calls t) (run-at t) run.Post run-Inv-loop run-μ-loop
-run-to-requires t c κs = row-there (c .before .before .before .before .before .pre .1 .1 .asked)
-
-run-from-requires : (t : ℕ) → run-lts.Need-from-requires (run-calls t) (run-at t) run.Post run-Inv-loop run-μ-loop
-run-from-requires t c κs = row-there (c .before .before .before .before .before .before .pre .1 .1 .asked)
-
-run-loop-holds : (t : ℕ) → run-lts.Need-loop-holds (run-calls t) (run-at t) run.Post run-Inv-loop run-μ-loop
-run-loop-holds t c = row-goes _ (c .before .to .ensures) (c .from .ensures)
-
-run-shared-slice-read-x : (t : ℕ) → run-lts.Need-shared-slice-read-x (run-calls t) (run-at t) run.Post run-Inv-loop run-μ-loop
-run-shared-slice-read-x t c =
-    let f = c .before .before .before .before .before .before .before .before .before .before .pre .1 .1 in
-    row-symbol-there (f .asked) _ (f .room) (c .before .before .loop .inv) (c .before .loop-test .taken)
-
-run-child-of-requires : (t : ℕ) → run-lts.Need-child-of-requires (run-calls t) (run-at t) run.Post run-Inv-loop run-μ-loop
-run-child-of-requires t c κs = tt
-
-run-add-items : (t : ℕ) → run-lts.Need-add-items (run-calls t) (run-at t) run.Post run-Inv-loop run-μ-loop
-run-add-items t c =
-    let start = c .before .before .before .before .before .before .before .before .before .before .before .before in
-    omega (arith, row-there (start .pre .1 .1 .asked), start .good .1 .1 .0)
 
 run-items-requires : (t : ℕ) → run-lts.Need-items-requires (run-calls t) (run-at t) run.Post run-Inv-loop run-μ-loop
 run-items-requires t c κs =
     let start = c .before .before .before .before .before .before .before .before .before .before .before .before .before in
     let f = start .pre .1 .1 in
     let g = c .before .before .before .before .before .loop .inv in
+    let h = c .before .before .before .before .loop-test .taken in
     let e = c .before .if1 .taken in
-    (omega (arith, start .pre .0, items-rank (f .asked) (c .before .before .before .before .before .loop .i) (g .low) (omega (arith, g .ends, c .before .before .before .before .loop-test .taken)) e), (start .pre .1 .0, items-fit (f .asked) _ (f .room) g (c .before .before .before .before .loop-test .taken) e))
+    (omega (arith, start .pre .0, items-rank (f .asked) (c .before .before .before .before .before .loop .i) (g .low) (row-less g h) e), (start .pre .1 .0, asks-items g h (f .asked) (write-room (f .room)) e))
 
 run-child-requires : (t : ℕ) → run-lts.Need-child-requires (run-calls t) (run-at t) run.Post run-Inv-loop run-μ-loop
 run-child-requires t c κs =
     let start = c .before .before .before .before .before .before .before .before .before .before .before .before .before .before in
     let f = start .pre .1 .1 in
-    (omega (arith, start .pre .0, rank-bounds (start .args .r) .0), (start .pre .1 .0, child-fits (f .asked) _ (f .room) (c .before .before .before .before .before .before .loop .inv) (c .before .before .before .before .before .loop-test .taken) (c .before .before .before .child-of .ensures .0 (c .before .if2 .taken))))
+    (omega (arith, start .pre .0, rank-bounds (start .args .r) .0), (start .pre .1 .0, asks-child (c .before .before .before .before .before .before .loop .inv) (c .before .before .before .before .before .loop-test .taken) (f .asked) (write-room (f .room)) (c .before .before .before .child-of .ensures .0 (c .before .if2 .taken))))
 
 run-plain-requires : (t : ℕ) → run-lts.Need-plain-requires (run-calls t) (run-at t) run.Post run-Inv-loop run-μ-loop
 run-plain-requires t c κs =
     let start = c .before .before .before .before .before .before .before .before .before .before .before .before .before .before in
     let f = start .pre .1 .1 in
-    (start .pre .1 .0, plain-fits (f .asked) _ (f .room) (c .before .before .before .before .before .before .loop .inv) (c .before .before .before .before .before .loop-test .taken) (c .before .before .before .child-of .ensures .1 (c .before .if2 .left)) (c .before .before .if1 .left))
-
-run-add-i : (t : ℕ) → run-lts.Need-add-i (run-calls t) (run-at t) run.Post run-Inv-loop run-μ-loop
-run-add-i t c =
-    let start = c .before .before .before .before .before .before .before .before .before .before .before .before in
-    let f = start .pre .1 .1 in
-    omega (arith, row-symbol-there (f .asked) _ (f .room) (c .before .before .before .before .loop .inv) (c .before .before .before .loop-test .taken), start .good .1 .0)
-
-run-loop-less : (t : ℕ) → run-lts.Need-loop-less (run-calls t) (run-at t) run.Post run-Inv-loop run-μ-loop
-run-loop-less t c = omega (arith, c .before .before .before .loop-test .taken)
+    (start .pre .1 .0, asks-plain (c .before .before .before .before .before .before .loop .inv) (c .before .before .before .before .before .loop-test .taken) (f .asked) (write-room (f .room)) (c .before .before .before .child-of .ensures .1 (c .before .if2 .left)) (c .before .before .if1 .left))
 
 run-loop-again : (t : ℕ) → run-lts.Need-loop-again (run-calls t) (run-at t) run.Post run-Inv-loop run-μ-loop
 run-loop-again t c =
-    let f = c .before .before .before .before .before .before .before .before .before .before .before .before .pre .1 .1 in
     let g = c .before .before .before .before .loop .inv in
     let h = c .before .before .before .loop-test .taken in
     let number = c .before .child-of .ensures in
     ⊎-elim
-    (λ w. items-turn (f .asked) _ (f .room) g h (w .5) (w .6) (w .0 .taken) (w .2 .ensures))
-    (λ v. ⊎-elim (λ w. child-turn (f .asked) _ (f .room) g h (w .6) (w .7) (number .0 (w .1 .taken)) (w .3 .ensures)) (λ w. plain-turn (f .asked) _ (f .room) g h (w .6) (w .7) (number .1 (w .1 .left)) (w .0 .left) (w .3 .ensures)) v)
+    (λ w. row-writes g h (w .5) (w .6) (items-done g h (w .0 .taken) (w .2 .ensures)))
+    (λ v. ⊎-elim (λ w. row-writes g h (w .6) (w .7) (child-done g h (number .0 (w .1 .taken)) (w .3 .ensures))) (λ w. row-writes g h (w .6) (w .7) (plain-done g h (number .1 (w .1 .left)) (w .0 .left) (w .3 .ensures))) v)
     (c .if1 .came)
 
-run-same-length : (t : ℕ) → run-lts.Need-same-length (run-calls t) (run-at t) run.Post run-Inv-loop run-μ-loop
-run-same-length t c = c .before .loop .inv .long
-
 run-returns : (t : ℕ) → run-lts.Need-returns (run-calls t) (run-at t) run.Post run-Inv-loop run-μ-loop
-run-returns t c =
-    let f = c .before .before .before .before .before .before .before .before .before .pre .1 .1 in
-    row-written (f .asked) _ (f .room) (c .before .loop .inv) (c .loop-test .left)
+run-returns t c bs a = all-written (row-last (c .before .loop .inv) (c .loop-test .left) bs a)
 
 pub +child+items+run-spec : {M : Type 1} → statement M
 +child+items+run-spec = close μ-child μ-items μ-run (λ t. child-lts.spec (child-calls t) (child-at t)
     child.Post
-    (child-element-at-requires t)
-    (child-row-of-requires t)
-    (child-add-inside t)
-    (child-sub-run t)
-    (child-part-run-start t)
-    (child-part-run-end t)
-    (child-mul-run t)
-    (child-sub-run-2 t)
-    (child-part-run-start-2 t)
-    (child-part-run-end-2 t)
+    (λ c κs. let start = c .before .before .before .before .before in (start .pre .1 .0, child-sought (start .pre .1 .1 .asked)))
+    (λ c κs. let a = c .before .before .before .before .before .before .pre .1 .1 .asked in (a .prepared .ready .source-bounded, child-first a (c .element-at .ensures)))
+    (λ c. let start = c .before .before .before .before .before .before .before in omega (arith, child-within (start .pre .1 .1 .asked) (c .before .element-at .ensures), start .pre .1 .0 .short))
+    (λ c. omega (arith, child-within (c .before .before .before .before .before .before .before .pre .1 .1 .asked) (c .before .element-at .ensures)))
+    (λ c. omega (arith, child-within (c .before .before .before .before .before .before .before .pre .1 .1 .asked) (c .before .element-at .ensures)))
+    (λ c. omega arith)
+    (λ c. let start = c .before .before .before .before .before .before .before .before in omega (arith, child-within (start .pre .1 .1 .asked) (c .before .before .element-at .ensures), start .pre .1 .0 .short))
+    (λ c. let start = c .before .before .before .before .before .before .before .before in omega (arith, child-within (start .pre .1 .1 .asked) (c .before .before .element-at .ensures), start .pre .1 .0 .whole))
+    (λ c. let start = c .before .before .before .before .before .before .before .before in omega (arith, child-within (start .pre .1 .1 .asked) (c .before .before .element-at .ensures), start .pre .1 .0 .whole))
+    (λ c. omega arith)
     (child-run-requires t)
-    (child-same-length t)
+    (λ c. writes-length (child-returns t c _ (c .before .before .before .before .before .before .before .before .before .before .before .before .before .pre .1 .1 .asked)))
     (child-returns t))
     (λ t. items-lts.spec (items-calls t) (items-at t)
     items.Post
     items-Inv-loop
     items-μ-loop
-    (items-loop-holds t)
-    (items-shared-slice-read-if1 t)
-    (items-sub-run t)
-    (items-part-run-start t)
-    (items-part-run-end t)
-    (items-mul-run t)
-    (items-sub-run-2 t)
-    (items-part-run-start-2 t)
-    (items-part-run-end-2 t)
+    (λ c. list-goes write-all)
+    (λ c. list-within (c .before .loop .inv) (c .before .before .before .before .before .before .before .pre .1 .1 .asked))
+    (λ c. omega (arith, list-within (c .before .before .loop .inv) (c .before .before .before .before .before .before .before .before .pre .1 .1 .asked)))
+    (λ c. omega (arith, list-within (c .before .before .loop .inv) (c .before .before .before .before .before .before .before .before .pre .1 .1 .asked)))
+    (λ c. omega arith)
+    (λ c. let start = c .before .before .before .before .before .before .before .before .before in omega (arith, list-within (c .before .before .before .loop .inv) (start .pre .1 .1 .asked), start .pre .1 .0 .short))
+    (λ c. let start = c .before .before .before .before .before .before .before .before .before in omega (arith, list-within (c .before .before .before .loop .inv) (start .pre .1 .1 .asked), start .pre .1 .0 .whole))
+    (λ c. let start = c .before .before .before .before .before .before .before .before .before in omega (arith, list-within (c .before .before .before .loop .inv) (start .pre .1 .1 .asked), start .pre .1 .0 .whole))
+    (λ c. omega arith)
     (items-run-requires t)
-    (items-add-close-of t)
-    (items-close-of-requires t)
-    (items-add-o t)
-    (items-loop-less t)
+    (λ c. let start = c .before .before .before .before .before .before .before .before .before .before .before .before .before .before in omega (arith, content-within (item-inside (c .before .before .before .before .before .before .before .before .loop .inv) (c .before .before .before .before .before .before .if1 .taken) (start .pre .1 .1 .asked) .1), start .pre .1 .0 .short))
+    (λ c κs. let start = c .before .before .before .before .before .before .before .before .before .before .before .before .before .before in (start .pre .1 .0, item-inside (c .before .before .before .before .before .before .before .before .loop .inv) (c .before .before .before .before .before .before .if1 .taken) (start .pre .1 .1 .asked)))
+    (λ c. let start = c .before .before .before .before .before .before .before .before .before .before .before .before .before .before .before in let l = c .before .before .before .before .before .before .before .before .before in omega (arith, item-passed (l .loop .inv) (c .before .before .before .before .before .before .before .if1 .taken) (start .pre .1 .1 .asked) (c .close-of .ensures) .1, start .pre .1 .0 .short))
+    (λ c. let start = c .before .before .before .before .before .before .before .before .before .before .before .before .before .before .before in let far = item-passed (c .before .before .before .before .before .before .before .before .before .loop .inv) (c .before .before .before .before .before .before .before .if1 .taken) (start .pre .1 .1 .asked) (c .close-of .ensures) in omega (arith, far .0, far .1))
     (items-loop-again t)
-    (items-same-length t)
+    (λ c. writes-length (items-returns t c _ (c .before .before .before .before .before .before .before .before .pre .1 .1 .asked)))
     (items-returns t))
     λ t. run-lts.spec (run-calls t) (run-at t)
     run.Post
     run-Inv-loop
     run-μ-loop
-    (run-to-requires t)
-    (run-from-requires t)
-    (run-loop-holds t)
-    (run-shared-slice-read-x t)
-    (run-child-of-requires t)
-    (run-add-items t)
+    (λ c κs. row-there (c .before .before .before .before .before .pre .1 .1 .asked))
+    (λ c κs. row-there (c .before .before .before .before .before .before .pre .1 .1 .asked))
+    (λ c. row-goes (c .before .to .ensures) (c .from .ensures) write-all)
+    (λ c. row-symbol-there (c .before .before .loop .inv) (c .before .loop-test .taken) (c .before .before .before .before .before .before .before .before .before .before .pre .1 .1 .asked))
+    (λ c κs. tt)
+    (λ c. let start = c .before .before .before .before .before .before .before .before .before .before .before .before in omega (arith, row-there (start .pre .1 .1 .asked), start .good .1 .1 .0))
     (run-items-requires t)
     (run-child-requires t)
     (run-plain-requires t)
-    (run-add-i t)
-    (run-loop-less t)
+    (λ c. let start = c .before .before .before .before .before .before .before .before .before .before .before .before in omega (arith, row-symbol-there (c .before .before .before .before .loop .inv) (c .before .before .before .loop-test .taken) (start .pre .1 .1 .asked), start .good .1 .0))
+    (λ c. omega (arith, c .before .before .before .loop-test .taken))
     (run-loop-again t)
-    (run-same-length t)
+    (λ c. writes-length (run-returns t c _ (c .before .before .before .before .before .before .before .before .before .pre .1 .1 .asked)))
     (run-returns t)

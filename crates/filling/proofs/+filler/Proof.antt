@@ -1,13 +1,15 @@
 -- `filler` meets its contract. The measure is what is left of the output: an element is written behind the opening of the one
 -- that holds it.
-use mathlib.Core.Path.{_∙_, ap}
+use mathlib.Core.Path.{refl, _∙_, ap}
+use mathlib.Core.List.{[], _∷_}
 use Prim.Native.Nat.{_+_, _-_}
 use native.Mathlib.Omega.{arith}
 use lib.ListN.{length}
 use Rattle.rows.specs.Rows.{fromOf, toOf}
 use Rattle.writing.specs.Laws.{writes-length}
 use Rattle.filling.specs.FillerRows.{filler-row-there}
-use Rattle.filling.proofs.Filling.{FillerGoes, filler-opens, filler-inside, goes-starts, symbol-there, symbol-filler, goes-asked, goes-on, goes-room, goes-ends}
+use Rattle.filling.specs.Loops.{FillerGoes, filler-goes, filler-last, filler-symbol-there, filler-symbol-number, filler-asks, filler-on}
+use Rattle.filling.proofs.Writing.{ToWrite, write-all, write-room, write-turn, filler-opens, filler-inside, filler-written}
 use Prim.Native.Nat.{ℕ, _<_}
 use borrow.Fn.Kinds.{In}
 use borrow.Fn.PlainCycle.{Measures, is, falls, and}
@@ -32,7 +34,7 @@ abbrev filler-below : ℕ → In 2 filler-kinds.ps
 filler-below t = and 2 filler-kinds.ps (falls 2 filler-kinds.ps _<_ μ-filler t) filler.Pre
 
 abbrev filler-Inv-loop : filler-lts.InvT-loop
-filler-Inv-loop pool places t out₀ at row to i₀ next₀ out i next = FillerGoes pool places t out₀ next₀ to out i next
+filler-Inv-loop pool places t out₀ at row to i₀ next₀ out i next = FillerGoes pool places t to i (ToWrite out₀ next₀ out next)
 
 abbrev filler-μ-loop : filler-lts.MeasureT-loop
 filler-μ-loop pool places t out₀ at row to i₀ next₀ out i next = to - i
@@ -41,87 +43,50 @@ filler-μ-loop pool places t out₀ at row to i₀ next₀ out i next = to - i
 abbrev filler-calls : ℕ → filler-lts.Claims
 filler-calls t = (wide-reads.Asked, wide-reads.Learnt, to-reads.Asked, to-reads.Learnt, from-reads.Asked, from-reads.Learnt, put-open-reads.Asked, put-open-reads.Learnt, filler-below t, filler.Post, put-close-reads.Asked, put-close-reads.Learnt)
 
-filler-wide-requires : (t : ℕ) → filler-lts.Need-wide-requires (filler-calls t) (filler-at t) filler.Post filler-Inv-loop filler-μ-loop
-filler-wide-requires t c κs = tt
-
-filler-to-requires : (t : ℕ) → filler-lts.Need-to-requires (filler-calls t) (filler-at t) filler.Post filler-Inv-loop filler-μ-loop
-filler-to-requires t c κs = omega (arith, filler-row-there (c .before .before .before .before .pre .1 .asked), c .wide .ensures .0)
-
-filler-from-requires : (t : ℕ) → filler-lts.Need-from-requires (filler-calls t) (filler-at t) filler.Post filler-Inv-loop filler-μ-loop
-filler-from-requires t c κs = omega (arith, filler-row-there (c .before .before .before .before .before .pre .1 .asked), c .before .wide .ensures .0)
-
-filler-put-open-requires : (t : ℕ) → filler-lts.Need-put-open-requires (filler-calls t) (filler-at t) filler.Post filler-Inv-loop filler-μ-loop
-filler-put-open-requires t c κs = filler-opens (c .before .before .before .before .before .before .before .pre .1)
-
 filler-loop-holds : (t : ℕ) → filler-lts.Need-loop-holds (filler-calls t) (filler-at t) filler.Post filler-Inv-loop filler-μ-loop
 filler-loop-holds t c =
-    let start = c .before .before .before .before .before .before .before .before .before .before in
-    goes-starts _ (c .before .before .before .before .before .to .ensures ∙ ap (toOf (start .args .places .now)) (c .before .before .before .before .before .before .wide .ensures .0)) (c .before .before .before .before .from .ensures ∙ ap (fromOf (start .args .places .now)) (c .before .before .before .before .before .before .wide .ensures .0))
+    let opened = c .before .before .before .before in
+    let is-row = opened .before .before .wide .ensures .0 in
+    let places = c .before .before .before .before .before .before .before .before .before .before .args .places .now in
+    filler-goes (opened .before .to .ensures ∙ ap (toOf places) is-row) (opened .from .ensures ∙ ap (fromOf places) is-row) write-all
 
-filler-shared-slice-read-m : (t : ℕ) → filler-lts.Need-shared-slice-read-m (filler-calls t) (filler-at t) filler.Post filler-Inv-loop filler-μ-loop
-filler-shared-slice-read-m t c =
-    let f = c .before .before .before .before .before .before .before .before .before .before .before .before .before .pre .1 in
-    symbol-there (f .asked) _ (filler-inside _ f (c .before .before .before .before .before .put-open .ensures)) (c .before .before .loop .inv) (c .before .loop-test .taken)
-
-filler-sub-m : (t : ℕ) → filler-lts.Need-sub-m (filler-calls t) (filler-at t) filler.Post filler-Inv-loop filler-μ-loop
-filler-sub-m t c =
-    let f = c .before .before .before .before .before .before .before .before .before .before .before .before .before .pre .1 in
-    symbol-filler (f .asked) _ (filler-inside _ f (c .before .before .before .before .before .put-open .ensures)) (c .before .before .loop .inv) (c .before .loop-test .taken)
-
+-- the element of a symbol is written behind the opening of the one that holds it
 filler-filler-requires : (t : ℕ) → filler-lts.Need-filler-requires (filler-calls t) (filler-at t) filler.Post filler-Inv-loop filler-μ-loop
 filler-filler-requires t c κs =
     let start = c .before .before .before .before .before .before .before .before .before .before .before .before .before .before in
     let f = start .pre .1 in
     let g = c .before .before .before .loop .inv in
     let opened = c .before .before .before .before .before .before .put-open .ensures in
-    (omega (arith, start .pre .0, g .later, g .long, filler-opens f, opened .after, writes-length opened), goes-asked (f .asked) _ (filler-inside _ f opened) g (c .before .before .loop-test .taken))
-
-filler-add-i : (t : ℕ) → filler-lts.Need-add-i (filler-calls t) (filler-at t) filler.Post filler-Inv-loop filler-μ-loop
-filler-add-i t c =
-    let f = c .before .before .before .before .before .before .before .before .before .before .before .before .before .before .before .before .before .pre .1 in
-    omega (arith, symbol-there (f .asked) _ (filler-inside _ f (c .before .before .before .before .before .before .before .before .before .put-open .ensures)) (c .before .before .before .before .before .before .loop .inv) (c .before .before .before .before .before .loop-test .taken), c .before .before .before .before .before .before .before .before .before .before .before .before .before .before .before .before .before .good .0)
-
-filler-loop-less : (t : ℕ) → filler-lts.Need-loop-less (filler-calls t) (filler-at t) filler.Post filler-Inv-loop filler-μ-loop
-filler-loop-less t c = omega (arith, c .before .before .before .before .before .loop-test .taken)
+    let left = g .known _ (f .asked) in
+    (omega (arith, start .pre .0, left .later, left .long, filler-opens _ _ f, opened .after, writes-length opened), filler-asks g (c .before .before .loop-test .taken) (f .asked) (write-room (filler-inside _ _ f opened)))
 
 filler-loop-again : (t : ℕ) → filler-lts.Need-loop-again (filler-calls t) (filler-at t) filler.Post filler-Inv-loop filler-μ-loop
-filler-loop-again t c =
-    let f = c .before .before .before .before .before .before .before .before .before .before .before .before .before .before .before .before .before .pre .1 in
-    goes-on (f .asked) _ (filler-inside _ f (c .before .before .before .before .before .before .before .before .before .put-open .ensures)) (c .before .before .before .before .before .before .loop .inv) (c .before .before .before .before .before .loop-test .taken) (c .before .before .filler .ensures)
+filler-loop-again t c = filler-on (c .before .before .before .before .before .before .loop .inv) (c .before .before .before .before .before .loop-test .taken) write-turn (c .before .before .filler .ensures)
 
 filler-put-close-requires : (t : ℕ) → filler-lts.Need-put-close-requires (filler-calls t) (filler-at t) filler.Post filler-Inv-loop filler-μ-loop
 filler-put-close-requires t c κs =
     let f = c .before .before .before .before .before .before .before .before .before .before .before .before .before .pre .1 in
-    goes-room (f .asked) _ (filler-inside _ f (c .before .before .before .before .before .put-open .ensures)) (c .before .before .loop .inv) (c .before .loop-test .left)
-
-filler-same-length : (t : ℕ) → filler-lts.Need-same-length (filler-calls t) (filler-at t) filler.Post filler-Inv-loop filler-μ-loop
-filler-same-length t c =
-    let f = c .before .before .before .before .before .before .before .before .before .before .before .before .before .before .before .before .pre .1 in
-    let opened = c .before .before .before .before .before .before .before .before .put-open .ensures in
-    writes-length (goes-ends (f .asked) _ (filler-inside _ f opened) (c .before .before .before .before .before .loop .inv) (c .before .before .before .before .loop-test .left) opened (c .before .before .put-close .ensures) _ (f .asked))
+    write-room (filler-inside _ _ f (c .before .before .before .before .before .put-open .ensures)) .room (filler-last (c .before .before .loop .inv) (c .before .loop-test .left) _ (f .asked)) (0x32 ∷ []) [] refl
 
 filler-returns : (t : ℕ) → filler-lts.Need-returns (filler-calls t) (filler-at t) filler.Post filler-Inv-loop filler-μ-loop
-filler-returns t c =
-    let f = c .before .before .before .before .before .before .before .before .before .before .before .before .before .before .before .before .pre .1 in
-    let opened = c .before .before .before .before .before .before .before .before .put-open .ensures in
-    goes-ends (f .asked) _ (filler-inside _ f opened) (c .before .before .before .before .before .loop .inv) (c .before .before .before .before .loop-test .left) opened (c .before .before .put-close .ensures)
+filler-returns t c = let l = c .before .before .before .before .before in filler-written (l .loop .inv) (c .before .before .before .before .loop-test .left) (l .before .before .before .put-open .ensures) (c .before .before .put-close .ensures)
 
 pub +filler-spec : {M : Type 1} → statement M
 +filler-spec = close μ-filler λ t. filler-lts.spec (filler-calls t) (filler-at t)
     filler.Post
     filler-Inv-loop
     filler-μ-loop
-    (filler-wide-requires t)
-    (filler-to-requires t)
-    (filler-from-requires t)
-    (filler-put-open-requires t)
+    (λ c κs. tt)
+    (λ c κs. omega (arith, filler-row-there (c .before .before .before .before .pre .1 .asked), c .wide .ensures .0))
+    (λ c κs. omega (arith, filler-row-there (c .before .before .before .before .before .pre .1 .asked), c .before .wide .ensures .0))
+    (λ c κs. filler-opens _ _ (c .before .before .before .before .before .before .before .pre .1))
     (filler-loop-holds t)
-    (filler-shared-slice-read-m t)
-    (filler-sub-m t)
+    (λ c. filler-symbol-there (c .before .before .loop .inv) (c .before .loop-test .taken) (c .before .before .before .before .before .before .before .before .before .before .before .before .before .pre .1 .asked))
+    (λ c. filler-symbol-number (c .before .before .loop .inv) (c .before .loop-test .taken) (c .before .before .before .before .before .before .before .before .before .before .before .before .before .pre .1 .asked))
     (filler-filler-requires t)
-    (filler-add-i t)
-    (filler-loop-less t)
+    (λ c. let start = c .before .before .before .before .before .before .before .before .before .before .before .before .before .before .before .before .before in omega (arith, filler-symbol-there (c .before .before .before .before .before .before .loop .inv) (c .before .before .before .before .before .loop-test .taken) (start .pre .1 .asked), start .good .0))
+    (λ c. omega (arith, c .before .before .before .before .before .loop-test .taken))
     (filler-loop-again t)
     (filler-put-close-requires t)
-    (filler-same-length t)
+    (λ c. writes-length (filler-returns t c _ (c .before .before .before .before .before .before .before .before .before .before .before .before .before .before .before .before .pre .1 .asked)))
     (filler-returns t)

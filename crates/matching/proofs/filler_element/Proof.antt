@@ -3,7 +3,7 @@ use native.Mathlib.Omega.{arith}
 use borrow.Author.Needs.{needs}
 use Rattle.filling.specs.FillerRows.{filler-row-there, filler-empty}
 use Rattle.matching.specs.Same.{stays, goes, same-then}
-use Rattle.matching.proofs.Filling.{filler-other}
+use Rattle.matching.proofs.Running.{filler-other}
 use Rattle.matching.proofs.filler_element.Statement.{statement}
 use Rattle.matching.proofs.filler_element.Tie as tie
 

@@ -45,7 +45,7 @@ run-requires c κs =
       record {
         bytes = held a;
         asked = image-row a is-part (c .before .before .before .before .before .row-of .ensures (image-root a));
-        within = c .before .before .before .before .same-open .ensures .within (goes _ (c .before .before .if1 .left));
+        room = c .before .before .before .before .same-open .ensures .within (goes _ (c .before .before .if1 .left));
       },
     )
 

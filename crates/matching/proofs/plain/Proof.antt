@@ -16,7 +16,7 @@ same-bytes : {doc : List ℕ} {at : ℕ} {bs cs : List ℕ} {b : Bool} {next : �
 same-bytes {doc} {at} {b = b} {next} e s = subst (λ (l : List ℕ). Same doc at l b next) (sym e) s
 
 same-open-requires : tie.Need-same-open-requires
-same-open-requires c κs = c .before .before .before .before .before .before .pre .1 .within
+same-open-requires c κs = c .before .before .before .before .before .before .pre .1 .room
 
 returns : tie.Need-returns
 returns c = λ bs a. same-bytes (plain-opening a (c .before .if1 .taken)) (c .same-open .ensures)
@@ -24,7 +24,7 @@ returns c = λ bs a. same-bytes (plain-opening a (c .before .if1 .taken)) (c .sa
 filler-element-requires : tie.Need-filler-element-requires
 filler-element-requires c κs =
     let f = c .before .before .before .before .before .before .before .pre .1 in
-    record { bytes = f .bytes; asked = plain-filler (f .asked) (c .before .if1 .left) (c .if2 .taken); within = f .within }
+    record { bytes = f .bytes; asked = plain-filler (f .asked) (c .before .if1 .left) (c .if2 .taken); room = f .room }
 
 returns-2 : tie.Need-returns-2
 returns-2 c = λ bs a. c .filler-element .ensures bs (plain-filler a (c .before .before .if1 .left) (c .before .if2 .taken))
@@ -39,7 +39,7 @@ same-part-requires : tie.Need-same-part-requires
 same-part-requires c κs =
     let f = c .before .before .before .before .before .before .before .before .before .pre .1 in
     let k = plain-characters (f .asked) (c .before .if3 .taken) in
-    (omega (arith, c .close-of .ensures (k .0) (k .1), content-within (k .1)), f .within)
+    (omega (arith, c .close-of .ensures (k .0) (k .1), content-within (k .1)), f .room)
 
 returns-3 : tie.Need-returns-3
 returns-3 c =
@@ -51,7 +51,7 @@ returns-3 c =
     same-bytes (k .2 ∙ sym part ∙ ap (λ (n : ℕ). take n (c .before .before .before .before .before .before .before .before .before .before .args .tr .now)) all) (c .same-part .ensures)
 
 same-byte-requires : tie.Need-same-byte-requires
-same-byte-requires c κs = c .before .before .before .before .before .before .before .before .pre .1 .within
+same-byte-requires c κs = c .before .before .before .before .before .before .before .before .pre .1 .room
 
 returns-4 : tie.Need-returns-4
 returns-4 c = λ bs a. same-bytes (plain-closing a (c .before .before .if2 .left) (c .before .if3 .left)) (c .same-byte .ensures)
