@@ -10,12 +10,22 @@ use Rattle.loaded_table.specs.Loaded.{typesIn, kindsOf, countsOf, membersIn, ta
 use Rattle.loaded_embedding.specs.Loaded.{targetsOf, stepsFrom}
 use Rattle.paths.specs.Following.{Followable, pathsFrom}
 use Rattle.scanning.specs.Scanning.{At}
+use Rattle.scanning.specs.Spanning.{Spans}
+use Rattle.loaded_setting.specs.Ready.{settingIn, Ready}
+use Rattle.children.specs.declared.Image.{Image}
 use Rattle.children.specs.declared.Rest.{Rest}
 use Rattle.children.specs.declared.Cursor.{Cursor}
 use Rattle.children.specs.declared.Cursor.the-variants as cursor
 use Rattle.children.specs.declared.Part.{Part}
 use Rattle.children.specs.declared.Part.the-variants as given
-use Rattle.children.specs.Parts.{Parts, done, broken, part, memberParts, choiceParts, itemParts}
+use Rattle.children.specs.Parts.{Parts, done, broken, part, memberParts, choiceParts, itemParts, childParts}
+
+-- an image of a source element of a known type, for an accepted setting, in the target document tr
+pub record ImageThere (source target map em tr sp : List ℕ) (image : Image) : Type 0 where
+  pub spans : Spans tr sp
+  pub ready : Ready source target map em
+  pub known-type : image .sigma < typesIn source
+  pub content : (k : Content) × At tr (image .from) k
 
 -- ---- the children of an element of source type σ, whose image holds k
 
@@ -56,6 +66,11 @@ Shows source target map em σ tr k cursor.Choice parts = LeftChoice source targe
 Shows source target map em σ tr k (cursor.Items r) parts = LeftItems source target em tr r parts
 Shows source target map em σ tr k cursor.Last parts = parts ≡ done
 Shows source target map em σ tr k cursor.Lost parts = parts ≡ broken
+
+-- at first all are left
+abbrev pub Begins : List ℕ → List ℕ → List ℕ → List ℕ → List ℕ → Image → Cursor → Type 0
+Begins source target map em tr image r =
+    (k : Content) → At tr (image .from) k → Shows source target map em (image .sigma) tr k r (childParts (settingIn source target map em) (image .sigma) k)
 
 -- a number that falls with each child
 abbrev pub weight : List ℕ → Cursor → ℕ

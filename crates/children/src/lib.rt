@@ -18,17 +18,16 @@ use scanning::spans::close_of;
 ghost use mathlib.Core.List.{List};
 ghost use Prim.Native.Nat.{ℕ, _+_, _-_, _*_, _≤_, _<_};
 ghost use lib.ListN.{getD, length};
-ghost use Rattle.loaded_table.specs.Loaded.{typesIn, kindsOf, tableBy};
+ghost use Rattle.loaded_table.specs.Loaded.{kindsOf, tableBy};
 ghost use Rattle.loaded_embedding.specs.Loaded.{targetsOf, startsOf, lengthsOf};
 ghost use Rattle.paths.specs.Following.{Followable, pathAt};
-ghost use Rattle.children.specs.Parts.{Parts, childParts};
-ghost use Rattle.children.specs.Cursors.{LeftEdges, LeftChoice, LeftItems, Shows, weight, Gives};
+ghost use Rattle.children.specs.Parts.{Parts};
+ghost use Rattle.children.specs.Cursors.{ImageThere, LeftEdges, LeftChoice, LeftItems, Shows, Begins, weight, Gives};
 ghost use Rattle.model.specs.Definitions.Content.{Content};
 ghost use Rattle.model.specs.Definitions.Inverse as model;
 ghost use Rattle.scanning.specs.Finding.{Finds};
 ghost use Rattle.scanning.specs.Scanning.{At};
 ghost use Rattle.scanning.specs.Spanning.{Spans};
-ghost use Rattle.loaded_setting.specs.Ready.{settingIn, Ready};
 
 pub mod following;
 
@@ -100,9 +99,7 @@ fn next_member<'a>(
     image: Image,
     i: usize,
 ) -> Part
-    requires spans { ⌜ Spans (now tr) (now sp) ⌝ }
-    requires setting { ⌜ Ready (now source) (now target) (now map) (now em) ⌝ }
-    requires known_type { ⌜ image .sigma < typesIn (now source) ⌝ }
+    requires image { ⌜ ImageThere (now source) (now target) (now map) (now em) (now tr) (now sp) image ⌝ }
     requires left { ⌜ ((k : Content) × (parts : Parts) × At (now tr) (image .from) k × LeftEdges (now source) (now target) (now map) (now em) (image .sigma) k i parts) ⌝ }
     ensures { λ r. ⌜ ((k : Content) (parts : Parts) → At (now (tr .entry)) (image .from) k → LeftEdges (now (source .entry)) (now (target .entry)) (now (map .entry)) (now (em .entry)) (image .sigma) k i parts → Gives (now (source .entry)) (now (target .entry)) (now (map .entry)) (now (em .entry)) (image .sigma) (now (tr .entry)) k (17 - i) r parts) ⌝ }
 {
@@ -131,9 +128,7 @@ fn next_choice<'a>(
     sp: &'a [u16],
     image: Image,
 ) -> Part
-    requires spans { ⌜ Spans (now tr) (now sp) ⌝ }
-    requires setting { ⌜ Ready (now source) (now target) (now map) (now em) ⌝ }
-    requires known_type { ⌜ image .sigma < typesIn (now source) ⌝ }
+    requires image { ⌜ ImageThere (now source) (now target) (now map) (now em) (now tr) (now sp) image ⌝ }
     requires left { ⌜ ((k : Content) × (parts : Parts) × At (now tr) (image .from) k × LeftChoice (now source) (now target) (now map) (now em) (image .sigma) k parts) ⌝ }
     ensures { λ r. ⌜ ((k : Content) (parts : Parts) → At (now (tr .entry)) (image .from) k → LeftChoice (now (source .entry)) (now (target .entry)) (now (map .entry)) (now (em .entry)) (image .sigma) k parts → Gives (now (source .entry)) (now (target .entry)) (now (map .entry)) (now (em .entry)) (image .sigma) (now (tr .entry)) k 1 r parts) ⌝ }
 {
@@ -196,9 +191,7 @@ pub fn next<'a>(
     image: Image,
     cursor: Cursor,
 ) -> Part
-    requires spans { ⌜ Spans (now tr) (now sp) ⌝ }
-    requires setting { ⌜ Ready (now source) (now target) (now map) (now em) ⌝ }
-    requires known_type { ⌜ image .sigma < typesIn (now source) ⌝ }
+    requires image { ⌜ ImageThere (now source) (now target) (now map) (now em) (now tr) (now sp) image ⌝ }
     requires left { ⌜ ((k : Content) × (parts : Parts) × At (now tr) (image .from) k × Shows (now source) (now target) (now map) (now em) (image .sigma) (now tr) k cursor parts) ⌝ }
     ensures { λ r. ⌜ ((k : Content) (parts : Parts) → At (now (tr .entry)) (image .from) k → Shows (now (source .entry)) (now (target .entry)) (now (map .entry)) (now (em .entry)) (image .sigma) (now (tr .entry)) k cursor parts → Gives (now (source .entry)) (now (target .entry)) (now (map .entry)) (now (em .entry)) (image .sigma) (now (tr .entry)) k (weight (now (tr .entry)) cursor) r parts) ⌝ }
 {
@@ -221,12 +214,9 @@ fn begin_list<'a>(
     sp: &'a [u16],
     image: Image,
 ) -> Cursor
-    requires spans { ⌜ Spans (now tr) (now sp) ⌝ }
-    requires setting { ⌜ Ready (now source) (now target) (now map) (now em) ⌝ }
-    requires known_type { ⌜ image .sigma < typesIn (now source) ⌝ }
+    requires image { ⌜ ImageThere (now source) (now target) (now map) (now em) (now tr) (now sp) image ⌝ }
     requires list { ⌜ 4 ≤ getD (kindsOf (now source)) (image .sigma) 0 ⌝ }
-    requires content { ⌜ ((k : Content) × At (now tr) (image .from) k) ⌝ }
-    ensures { λ r. ⌜ ((k : Content) → At (now (tr .entry)) (image .from) k → Shows (now (source .entry)) (now (target .entry)) (now (map .entry)) (now (em .entry)) (image .sigma) (now (tr .entry)) k r (childParts (settingIn (now (source .entry)) (now (target .entry)) (now (map .entry)) (now (em .entry))) (image .sigma) k)) ⌝ }
+    ensures { λ r. ⌜ Begins (now (source .entry)) (now (target .entry)) (now (map .entry)) (now (em .entry)) (now (tr .entry)) image r ⌝ }
 {
     let sigma = image.sigma;
     let edge = sigma * MAX_MEMBERS;
@@ -262,11 +252,8 @@ pub fn begin<'a>(
     sp: &'a [u16],
     image: Image,
 ) -> Cursor
-    requires spans { ⌜ Spans (now tr) (now sp) ⌝ }
-    requires setting { ⌜ Ready (now source) (now target) (now map) (now em) ⌝ }
-    requires known_type { ⌜ image .sigma < typesIn (now source) ⌝ }
-    requires content { ⌜ ((k : Content) × At (now tr) (image .from) k) ⌝ }
-    ensures { λ r. ⌜ ((k : Content) → At (now (tr .entry)) (image .from) k → Shows (now (source .entry)) (now (target .entry)) (now (map .entry)) (now (em .entry)) (image .sigma) (now (tr .entry)) k r (childParts (settingIn (now (source .entry)) (now (target .entry)) (now (map .entry)) (now (em .entry))) (image .sigma) k)) ⌝ }
+    requires image { ⌜ ImageThere (now source) (now target) (now map) (now em) (now tr) (now sp) image ⌝ }
+    ensures { λ r. ⌜ Begins (now (source .entry)) (now (target .entry)) (now (map .entry)) (now (em .entry)) (now (tr .entry)) image r ⌝ }
 {
     let kind = loaded_table::kind(source, image.sigma);
     match kind {

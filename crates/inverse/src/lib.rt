@@ -17,8 +17,9 @@ use writing::put_open;
 ghost use mathlib.Core.Path.{_≡_};
 ghost use Prim.Native.Nat.{_+_, _*_, _≤_, _<_};
 ghost use lib.ListN.{getD, length};
-ghost use Rattle.loaded_table.specs.Loaded.{typesIn, tableBy};
+ghost use Rattle.loaded_table.specs.Loaded.{tableBy};
 ghost use Rattle.loaded_embedding.specs.Loaded.{targetsOf, startsOf, lengthsOf};
+ghost use Rattle.children.specs.Cursors.{ImageThere};
 ghost use Rattle.paths.specs.Following.{Followable, pathAt};
 ghost use Rattle.inverse.specs.Reading.{elementOf, Reads, Brings};
 ghost use Rattle.model.specs.Definitions.Content.{Content, document};
@@ -83,10 +84,7 @@ fn read_to<'a>(
     out: &mut [u8],
     task: Task,
 ) -> Read
-    requires spans { ⌜ Spans (now tr) (now sp) ⌝ }
-    requires setting { ⌜ Ready (now source) (now target) (now map) (now em) ⌝ }
-    requires known_type { ⌜ task .image .sigma < typesIn (now source) ⌝ }
-    requires content { ⌜ ((k : Content) × At (now tr) (task .image .from) k) ⌝ }
+    requires image { ⌜ ImageThere (now source) (now target) (now map) (now em) (now tr) (now sp) (task .image) ⌝ }
     requires room { ⌜ task .at ≤ length (now out) ⌝ }
     ensures { λ r. ⌜ ((k : Content) → At (now (tr .entry)) (task .image .from) k → Reads (now (out .entry)) (now (out .exit)) (task .at) r (model.readTo (settingIn (now (source .entry)) (now (target .entry)) (now (map .entry)) (now (em .entry))) (task .depth) (task .image .sigma) k)) ⌝ }
 {
@@ -136,10 +134,7 @@ fn read_element<'a>(
     out: &mut [u8],
     task: Task,
 ) -> Read
-    requires spans { ⌜ Spans (now tr) (now sp) ⌝ }
-    requires setting { ⌜ Ready (now source) (now target) (now map) (now em) ⌝ }
-    requires known_type { ⌜ task .image .sigma < typesIn (now source) ⌝ }
-    requires content { ⌜ ((k : Content) × At (now tr) (task .image .from) k) ⌝ }
+    requires image { ⌜ ImageThere (now source) (now target) (now map) (now em) (now tr) (now sp) (task .image) ⌝ }
     requires room { ⌜ task .at ≤ length (now out) ⌝ }
     ensures { λ r. ⌜ ((k : Content) → At (now (tr .entry)) (task .image .from) k → Reads (now (out .entry)) (now (out .exit)) (task .at) r (elementOf (task .image .sigma) (model.readTo (settingIn (now (source .entry)) (now (target .entry)) (now (map .entry)) (now (em .entry))) (task .depth) (task .image .sigma) k))) ⌝ }
 {

@@ -4,21 +4,6 @@ use borrow.Author.Needs.{needs}
 use Rattle.children.proofs.along.Statement.{statement}
 use Rattle.children.proofs.along.Tie as tie
 
-mul-edge : tie.Need-mul-edge
-mul-edge c = search needs
-
-add-edge : tie.Need-add-edge
-add-edge c = search needs
-
-start-requires : tie.Need-start-requires
-start-requires c κs = search needs
-
-steps-requires : tie.Need-steps-requires
-steps-requires c κs = search needs
-
-target-requires : tie.Need-target-requires
-target-requires c κs = search needs
-
 follow-requires : tie.Need-follow-requires
 follow-requires c κs =
     let start = c .before .before .before .before .before .before in
@@ -31,10 +16,10 @@ pub along-spec : {M : Type 1} → statement M
 along-spec =
     tie.close
     (tie.spec
-    mul-edge
-    add-edge
-    start-requires
-    steps-requires
-    target-requires
+    (λ c. search needs)
+    (λ c. search needs)
+    (λ c κs. search needs)
+    (λ c κs. search needs)
+    (λ c κs. search needs)
     follow-requires
     returns)

@@ -7,31 +7,25 @@ use Rattle.children.proofs.Beginning.{begin-none, begin-sequence, begin
 use Rattle.children.proofs.begin.Statement.{statement}
 use Rattle.children.proofs.begin.Tie as tie
 
-kind-requires : tie.Need-kind-requires
-kind-requires c κs = let start = c .before .before .before in small (start .pre .1 .0) (start .pre .1 .1 .0)
-
 begin-list-requires : tie.Need-begin-list-requires
 begin-list-requires c κs =
     let start = c .before .before .before .before .before in
     let rest = c .match .rest in
-    (start .pre .0, (start .pre .1 .0, (start .pre .1 .1 .0, (omega (arith, rest .0 .0 .0 .1, rest .0 .0 .1, rest .0 .1, rest .1, c .before .kind .ensures .0), start .pre .1 .1 .1))))
+    (start .pre, omega (arith, rest .0 .0 .0 .1, rest .0 .0 .1, rest .0 .1, rest .1, c .before .kind .ensures .0))
 
 returns : tie.Need-returns
-returns c = let start = c .before .before .before .before .before in λ k a. begin-none (start .pre .1 .0) (start .pre .1 .1 .0) k (omega (arith, c .before .kind .ensures .0, c .match .keys1))
+returns c = let start = c .before .before .before .before .before in λ k a. begin-none (start .pre .ready) (start .pre .known-type) k (omega (arith, c .before .kind .ensures .0, c .match .keys1))
 
 returns-2 : tie.Need-returns-2
-returns-2 c = let start = c .before .before .before .before .before in λ k a. begin-none (start .pre .1 .0) (start .pre .1 .1 .0) k (omega (arith, c .before .kind .ensures .0, c .match .keys2))
+returns-2 c = let start = c .before .before .before .before .before in λ k a. begin-none (start .pre .ready) (start .pre .known-type) k (omega (arith, c .before .kind .ensures .0, c .match .keys2))
 
 returns-3 : tie.Need-returns-3
-returns-3 c = let start = c .before .before .before .before .before in λ k a. begin-sequence (start .pre .1 .0) (start .pre .1 .1 .0) k (sym (c .before .kind .ensures .0) ∙ c .match .keys3)
+returns-3 c = let start = c .before .before .before .before .before in λ k a. begin-sequence (start .pre .ready) (start .pre .known-type) k (sym (c .before .kind .ensures .0) ∙ c .match .keys3)
 
 returns-4 : tie.Need-returns-4
-returns-4 c = let start = c .before .before .before .before .before in λ k a. begin-choice (start .pre .1 .0) (start .pre .1 .1 .0) k (sym (c .before .kind .ensures .0) ∙ c .match .keys4)
-
-returns-5 : tie.Need-returns-5
-returns-5 c = search needs
+returns-4 c = let start = c .before .before .before .before .before in λ k a. begin-choice (start .pre .ready) (start .pre .known-type) k (sym (c .before .kind .ensures .0) ∙ c .match .keys4)
 
 pub begin-spec : {M : Type 1} → statement M
 begin-spec =
     tie.close
-    (tie.spec kind-requires begin-list-requires returns returns-2 returns-3 returns-4 returns-5)
+    (tie.spec (λ c κs. let start = c .before .before .before in small (start .pre .ready) (start .pre .known-type)) begin-list-requires returns returns-2 returns-3 returns-4 (λ c. search needs))

@@ -3,38 +3,23 @@ use borrow.Author.Needs.{needs}
 use Rattle.children.proofs.next.Statement.{statement}
 use Rattle.children.proofs.next.Tie as tie
 
-enum-known-cursor : tie.Need-enum-known-cursor
-enum-known-cursor c = search needs
-
 next-member-requires : tie.Need-next-member-requires
 next-member-requires c κs =
     let start = c .before .before .before .before .before .before in
-    let left = start .pre .1 .1 .1 in
-    (start .pre .0, (start .pre .1 .0, (start .pre .1 .1 .0, (left .0, left .1, left .2, rw (c .before .cursor .given .1) at (left .3)))))
-
-enum-told : tie.Need-enum-told
-enum-told c = search needs
+    let left = start .pre .1 in
+    (start .pre .0, (left .0, left .1, left .2, rw (c .before .cursor .given .1) at (left .3)))
 
 next-choice-requires : tie.Need-next-choice-requires
 next-choice-requires c κs =
     let start = c .before .before .before .before .before in
-    let left = start .pre .1 .1 .1 in
-    (start .pre .0, (start .pre .1 .0, (start .pre .1 .1 .0, (left .0, left .1, left .2, rw (c .enum-told .given .1) at (left .3)))))
-
-enum-known-cursor-2 : tie.Need-enum-known-cursor-2
-enum-known-cursor-2 c = search needs
+    let left = start .pre .1 in
+    (start .pre .0, (left .0, left .1, left .2, rw (c .enum-told .given .1) at (left .3)))
 
 next-item-requires : tie.Need-next-item-requires
 next-item-requires c κs =
     let start = c .before .before .before .before .before .before in
-    let left = start .pre .1 .1 .1 in
-    (start .pre .0, (start .args .source .now, left .1, rw (c .before .cursor2 .given .1) at (left .3)))
-
-enum-told-2 : tie.Need-enum-told-2
-enum-told-2 c = search needs
-
-enum-told-3 : tie.Need-enum-told-3
-enum-told-3 c = search needs
+    let left = start .pre .1 in
+    (start .pre .0 .spans, (start .args .source .now, left .1, rw (c .before .cursor2 .given .1) at (left .3)))
 
 returns : tie.Need-returns
 returns c = λ k parts a shows. rw (c .before .before .cursor .given .1) (c .next-member .ensures k parts a (rw (c .before .before .cursor .given .1) at shows))
@@ -59,14 +44,14 @@ pub next-spec : {M : Type 1} → statement M
 next-spec =
     tie.close
     (tie.spec
-    enum-known-cursor
+    (λ c. search needs)
     next-member-requires
-    enum-told
+    (λ c. search needs)
     next-choice-requires
-    enum-known-cursor-2
+    (λ c. search needs)
     next-item-requires
-    enum-told-2
-    enum-told-3
+    (λ c. search needs)
+    (λ c. search needs)
     returns
     returns-2
     returns-3

@@ -14,29 +14,20 @@ Inv-loop source target map em tr sp image sigma members i₀ i = Choosing source
 abbrev μ-loop : tie.MeasureT-loop
 μ-loop source target map em tr sp image sigma members i₀ i = members - i
 
-count-requires : tie.Need-count-requires Inv-loop μ-loop
-count-requires c κs = let start = c .before .before .before in small (start .pre .1 .0) (start .pre .1 .1 .0)
-
-loop-holds : tie.Need-loop-holds Inv-loop μ-loop
-loop-holds c = record { left = λ k parts a left. left .are }
-
 along-requires : tie.Need-along-requires Inv-loop μ-loop
 along-requires c κs =
     let start = c .before .before .before .before .before .before in
-    let ready = start .pre .1 .0 in
-    let exists = start .pre .1 .1 .0 in
-    let left = start .pre .1 .1 .1 in
+    let ready = start .pre .0 .ready in
+    let exists = start .pre .0 .known-type in
+    let left = start .pre .1 in
     let less = rw (c .before .before .count .ensures .0) at (c .loop-test .taken) in
-    (start .pre .0, ((small ready exists, omega (arith, less, few ready exists)), (choice-follow ready exists (left .3 .is-choice) _ less, (left .0, left .2))))
-
-enum-known-found : tie.Need-enum-known-found Inv-loop μ-loop
-enum-known-found c = search needs
+    (start .pre .0 .spans, ((small ready exists, omega (arith, less, few ready exists)), (choice-follow ready exists (left .3 .is-choice) _ less, (left .0, left .2))))
 
 member-requires : tie.Need-member-requires Inv-loop μ-loop
 member-requires c κs =
     let start = c .before .before .before .before .before .before .before .before .before .before in
-    let ready = start .pre .1 .0 in
-    let exists = start .pre .1 .1 .0 in
+    let ready = start .pre .0 .ready in
+    let exists = start .pre .0 .known-type in
     (small ready exists, omega (arith, c .before .before .before .before .loop-test .taken, c .before .before .before .before .before .before .count .ensures .0, few ready exists))
 
 returns : tie.Need-returns Inv-loop μ-loop
@@ -45,16 +36,10 @@ returns c =
     let less = rw (c .before .before .before .before .before .before .before .count .ensures .0) at (c .before .before .before .before .before .loop-test .taken) in
     λ k parts a left.
     rw (c .member .ensures .0)
-    (choice-one (start .pre .1 .0) (start .pre .1 .1 .0) (left .is-choice) _ less (c .before .before .before .before .before .before .loop .inv .left k parts a left) (rw (c .before .before .found .given .1) at (c .before .before .before .before .along .ensures k a)))
-
-enum-told : tie.Need-enum-told Inv-loop μ-loop
-enum-told c = search needs
+    (choice-one (start .pre .0 .ready) (start .pre .0 .known-type) (left .is-choice) _ less (c .before .before .before .before .before .before .loop .inv .left k parts a left) (rw (c .before .before .found .given .1) at (c .before .before .before .before .along .ensures k a)))
 
 add-i : tie.Need-add-i Inv-loop μ-loop
 add-i c = let start = c .before .before .before .before .before .before .before .before .before in omega (arith, c .before .before .before .loop-test .taken, c .before .before .before .before .before .count .ensures .1)
-
-loop-less : tie.Need-loop-less Inv-loop μ-loop
-loop-less c = omega (arith, c .before .before .before .loop-test .taken)
 
 loop-again : tie.Need-loop-again Inv-loop μ-loop
 loop-again c =
@@ -63,13 +48,13 @@ loop-again c =
     record {
       left = λ k parts a left.
           c .before .before .before .before .loop .inv .left k parts a left
-          ∙ choice-on (start .pre .1 .0) (start .pre .1 .1 .0) (left .is-choice) _ less k (rw (c .enum-told .given .1) at (c .before .before .along .ensures k a));
+          ∙ choice-on (start .pre .0 .ready) (start .pre .0 .known-type) (left .is-choice) _ less k (rw (c .enum-told .given .1) at (c .before .before .along .ensures k a));
     }
 
 returns-2 : tie.Need-returns-2 Inv-loop μ-loop
 returns-2 c =
     let start = c .before .before .before .before .before .before in
-    λ k parts a left. c .before .loop .inv .left k parts a left ∙ choice-none (start .pre .1 .0) (start .pre .1 .1 .0) k _ (rw (c .before .before .count .ensures .0) at (c .loop-test .left))
+    λ k parts a left. c .before .loop .inv .left k parts a left ∙ choice-none (start .pre .0 .ready) (start .pre .0 .known-type) k _ (rw (c .before .before .count .ensures .0) at (c .loop-test .left))
 
 pub next-choice-spec : {M : Type 1} → statement M
 next-choice-spec =
@@ -77,14 +62,14 @@ next-choice-spec =
     (tie.spec
     Inv-loop
     μ-loop
-    count-requires
-    loop-holds
+    (λ c κs. let start = c .before .before .before in small (start .pre .0 .ready) (start .pre .0 .known-type))
+    (λ c. record { left = λ k parts a left. left .are })
     along-requires
-    enum-known-found
+    (λ c. search needs)
     member-requires
     returns
-    enum-told
+    (λ c. search needs)
     add-i
-    loop-less
+    (λ c. omega (arith, c .before .before .before .loop-test .taken))
     loop-again
     returns-2)

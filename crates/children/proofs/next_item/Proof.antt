@@ -5,26 +5,11 @@ use Rattle.children.proofs.Items.{items-within, items-letter, items-don
 use Rattle.children.proofs.next_item.Statement.{statement}
 use Rattle.children.proofs.next_item.Tie as tie
 
-shared-slice-read-b : tie.Need-shared-slice-read-b
-shared-slice-read-b c = items-within (c .before .before .before .before .pre .1 .2)
-
-add-inside : tie.Need-add-inside
-add-inside c = let start = c .before .before .before .before .before in omega (arith, items-inside (start .pre .1 .2) (c .match .keys1) .0)
-
-close-of-requires : tie.Need-close-of-requires
-close-of-requires c κs = let start = c .before .before .before .before .before in (start .pre .0, items-inside (start .pre .1 .2) (c .match .keys1) .1)
-
 add-after : tie.Need-add-after
 add-after c = let start = c .before .before .before .before .before .before in omega (arith, items-close (start .pre .1 .2) (c .before .match .keys1) (c .close-of .result) (c .close-of .ensures))
 
 follow-requires : tie.Need-follow-requires
 follow-requires c κs = let start = c .before .before .before .before .before .before in (start .pre .0, (start .pre .1 .2 .followable, items-inside (start .pre .1 .2) (c .before .match .keys1) .1))
-
-enum-known-found : tie.Need-enum-known-found
-enum-known-found c = search needs
-
-enum-told : tie.Need-enum-told
-enum-told c = search needs
 
 returns : tie.Need-returns
 returns c =
@@ -44,13 +29,13 @@ pub next-item-spec : {M : Type 1} → statement M
 next-item-spec =
     tie.close
     (tie.spec
-    shared-slice-read-b
-    add-inside
-    close-of-requires
+    (λ c. items-within (c .before .before .before .before .pre .1 .2))
+    (λ c. let start = c .before .before .before .before .before in omega (arith, items-inside (start .pre .1 .2) (c .match .keys1) .0))
+    (λ c κs. let start = c .before .before .before .before .before in (start .pre .0, items-inside (start .pre .1 .2) (c .match .keys1) .1))
     add-after
     follow-requires
-    enum-known-found
-    enum-told
+    (λ c. search needs)
+    (λ c. search needs)
     returns
     returns-2
     returns-3

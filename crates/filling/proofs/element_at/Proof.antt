@@ -11,9 +11,6 @@ Inv-loop tr sp i o₀ left₀ o left = (c : ChildThere tr i) → Ahead c o left
 abbrev μ-loop : tie.MeasureT-loop
 μ-loop tr sp i o₀ left₀ o left = left
 
-loop-holds : tie.Need-loop-holds Inv-loop μ-loop
-loop-holds c = ahead-starts
-
 add-close-of : tie.Need-add-close-of Inv-loop μ-loop
 add-close-of c =
     let start = c .before .before .before .before in
@@ -32,12 +29,6 @@ add-o c =
     let n = ahead-next (c .before .before .loop .inv (start .pre .1)) (c .before .loop-test .taken) in
     omega (arith, next-within n, start .pre .0 .short, c .close-of .ensures (n .inside) (element-at (n .there) .within))
 
-sub-left : tie.Need-sub-left Inv-loop μ-loop
-sub-left c = omega (arith, c .before .loop-test .taken)
-
-loop-less : tie.Need-loop-less Inv-loop μ-loop
-loop-less c = omega (arith, c .before .loop-test .taken)
-
 loop-again : tie.Need-loop-again Inv-loop μ-loop
 loop-again c =
     λ there.
@@ -53,11 +44,11 @@ element-at-spec =
     (tie.spec
     Inv-loop
     μ-loop
-    loop-holds
+    (λ c. ahead-starts)
     add-close-of
     close-of-requires
     add-o
-    sub-left
-    loop-less
+    (λ c. omega (arith, c .before .loop-test .taken))
+    (λ c. omega (arith, c .before .loop-test .taken))
     loop-again
     returns)

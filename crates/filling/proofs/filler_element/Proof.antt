@@ -8,15 +8,6 @@ use Rattle.filling.specs.FillerRows.{filler-row-there, filler-empty}
 use Rattle.filling.proofs.filler_element.Statement.{statement}
 use Rattle.filling.proofs.filler_element.Tie as tie
 
-wide-requires : tie.Need-wide-requires
-wide-requires c κs = tt
-
-to-requires : tie.Need-to-requires
-to-requires c κs = omega (arith, filler-row-there (c .before .before .before .before .pre .asked), c .wide .ensures .0)
-
-from-requires : tie.Need-from-requires
-from-requires c κs = omega (arith, filler-row-there (c .before .before .before .before .before .pre .asked), c .before .wide .ensures .0)
-
 put-open-requires : tie.Need-put-open-requires
 put-open-requires c κs =
     let f = c .before .before .before .before .before .before .before .before .pre in
@@ -30,9 +21,6 @@ put-close-requires c κs =
     let opened = c .before .before .before .put-open .ensures in
     omega (arith, f .room, opened .after, writes-length opened, ap length (filler-empty (f .asked) (tests .before .before .before .wide .ensures .0) (tests .before .from .ensures) (tests .before .before .to .ensures) (tests .if1 .taken)))
 
-same-length : tie.Need-same-length
-same-length c = writes-length (writes-then (c .before .before .before .before .before .before .put-open .ensures) (c .before .before .put-close .ensures))
-
 returns : tie.Need-returns
 returns c =
     λ bs a.
@@ -40,26 +28,17 @@ returns c =
     rw (filler-empty a (tests .before .before .before .wide .ensures .0) (tests .before .from .ensures) (tests .before .before .to .ensures) (tests .if1 .taken))
     (writes-then (c .before .before .before .before .before .before .put-open .ensures) (c .before .before .put-close .ensures))
 
-filler-requires : tie.Need-filler-requires
-filler-requires c κs = search needs
-
-same-length-2 : tie.Need-same-length-2
-same-length-2 c = search needs
-
-returns-2 : tie.Need-returns-2
-returns-2 c = search needs
-
 pub filler-element-spec : {M : Type 1} → statement M
 filler-element-spec =
     tie.close
     (tie.spec
-    wide-requires
-    to-requires
-    from-requires
+    (λ c κs. tt)
+    (λ c κs. omega (arith, filler-row-there (c .before .before .before .before .pre .asked), c .wide .ensures .0))
+    (λ c κs. omega (arith, filler-row-there (c .before .before .before .before .before .pre .asked), c .before .wide .ensures .0))
     put-open-requires
     put-close-requires
-    same-length
+    (λ c. writes-length (writes-then (c .before .before .before .before .before .before .put-open .ensures) (c .before .before .put-close .ensures)))
     returns
-    filler-requires
-    same-length-2
-    returns-2)
+    (λ c κs. search needs)
+    (λ c. search needs)
+    (λ c. search needs))

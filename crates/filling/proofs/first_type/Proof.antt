@@ -7,18 +7,6 @@ use Rattle.filling.specs.Contents.{first-some, first-none}
 use Rattle.filling.proofs.first_type.Statement.{statement}
 use Rattle.filling.proofs.first_type.Tie as tie
 
-shared-slice-read-if1 : tie.Need-shared-slice-read-if1
-shared-slice-read-if1 c = omega (arith, content-within (c .before .before .pre .there))
-
-add-second : tie.Need-add-second
-add-second c = omega (arith, first-some (c .before .before .before .pre .there) (c .if1 .taken) .0, c .before .before .before .good .0)
-
-shared-slice-read-wide : tie.Need-shared-slice-read-wide
-shared-slice-read-wide c = omega (arith, first-some (c .before .before .before .before .pre .there) (c .before .if1 .taken) .0)
-
-wide-requires : tie.Need-wide-requires
-wide-requires c κs = search needs
-
 returns : tie.Need-returns
 returns c = λ k. c .wide .ensures .0 ∙ first-some (k .there) (c .before .before .if1 .taken) .1
 
@@ -29,9 +17,9 @@ pub first-type-spec : {M : Type 1} → statement M
 first-type-spec =
     tie.close
     (tie.spec
-    shared-slice-read-if1
-    add-second
-    shared-slice-read-wide
-    wide-requires
+    (λ c. omega (arith, content-within (c .before .before .pre .there)))
+    (λ c. omega (arith, first-some (c .before .before .before .pre .there) (c .if1 .taken) .0, c .before .before .before .good .0))
+    (λ c. omega (arith, first-some (c .before .before .before .before .pre .there) (c .before .if1 .taken) .0))
+    (λ c κs. search needs)
     returns
     returns-2)

@@ -18,9 +18,6 @@ writes-same {old} {new} {at} {next} e w = subst (λ (b : List ℕ). Writes old n
 put-open-requires : tie.Need-put-open-requires
 put-open-requires c κs = let f = c .before .before .before .before .before .before .before .pre .1 in omega (arith, f .room, ap length (plain-opening (f .asked) (c .before .if1 .taken)))
 
-same-length : tie.Need-same-length
-same-length c = writes-length (c .before .before .put-open .ensures)
-
 returns : tie.Need-returns
 returns c = λ bs a. writes-same (plain-opening a (c .before .before .before .before .if1 .taken)) (c .before .before .put-open .ensures)
 
@@ -51,9 +48,6 @@ copy-requires c κs =
     let within = content-within (k .1) in
     (omega arith, omega (arith, close, within), omega (arith, f .room, close, ap length (k .2)))
 
-same-length-3 : tie.Need-same-length-3
-same-length-3 c = writes-length (c .before .before .copy .ensures)
-
 returns-3 : tie.Need-returns-3
 returns-3 c =
     λ bs a.
@@ -63,9 +57,6 @@ returns-3 c =
 put-close-requires : tie.Need-put-close-requires
 put-close-requires c κs = let f = c .before .before .before .before .before .before .before .before .before .pre .1 in omega (arith, f .room, ap length (plain-closing (f .asked) (c .before .before .if2 .left) (c .before .if3 .left)))
 
-same-length-4 : tie.Need-same-length-4
-same-length-4 c = writes-length (c .before .before .put-close .ensures)
-
 returns-4 : tie.Need-returns-4
 returns-4 c = λ bs a. writes-same (plain-closing a (c .before .before .before .before .before .if2 .left) (c .before .before .before .before .if3 .left)) (c .before .before .put-close .ensures)
 
@@ -74,15 +65,15 @@ plain-spec =
     tie.close
     (tie.spec
     put-open-requires
-    same-length
+    (λ c. writes-length (c .before .before .put-open .ensures))
     returns
     filler-element-requires
     same-length-2
     returns-2
     close-of-requires
     copy-requires
-    same-length-3
+    (λ c. writes-length (c .before .before .copy .ensures))
     returns-3
     put-close-requires
-    same-length-4
+    (λ c. writes-length (c .before .before .put-close .ensures))
     returns-4)

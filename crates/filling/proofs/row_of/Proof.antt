@@ -9,21 +9,6 @@ use Rattle.filling.specs.Contents.{first-conforms}
 use Rattle.filling.proofs.row_of.Statement.{statement}
 use Rattle.filling.proofs.row_of.Tie as tie
 
-add-second : tie.Need-add-second
-add-second c = omega (arith, content-within (c .before .pre .1 .element .within), c .before .good .1 .0)
-
-shared-slice-read-wide : tie.Need-shared-slice-read-wide
-shared-slice-read-wide c = omega (arith, content-within (c .before .before .pre .1 .element .within))
-
-wide-requires : tie.Need-wide-requires
-wide-requires c κs = search needs
-
-add-first-type : tie.Need-add-first-type
-add-first-type c = omega (arith, content-within (c .before .before .before .pre .1 .element .within), c .before .before .before .good .1 .0)
-
-first-type-requires : tie.Need-first-type-requires
-first-type-requires c κs = first-conforms (c .before .before .before .pre .1)
-
 source-row-requires : tie.Need-source-row-requires
 source-row-requires c κs =
     let start = c .before .before .before .before in
@@ -38,10 +23,10 @@ pub row-of-spec : {M : Type 1} → statement M
 row-of-spec =
     tie.close
     (tie.spec
-    add-second
-    shared-slice-read-wide
-    wide-requires
-    add-first-type
-    first-type-requires
+    (λ c. omega (arith, content-within (c .before .pre .1 .element .within), c .before .good .1 .0))
+    (λ c. omega (arith, content-within (c .before .before .pre .1 .element .within)))
+    (λ c κs. search needs)
+    (λ c. omega (arith, content-within (c .before .before .before .pre .1 .element .within), c .before .before .before .good .1 .0))
+    (λ c κs. first-conforms (c .before .before .before .pre .1))
     source-row-requires
     returns)

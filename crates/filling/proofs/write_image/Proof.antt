@@ -20,29 +20,17 @@ whole-room f =
     omega
     (arith, f .room, ap length (image-bytes (f .asked)), length-append (0x30 ∷ 0 ∷ []) ((inner ++ 0x32 ∷ []) ++ 0x3F ∷ []), length-append (inner ++ 0x32 ∷ []) (0x3F ∷ []), length-append inner (0x32 ∷ []))
 
-row-of-requires : tie.Need-row-of-requires
-row-of-requires c κs = let f = c .before .before .before .before .before .pre .1 in (f .asked .prepared .ready .source-bounded, image-root (f .asked))
-
-put-open-requires : tie.Need-put-open-requires
-put-open-requires c κs = omega (arith, whole-room (c .before .before .before .before .before .before .before .pre .1))
-
 sub-run : tie.Need-sub-run
 sub-run c = omega (arith, content-within (image-root (c .before .before .before .before .before .before .before .before .before .before .pre .1 .asked) .element .within))
 
 part-run-start : tie.Need-part-run-start
 part-run-start c = omega (arith, content-within (image-root (c .before .before .before .before .before .before .before .before .before .before .pre .1 .asked) .element .within))
 
-part-run-end : tie.Need-part-run-end
-part-run-end c = omega arith
-
 sub-run-2 : tie.Need-sub-run-2
 sub-run-2 c = let start = c .before .before .before .before .before .before .before .before .before .before .before in omega (arith, content-within (image-root (start .pre .1 .asked) .element .within), start .pre .0 .whole)
 
 part-run-start-2 : tie.Need-part-run-start-2
 part-run-start-2 c = let start = c .before .before .before .before .before .before .before .before .before .before .before in omega (arith, content-within (image-root (start .pre .1 .asked) .element .within), start .pre .0 .whole)
-
-part-run-end-2 : tie.Need-part-run-end-2
-part-run-end-2 c = omega arith
 
 run-requires : tie.Need-run-requires
 run-requires c κs =
@@ -88,14 +76,14 @@ pub write-image-spec : {M : Type 1} → statement M
 write-image-spec =
     tie.close
     (tie.spec
-    row-of-requires
-    put-open-requires
+    (λ c κs. let f = c .before .before .before .before .before .pre .1 in (f .asked .prepared .ready .source-bounded, image-root (f .asked)))
+    (λ c κs. omega (arith, whole-room (c .before .before .before .before .before .before .before .pre .1)))
     sub-run
     part-run-start
-    part-run-end
+    (λ c. omega arith)
     sub-run-2
     part-run-start-2
-    part-run-end-2
+    (λ c. omega arith)
     run-requires
     put-close-requires
     put-end-requires

@@ -78,33 +78,24 @@ read-to-calls t = (
   read-element.Post,
 )
 
-read-element-sub-if1 : (t : ℕ) → read-element-lts.Need-sub-if1 (read-element-calls t) (read-element-at t) read-element.Post
-read-element-sub-if1 t c = c .before .before .before .before .pre .1 .1 .1 .1 .1
-
 read-element-returns : (t : ℕ) → read-element-lts.Need-returns (read-element-calls t) (read-element-at t) read-element.Post
 read-element-returns t c = λ k a. element-no-room _ _ _ _ (c .if1 .taken)
 
 read-element-cast-put-open : (t : ℕ) → read-element-lts.Need-cast-put-open (read-element-calls t) (read-element-at t) read-element.Post
-read-element-cast-put-open t c = let start = c .before .before .before .before .before .before in omega (arith, start .pre .1 .1 .1 .0, start .pre .1 .1 .0 .source-bounded .few-types)
-
-read-element-put-open-requires : (t : ℕ) → read-element-lts.Need-put-open-requires (read-element-calls t) (read-element-at t) read-element.Post
-read-element-put-open-requires t c κs = let start = c .before .before .before .before .before .before in omega (arith, start .pre .1 .1 .1 .1 .1, c .before .if1 .left)
+read-element-cast-put-open t c = let start = c .before .before .before .before .before .before in omega (arith, start .pre .1 .0 .known-type, start .pre .1 .0 .ready .source-bounded .few-types)
 
 read-element-read-to-requires : (t : ℕ) → read-element-lts.Need-read-to-requires (read-element-calls t) (read-element-at t) read-element.Post
 read-element-read-to-requires t c κs =
     let start = c .before .before .before .before .before .before .before .before .before .before in
     let opened = c .before .before .before .put-open .ensures in
-    (omega (arith, start .pre .0), (start .pre .1 .0, (start .pre .1 .1 .0, (start .pre .1 .1 .1 .0, (start .pre .1 .1 .1 .1 .0, omega (arith, opened .after, writes-length opened, c .before .before .before .before .before .if1 .left, start .pre .1 .1 .1 .1 .1))))))
-
-read-element-enum-known-held : (t : ℕ) → read-element-lts.Need-enum-known-held (read-element-calls t) (read-element-at t) read-element.Post
-read-element-enum-known-held t c = search needs
+    (omega (arith, start .pre .0), (start .pre .1 .0, omega (arith, opened .after, writes-length opened, c .before .before .before .before .before .if1 .left, start .pre .1 .1)))
 
 read-element-same-length : (t : ℕ) → read-element-lts.Need-same-length (read-element-calls t) (read-element-at t) read-element.Post
 read-element-same-length t c =
     let read = c .before .before .before .before .before .before in
     let opened = read .before .before .before .before in
     let start = opened .before .before .before .before .before .before .before in
-    let here = start .pre .1 .1 .1 .1 .0 in
+    let here = start .pre .1 .0 .content in
     held-within _ _ (opened .put-open .ensures) (rw (c .before .before .held .given .1) at (read .read-to .ensures (here .0) (here .1))) .1
 
 read-element-returns-2 : (t : ℕ) → read-element-lts.Need-returns-2 (read-element-calls t) (read-element-at t) read-element.Post
@@ -118,18 +109,15 @@ read-element-put-close-requires t c κs =
     let read = c .before .before .before .before .before .before .before in
     let opened = read .before .before .before .before in
     let start = opened .before .before .before .before .before .before .before in
-    let here = start .pre .1 .1 .1 .1 .0 in
+    let here = start .pre .1 .0 .content in
     omega (arith, held-within _ _ (opened .put-open .ensures) (rw (c .before .before .before .held .given .1) at (read .read-to .ensures (here .0) (here .1))) .0, c .before .if2 .left)
-
-read-element-enum-told : (t : ℕ) → read-element-lts.Need-enum-told (read-element-calls t) (read-element-at t) read-element.Post
-read-element-enum-told t c = search needs
 
 read-element-same-length-2 : (t : ℕ) → read-element-lts.Need-same-length-2 (read-element-calls t) (read-element-at t) read-element.Post
 read-element-same-length-2 t c =
     let read = c .before .before .before .before .before .before .before .before .before .before in
     let opened = read .before .before .before .before in
     let start = opened .before .before .before .before .before .before .before in
-    let here = start .pre .1 .1 .1 .1 .0 in
+    let here = start .pre .1 .0 .content in
     writes-length (c .before .before .put-close .ensures) ∙ held-within _ _ (opened .put-open .ensures) (rw (c .before .before .before .before .before .before .held .given .1) at (read .read-to .ensures (here .0) (here .1))) .1
 
 read-element-returns-3 : (t : ℕ) → read-element-lts.Need-returns-3 (read-element-calls t) (read-element-at t) read-element.Post
@@ -153,51 +141,30 @@ read-to-μ-loop source target map em tr sp out₀ image depth cursor₀ to₀ ou
 read-to-returns : (t : ℕ) → read-to-lts.Need-returns (read-to-calls t) (read-to-at t) read-to.Post read-to-Inv-loop read-to-μ-loop
 read-to-returns t c = λ k a j e. some-none e (read-zero _ _ _ k (c .if1 .taken))
 
-read-to-kind-requires : (t : ℕ) → read-to-lts.Need-kind-requires (read-to-calls t) (read-to-at t) read-to.Post read-to-Inv-loop read-to-μ-loop
-read-to-kind-requires t c κs = let start = c .before .before .before .before .before .before in small (start .pre .1 .1 .0) (start .pre .1 .1 .1 .0)
-
 read-to-read-text-requires : (t : ℕ) → read-to-lts.Need-read-text-requires (read-to-calls t) (read-to-at t) read-to.Post read-to-Inv-loop read-to-μ-loop
 read-to-read-text-requires t c κs =
     let start = c .before .before .before .before .before .before .before .before .before in
     let code = sym (c .before .before .kind .ensures .0) ∙ c .before .if2 .taken in
-    (start .pre .1 .0, (small (start .pre .1 .1 .0) (start .pre .1 .1 .1 .0), (text-follows (start .pre .1 .1 .0) (start .pre .1 .1 .1 .0) _ (c .before .before .before .if1 .left) code, (start .pre .1 .1 .1 .1 .0, start .pre .1 .1 .1 .1 .1))))
-
-read-to-same-length : (t : ℕ) → read-to-lts.Need-same-length (read-to-calls t) (read-to-at t) read-to.Post read-to-Inv-loop read-to-μ-loop
-read-to-same-length t c = search needs
+    (start .pre .1 .0 .spans, (small (start .pre .1 .0 .ready) (start .pre .1 .0 .known-type), (text-follows (start .pre .1 .0 .ready) (start .pre .1 .0 .known-type) _ (c .before .before .before .if1 .left) code, (start .pre .1 .0 .content, start .pre .1 .1))))
 
 read-to-returns-2 : (t : ℕ) → read-to-lts.Need-returns-2 (read-to-calls t) (read-to-at t) read-to.Post read-to-Inv-loop read-to-μ-loop
 read-to-returns-2 t c =
     let start = c .before .before .before .before .before .before .before .before .before .before .before .before in
     let code = sym (c .before .before .before .before .before .kind .ensures .0) ∙ c .before .before .before .before .if2 .taken in
-    λ k a. rw (read-text (start .pre .1 .1 .0) (start .pre .1 .1 .1 .0) _ (c .before .before .before .before .before .before .if1 .left) code k) (c .before .before .read-text .ensures k a)
-
-read-to-begin-requires : (t : ℕ) → read-to-lts.Need-begin-requires (read-to-calls t) (read-to-at t) read-to.Post read-to-Inv-loop read-to-μ-loop
-read-to-begin-requires t c κs = let start = c .before .before .before .before .before .before .before .before in (start .pre .1 .0, (start .pre .1 .1 .0, (start .pre .1 .1 .1 .0, start .pre .1 .1 .1 .1 .0)))
+    λ k a. rw (read-text (start .pre .1 .0 .ready) (start .pre .1 .0 .known-type) _ (c .before .before .before .before .before .before .if1 .left) code k) (c .before .before .read-text .ensures k a)
 
 read-to-loop-holds : (t : ℕ) → read-to-lts.Need-loop-holds (read-to-calls t) (read-to-at t) read-to.Post read-to-Inv-loop read-to-μ-loop
 read-to-loop-holds t c =
     let start = c .before .before .before .before .before .before .before .before .before in
     let other = rw (c .before .before .kind .ensures .0) at (c .before .if2 .left) in
-    reading-start (start .pre .1 .1 .0) (start .pre .1 .1 .1 .0) (c .before .before .before .if1 .left) other (start .pre .1 .1 .1 .1 .1) (start .pre .1 .1 .1 .1 .0) (c .begin .ensures)
-
-read-to-next-requires : (t : ℕ) → read-to-lts.Need-next-requires (read-to-calls t) (read-to-at t) read-to.Post read-to-Inv-loop read-to-μ-loop
-read-to-next-requires t c κs = let start = c .before .before .before .before .before .before .before .before .before .before in (start .pre .1 .0, (start .pre .1 .1 .0, (start .pre .1 .1 .1 .0, turn-shows (c .loop .inv))))
-
-read-to-enum-known-part : (t : ℕ) → read-to-lts.Need-enum-known-part (read-to-calls t) (read-to-at t) read-to.Post read-to-Inv-loop read-to-μ-loop
-read-to-enum-known-part t c = search needs
-
-read-to-sub-t25 : (t : ℕ) → read-to-lts.Need-sub-t25 (read-to-calls t) (read-to-at t) read-to.Post read-to-Inv-loop read-to-μ-loop
-read-to-sub-t25 t c = omega (arith, c .before .before .before .before .before .before .before .before .if1 .left)
+    reading-start (start .pre .1 .0 .ready) (start .pre .1 .0 .known-type) (c .before .before .before .if1 .left) other (start .pre .1 .1) (start .pre .1 .0 .content) (c .begin .ensures)
 
 read-to-read-element-requires : (t : ℕ) → read-to-lts.Need-read-element-requires (read-to-calls t) (read-to-at t) read-to.Post read-to-Inv-loop read-to-μ-loop
 read-to-read-element-requires t c κs =
     let start = c .before .before .before .before .before .before .before .before .before .before .before .before .before .before .before in
     let now = c .before .before .before .before .before .loop .inv in
     let inside = turn-inside now (rw (c .before .before .part .given .1) at (c .before .before .before .before .next .ensures)) in
-    (omega (arith, start .pre .0, c .before .before .before .before .before .before .before .before .before .if1 .left), (start .pre .1 .0, (start .pre .1 .1 .0, (inside .0, (inside .1, now .fits)))))
-
-read-to-enum-known-child : (t : ℕ) → read-to-lts.Need-enum-known-child (read-to-calls t) (read-to-at t) read-to.Post read-to-Inv-loop read-to-μ-loop
-read-to-enum-known-child t c = search needs
+    (omega (arith, start .pre .0, c .before .before .before .before .before .before .before .before .before .if1 .left), (record { spans = start .pre .1 .0 .spans; ready = start .pre .1 .0 .ready; known-type = inside .0; content = inside .1 }, now .fits))
 
 read-to-loop-less : (t : ℕ) → read-to-lts.Need-loop-less (read-to-calls t) (read-to-at t) read-to.Post read-to-Inv-loop read-to-μ-loop
 read-to-loop-less t c = turn-less (c .before .before .before .before .before .before .before .before .before .before .before .loop .inv) (rw (c .before .before .before .before .before .before .before .before .part .given .1) at (c .before .before .before .before .before .before .before .before .before .before .next .ensures))
@@ -205,29 +172,14 @@ read-to-loop-less t c = turn-less (c .before .before .before .before .before .be
 read-to-loop-again : (t : ℕ) → read-to-lts.Need-loop-again (read-to-calls t) (read-to-at t) read-to.Post read-to-Inv-loop read-to-μ-loop
 read-to-loop-again t c = turn-on (c .before .before .before .before .before .before .before .before .before .before .before .loop .inv) (rw (c .before .before .before .before .before .before .before .before .part .given .1) at (c .before .before .before .before .before .before .before .before .before .before .next .ensures)) (rw (c .before .child .given .1) at (c .before .before .before .before .before .read-element .ensures))
 
-read-to-enum-told : (t : ℕ) → read-to-lts.Need-enum-told (read-to-calls t) (read-to-at t) read-to.Post read-to-Inv-loop read-to-μ-loop
-read-to-enum-told t c = search needs
-
 read-to-same-length-2 : (t : ℕ) → read-to-lts.Need-same-length-2 (read-to-calls t) (read-to-at t) read-to.Post read-to-Inv-loop read-to-μ-loop
 read-to-same-length-2 t c = c .before .before .before .before .read-element .kept .1 .1 .1 .1 .1 .1 .0 ∙ (c .before .before .before .before .before .before .before .before .before .before .loop .inv) .long
 
 read-to-returns-3 : (t : ℕ) → read-to-lts.Need-returns-3 (read-to-calls t) (read-to-at t) read-to.Post read-to-Inv-loop read-to-μ-loop
 read-to-returns-3 t c = turn-refused (c .before .before .before .before .before .before .before .before .before .before .loop .inv) (rw (c .before .before .before .before .before .before .before .part .given .1) at (c .before .before .before .before .before .before .before .before .before .next .ensures)) (rw (c .enum-told .given .1) at (c .before .before .before .before .read-element .ensures))
 
-read-to-enum-told-2 : (t : ℕ) → read-to-lts.Need-enum-told-2 (read-to-calls t) (read-to-at t) read-to.Post read-to-Inv-loop read-to-μ-loop
-read-to-enum-told-2 t c = search needs
-
-read-to-same-length-3 : (t : ℕ) → read-to-lts.Need-same-length-3 (read-to-calls t) (read-to-at t) read-to.Post read-to-Inv-loop read-to-μ-loop
-read-to-same-length-3 t c = c .before .before .before .loop .inv .long
-
 read-to-returns-4 : (t : ℕ) → read-to-lts.Need-returns-4 (read-to-calls t) (read-to-at t) read-to.Post read-to-Inv-loop read-to-μ-loop
 read-to-returns-4 t c = turn-done (c .before .before .before .loop .inv) (rw (c .enum-told2 .given .1) at (c .before .before .next .ensures))
-
-read-to-enum-told-3 : (t : ℕ) → read-to-lts.Need-enum-told-3 (read-to-calls t) (read-to-at t) read-to.Post read-to-Inv-loop read-to-μ-loop
-read-to-enum-told-3 t c = search needs
-
-read-to-same-length-4 : (t : ℕ) → read-to-lts.Need-same-length-4 (read-to-calls t) (read-to-at t) read-to.Post read-to-Inv-loop read-to-μ-loop
-read-to-same-length-4 t c = c .before .before .before .loop .inv .long
 
 read-to-returns-5 : (t : ℕ) → read-to-lts.Need-returns-5 (read-to-calls t) (read-to-at t) read-to.Post read-to-Inv-loop read-to-μ-loop
 read-to-returns-5 t c = turn-broken (c .before .before .before .loop .inv) (rw (c .enum-told3 .given .1) at (c .before .before .next .ensures))
@@ -235,56 +187,44 @@ read-to-returns-5 t c = turn-broken (c .before .before .before .loop .inv) (rw (
 pub +read-element+read-to-spec : {M : Type 1} → statement M
 +read-element+read-to-spec = close μ-read-element μ-read-to (λ t. read-element-lts.spec (read-element-calls t) (read-element-at t)
     read-element.Post
-    (read-element-sub-if1 t)
+    (λ c. c .before .before .before .before .pre .1 .1)
     (read-element-returns t)
     (read-element-cast-put-open t)
-    (read-element-put-open-requires t)
+    (λ c κs. let start = c .before .before .before .before .before .before in omega (arith, start .pre .1 .1, c .before .if1 .left))
     (read-element-read-to-requires t)
-    (read-element-enum-known-held t)
+    (λ c. search needs)
     (read-element-same-length t)
     (read-element-returns-2 t)
     (read-element-put-close-requires t)
-    (read-element-enum-told t)
+    (λ c. search needs)
     (read-element-same-length-2 t)
     (read-element-returns-3 t)
     (read-element-same-length-3 t)
     (read-element-returns-4 t))
-    λ t. read-to-lts.spec (
-      kind-reads.Asked,
-      kind-reads.Learnt,
-      read-text-reads.Asked,
-      read-text-reads.Learnt,
-      begin-reads.Asked,
-      begin-reads.Learnt,
-      next-reads.Asked,
-      next-reads.Learnt,
-      read-element-below t,
-      read-element.Post,
-    )
-    (read-to-at t)
+    λ t. read-to-lts.spec (read-to-calls t) (read-to-at t)
     read-to.Post
     read-to-Inv-loop
     read-to-μ-loop
     (read-to-returns t)
-    (read-to-kind-requires t)
+    (λ c κs. let start = c .before .before .before .before .before .before in small (start .pre .1 .0 .ready) (start .pre .1 .0 .known-type))
     (read-to-read-text-requires t)
-    (read-to-same-length t)
+    (λ c. search needs)
     (read-to-returns-2 t)
-    (read-to-begin-requires t)
+    (λ c κs. let start = c .before .before .before .before .before .before .before .before in start .pre .1 .0)
     (read-to-loop-holds t)
-    (read-to-next-requires t)
-    (read-to-enum-known-part t)
-    (read-to-sub-t25 t)
+    (λ c κs. let start = c .before .before .before .before .before .before .before .before .before .before in (start .pre .1 .0, turn-shows (c .loop .inv)))
+    (λ c. search needs)
+    (λ c. omega (arith, c .before .before .before .before .before .before .before .before .if1 .left))
     (read-to-read-element-requires t)
-    (read-to-enum-known-child t)
+    (λ c. search needs)
     (read-to-loop-less t)
     (read-to-loop-again t)
-    (read-to-enum-told t)
+    (λ c. search needs)
     (read-to-same-length-2 t)
     (read-to-returns-3 t)
-    (read-to-enum-told-2 t)
-    (read-to-same-length-3 t)
+    (λ c. search needs)
+    (λ c. c .before .before .before .loop .inv .long)
     (read-to-returns-4 t)
-    (read-to-enum-told-3 t)
-    (read-to-same-length-4 t)
+    (λ c. search needs)
+    (λ c. c .before .before .before .loop .inv .long)
     (read-to-returns-5 t)

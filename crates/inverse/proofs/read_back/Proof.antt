@@ -9,13 +9,7 @@ read-element-requires : tie.Need-read-element-requires
 read-element-requires c κs =
     let start = c .before .before .before .before .before in
     let here = start .pre .1 .1 in
-    (start .pre .0, (start .pre .1 .0, (root-type (start .pre .1 .0), ((here .0, root-there (here .1)), omega arith))))
-
-enum-known-root : tie.Need-enum-known-root
-enum-known-root c = search needs
-
-same-length : tie.Need-same-length
-same-length c = search needs
+    (record { spans = start .pre .0; ready = start .pre .1 .0; known-type = root-type (start .pre .1 .0); content = (here .0, root-there (here .1)) }, omega arith)
 
 returns : tie.Need-returns
 returns c =
@@ -29,19 +23,10 @@ put-end-requires c κs =
     let root = rw (c .before .before .before .root .given .1) at (c .before .before .before .before .before .before .before .read-element .ensures (here .0) (root-there (here .1))) in
     omega (arith, whole-room (start .pre .1 .0) (here .0) (here .1) root .0, c .before .if1 .left)
 
-enum-told : tie.Need-enum-told
-enum-told c = search needs
-
-same-length-2 : tie.Need-same-length-2
-same-length-2 c = search needs
-
 returns-2 : tie.Need-returns-2
 returns-2 c =
     let start = c .before .before .before .before .before .before .before .before .before .before .before .before .before .before .before .before in
     λ k e. whole-written (start .pre .1 .0) k e (rw (c .before .before .before .before .before .before .root .given .1) at (c .before .before .before .before .before .before .before .before .before .before .read-element .ensures k (root-there e))) (c .before .before .before .before .if1 .left) (c .before .before .put-end .ensures)
-
-same-length-3 : tie.Need-same-length-3
-same-length-3 c = search needs
 
 returns-3 : tie.Need-returns-3
 returns-3 c =
@@ -53,12 +38,12 @@ read-back-spec =
     tie.close
     (tie.spec
     read-element-requires
-    enum-known-root
-    same-length
+    (λ c. search needs)
+    (λ c. search needs)
     returns
     put-end-requires
-    enum-told
-    same-length-2
+    (λ c. search needs)
+    (λ c. search needs)
     returns-2
-    same-length-3
+    (λ c. search needs)
     returns-3)

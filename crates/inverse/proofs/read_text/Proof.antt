@@ -6,21 +6,12 @@ use Rattle.inverse.proofs.Elements.{text-within, text-copied, text-too-
 use Rattle.inverse.proofs.read_text.Statement.{statement}
 use Rattle.inverse.proofs.read_text.Tie as tie
 
-along-requires : tie.Need-along-requires
-along-requires c κs = let start = c .before .before .before .before in (start .pre .0, ((start .pre .1 .0, omega arith), (start .pre .1 .1 .0, start .pre .1 .1 .1 .0)))
-
-enum-known-found : tie.Need-enum-known-found
-enum-known-found c = search needs
-
 close-of-requires : tie.Need-close-of-requires
 close-of-requires c κs =
     let start = c .before .before .before .before .before .before .before .before in
     let here = start .pre .1 .1 .1 .0 in
     let found = rw (c .before .found .given .1) at (c .before .before .before .along .ensures (here .0) (here .1)) in
     (start .pre .0, (found .content, found .there))
-
-sub-if1 : tie.Need-sub-if1
-sub-if1 c = let start = c .before .before .before .before .before .before .before .before .before in start .pre .1 .1 .1 .1
 
 sub-if1-2 : tie.Need-sub-if1-2
 sub-if1-2 c =
@@ -39,12 +30,6 @@ copy-requires c κs =
     let within = text-within (rw (c .before .before .before .before .found .given .1) at (c .before .before .before .before .before .before .along .ensures (here .0) (here .1))) (c .before .before .close-of .ensures) in
     (within .0, within .1, omega (arith, within .0, c .before .if1 .left, start .pre .1 .1 .1 .1))
 
-enum-told : tie.Need-enum-told
-enum-told c = search needs
-
-same-length : tie.Need-same-length
-same-length c = search needs
-
 returns-2 : tie.Need-returns-2
 returns-2 c =
     let start = c .before .before .before .before .before .before .before .before .before .before .before .before .before .before in
@@ -57,14 +42,14 @@ pub read-text-spec : {M : Type 1} → statement M
 read-text-spec =
     tie.close
     (tie.spec
-    along-requires
-    enum-known-found
+    (λ c κs. let start = c .before .before .before .before in (start .pre .0, ((start .pre .1 .0, omega arith), (start .pre .1 .1 .0, start .pre .1 .1 .1 .0))))
+    (λ c. search needs)
     close-of-requires
-    sub-if1
+    (λ c. let start = c .before .before .before .before .before .before .before .before .before in start .pre .1 .1 .1 .1)
     sub-if1-2
     returns
     copy-requires
-    enum-told
-    same-length
+    (λ c. search needs)
+    (λ c. search needs)
     returns-2
     returns-3)

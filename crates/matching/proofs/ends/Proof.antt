@@ -8,14 +8,8 @@ use Rattle.matching.proofs.Comparing.{same-ends}
 use Rattle.matching.proofs.ends.Statement.{statement}
 use Rattle.matching.proofs.ends.Tie as tie
 
-same-byte-requires : tie.Need-same-byte-requires
-same-byte-requires c κs = search needs
-
 returns : tie.Need-returns
 returns c = (λ e. true-false e refl, λ q. absurd (c .before .before .same-byte .ensures .differs (stays _ (c .if1 .taken)) (0x3F ∷ []) q))
-
-same-byte-requires-2 : tie.Need-same-byte-requires-2
-same-byte-requires-2 c κs = c .before .before .same-byte .ensures .within (goes _ (c .if1 .left))
 
 returns-2 : tie.Need-returns-2
 returns-2 c = (
@@ -28,4 +22,4 @@ returns-3 c = same-ends (same-then (c .before .before .before .before .before .b
 
 pub ends-spec : {M : Type 1} → statement M
 ends-spec =
-    tie.close (tie.spec same-byte-requires returns same-byte-requires-2 returns-2 returns-3)
+    tie.close (tie.spec (λ c κs. search needs) returns (λ c κs. c .before .before .same-byte .ensures .within (goes _ (c .if1 .left))) returns-2 returns-3)

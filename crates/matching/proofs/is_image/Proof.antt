@@ -9,32 +9,14 @@ use Rattle.matching.proofs.Whole.{image-unopened, image-unlike, image-e
 use Rattle.matching.proofs.is_image.Statement.{statement}
 use Rattle.matching.proofs.is_image.Tie as tie
 
-row-of-requires : tie.Need-row-of-requires
-row-of-requires c κs = let a = c .before .before .before .before .before .pre .1 .1 in (a .prepared .ready .source-bounded, image-root a)
-
-same-open-requires : tie.Need-same-open-requires
-same-open-requires c κs = omega arith
-
 returns : tie.Need-returns
 returns c = λ bs a. image-unopened a (c .before .before .same-open .ensures) (stays _ (c .if1 .taken))
-
-sub-run : tie.Need-sub-run
-sub-run c = omega (arith, content-within (image-root (c .before .before .before .before .before .before .before .before .before .pre .1 .1) .element .within))
-
-part-run-start : tie.Need-part-run-start
-part-run-start c = omega (arith, content-within (image-root (c .before .before .before .before .before .before .before .before .before .pre .1 .1) .element .within))
-
-part-run-end : tie.Need-part-run-end
-part-run-end c = omega arith
 
 sub-run-2 : tie.Need-sub-run-2
 sub-run-2 c = let start = c .before .before .before .before .before .before .before .before .before .before in omega (arith, content-within (image-root (start .pre .1 .1) .element .within), start .pre .0 .whole)
 
 part-run-start-2 : tie.Need-part-run-start-2
 part-run-start-2 c = let start = c .before .before .before .before .before .before .before .before .before .before in omega (arith, content-within (image-root (start .pre .1 .1) .element .within), start .pre .0 .whole)
-
-part-run-end-2 : tie.Need-part-run-end-2
-part-run-end-2 c = omega arith
 
 run-requires : tie.Need-run-requires
 run-requires c κs =
@@ -71,15 +53,15 @@ pub is-image-spec : {M : Type 1} → statement M
 is-image-spec =
     tie.close
     (tie.spec
-    row-of-requires
-    same-open-requires
+    (λ c κs. let a = c .before .before .before .before .before .pre .1 .1 in (a .prepared .ready .source-bounded, image-root a))
+    (λ c κs. omega arith)
     returns
-    sub-run
-    part-run-start
-    part-run-end
+    (λ c. omega (arith, content-within (image-root (c .before .before .before .before .before .before .before .before .before .pre .1 .1) .element .within)))
+    (λ c. omega (arith, content-within (image-root (c .before .before .before .before .before .before .before .before .before .pre .1 .1) .element .within)))
+    (λ c. omega arith)
     sub-run-2
     part-run-start-2
-    part-run-end-2
+    (λ c. omega arith)
     run-requires
     returns-2
     ends-requires

@@ -15,9 +15,6 @@ use Rattle.matching.proofs.plain.Tie as tie
 same-bytes : {doc : List ℕ} {at : ℕ} {bs cs : List ℕ} {b : Bool} {next : ℕ} → cs ≡ bs → Same doc at bs b next → Same doc at cs b next
 same-bytes {doc} {at} {b = b} {next} e s = subst (λ (l : List ℕ). Same doc at l b next) (sym e) s
 
-same-open-requires : tie.Need-same-open-requires
-same-open-requires c κs = c .before .before .before .before .before .before .pre .1 .room
-
 returns : tie.Need-returns
 returns c = λ bs a. same-bytes (plain-opening a (c .before .if1 .taken)) (c .same-open .ensures)
 
@@ -50,9 +47,6 @@ returns-3 c =
     let part = content-part (k .1) close (c .before .close-of .ensures (k .0) (k .1)) in
     same-bytes (k .2 ∙ sym part ∙ ap (λ (n : ℕ). take n (c .before .before .before .before .before .before .before .before .before .before .args .tr .now)) all) (c .same-part .ensures)
 
-same-byte-requires : tie.Need-same-byte-requires
-same-byte-requires c κs = c .before .before .before .before .before .before .before .before .pre .1 .room
-
 returns-4 : tie.Need-returns-4
 returns-4 c = λ bs a. same-bytes (plain-closing a (c .before .before .if2 .left) (c .before .if3 .left)) (c .same-byte .ensures)
 
@@ -60,12 +54,12 @@ pub plain-spec : {M : Type 1} → statement M
 plain-spec =
     tie.close
     (tie.spec
-    same-open-requires
+    (λ c κs. c .before .before .before .before .before .before .pre .1 .room)
     returns
     filler-element-requires
     returns-2
     close-of-requires
     same-part-requires
     returns-3
-    same-byte-requires
+    (λ c κs. c .before .before .before .before .before .before .before .before .pre .1 .room)
     returns-4)

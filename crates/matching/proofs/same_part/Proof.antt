@@ -11,20 +11,8 @@ Inv-loop from e doc at i₀ next₀ i next = PartGoes from e doc at i next
 abbrev μ-loop : tie.MeasureT-loop
 μ-loop from e doc at i₀ next₀ i next = e - i
 
-sub-if1 : tie.Need-sub-if1 Inv-loop μ-loop
-sub-if1 c = c .pre .1
-
 returns : tie.Need-returns Inv-loop μ-loop
 returns c = part-short _ _ _ _ _ (c .before .pre .0) (c .if1 .taken)
-
-loop-holds : tie.Need-loop-holds Inv-loop μ-loop
-loop-holds c = part-goes _ _ (c .before .pre .1)
-
-shared-slice-read-if2 : tie.Need-shared-slice-read-if2 Inv-loop μ-loop
-shared-slice-read-if2 c = part-inside (c .before .before .loop .inv) (c .before .loop-test .taken) (c .before .before .before .if1 .left)
-
-shared-slice-read-if2-2 : tie.Need-shared-slice-read-if2-2 Inv-loop μ-loop
-shared-slice-read-if2-2 c = omega (arith, c .before .before .loop-test .taken, c .before .before .before .before .before .pre .0)
 
 returns-2 : tie.Need-returns-2 Inv-loop μ-loop
 returns-2 c = part-stops (c .before .before .before .before .loop .inv) (c .before .before .before .loop-test .taken) (c .before .before .before .before .before .before .pre .0) (c .if2 .taken)
@@ -34,9 +22,6 @@ add-next c = omega (arith, part-inside (c .before .before .before .before .loop 
 
 add-i : tie.Need-add-i Inv-loop μ-loop
 add-i c = let start = c .before .before .before .before .before .before in omega (arith, c .before .before .before .loop-test .taken, start .pre .0, start .good .0)
-
-loop-less : tie.Need-loop-less Inv-loop μ-loop
-loop-less c = omega (arith, c .before .before .before .loop-test .taken)
 
 loop-again : tie.Need-loop-again Inv-loop μ-loop
 loop-again c = part-on (c .before .before .before .before .loop .inv) (c .before .before .before .loop-test .taken) (c .before .before .before .before .before .before .pre .0) (c .before .before .before .before .before .if1 .left) (c .if2 .left)
@@ -50,14 +35,14 @@ same-part-spec =
     (tie.spec
     Inv-loop
     μ-loop
-    sub-if1
+    (λ c. c .pre .1)
     returns
-    loop-holds
-    shared-slice-read-if2
-    shared-slice-read-if2-2
+    (λ c. part-goes _ _ (c .before .pre .1))
+    (λ c. part-inside (c .before .before .loop .inv) (c .before .loop-test .taken) (c .before .before .before .if1 .left))
+    (λ c. omega (arith, c .before .before .loop-test .taken, c .before .before .before .before .before .pre .0))
     returns-2
     add-next
     add-i
-    loop-less
+    (λ c. omega (arith, c .before .before .before .loop-test .taken))
     loop-again
     returns-3)

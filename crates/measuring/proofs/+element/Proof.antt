@@ -96,9 +96,6 @@ shared-slice-read-if2 t c =
     let start = c .before .before .before .before .before .before .before .before .before .before in
     turn-within (c .before .before .before .loop .inv) (start .pre .1)
 
-with-character-requires : (t : ℕ) → element-lts.Need-with-character-requires (claims t) (element-at t) element.Post element-Inv-loop element-μ-loop
-with-character-requires t c κs = c .before .before .before .before .loop .inv .held
-
 add-o : (t : ℕ) → element-lts.Need-add-o (claims t) (element-at t) element.Post element-Inv-loop element-μ-loop
 add-o t c =
     let start = c .before .before .before .before .before .before .before .before .before .before .before .before in
@@ -123,9 +120,6 @@ shared-slice-read-wide : (t : ℕ) → element-lts.Need-shared-slice-read-wide (
 shared-slice-read-wide t c =
     let start = c .before .before .before .before .before .before .before .before .before .before .before .before in
     turn-opens (c .before .before .before .before .before .loop .inv) (start .pre .1) (c .before .if2 .left) (c .before .before .before .if1 .taken)
-
-wide-requires : (t : ℕ) → element-lts.Need-wide-requires (claims t) (element-at t) element.Post element-Inv-loop element-μ-loop
-wide-requires t c κs = search needs
 
 child-depth-requires : (t : ℕ) → element-lts.Need-child-depth-requires (claims t) (element-at t) element.Post element-Inv-loop element-μ-loop
 child-depth-requires t c κs =
@@ -196,13 +190,13 @@ pub +element-spec : {M : Type 1} → statement M
     (loop-holds t)
     (shared-slice-read-if1 t)
     (shared-slice-read-if2 t)
-    (with-character-requires t)
+    (λ c κs. c .before .before .before .before .loop .inv .held)
     (add-o t)
     (loop-less t)
     (loop-again t)
     (add-wide t)
     (shared-slice-read-wide t)
-    (wide-requires t)
+    (λ c κs. search needs)
     (child-depth-requires t)
     (add-element t)
     (element-requires t)

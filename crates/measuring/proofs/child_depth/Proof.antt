@@ -7,22 +7,10 @@ use Rattle.loaded_embedding.specs.Loaded.{lengthsOf}
 use Rattle.measuring.proofs.child_depth.Statement.{statement}
 use Rattle.measuring.proofs.child_depth.Tie as tie
 
-edge-of-requires : tie.Need-edge-of-requires
-edge-of-requires c κs = search needs
-
-mul-steps : tie.Need-mul-steps
-mul-steps c = search needs
-
-add-steps : tie.Need-add-steps
-add-steps c = search needs
-
-steps-requires : tie.Need-steps-requires
-steps-requires c κs = search needs
-
 returns : tie.Need-returns
 returns c =
     let start = c .before .before in
     (c .steps .ensures .0 ∙ ap (λ (n : ℕ). getD (lengthsOf (start .args .map .now)) (start .args .s * 16 + n) 0) (c .before .edge-of .ensures), c .steps .ensures .1)
 
 pub child-depth-spec : {M : Type 1} → statement M
-child-depth-spec = tie.close (tie.spec edge-of-requires mul-steps add-steps steps-requires returns)
+child-depth-spec = tie.close (tie.spec (λ c κs. search needs) (λ c. search needs) (λ c. search needs) (λ c κs. search needs) returns)

@@ -34,22 +34,10 @@ row-after : (source : List ℕ) (s t row : ℕ) → row ≡ sourceRow (tableBy s
 unfolding sourceRow
 row-after source s t row is-row = omega (arith, is-row)
 
-kind-requires : tie.Need-kind-requires
-kind-requires c κs = search needs
-
 returns : tie.Need-returns
 returns c =
     let start = c .before .before in
     sequence-edge (start .args .source .now) (start .args .s) (c .before .kind .result) (start .args .i) (start .args .t) (start .pre .1) (c .before .kind .ensures .0) (c .if1 .taken)
-
-mul-base : tie.Need-mul-base
-mul-base c = search needs
-
-add-base : tie.Need-add-base
-add-base c = search needs
-
-source-row-requires : tie.Need-source-row-requires
-source-row-requires c κs = search needs
 
 sub-result : tie.Need-sub-result
 sub-result c =
@@ -62,4 +50,4 @@ returns-2 c =
     other-edge (start .args .source .now) (start .args .s) (c .before .before .kind .result) (start .args .i) (start .args .t) (start .pre .1) (c .before .before .kind .ensures .0) (c .before .if1 .left) (c .source-row .result) (c .source-row .ensures .0)
 
 pub edge-of-spec : {M : Type 1} → statement M
-edge-of-spec = tie.close (tie.spec kind-requires returns mul-base add-base source-row-requires sub-result returns-2)
+edge-of-spec = tie.close (tie.spec (λ c κs. search needs) returns (λ c. search needs) (λ c. search needs) (λ c κs. search needs) sub-result returns-2)

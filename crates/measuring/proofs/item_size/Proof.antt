@@ -28,9 +28,6 @@ module _ (source : List ℕ) (s code : ℕ) (exists : s < typesIn source) (is-co
       (ap (λ (κ : Kind). around κ n) (kind-of source s exists)
       ∙ around-list (getD (kindsOf source) s 0) (getD (countsOf source) s 0) (drop (s * 16) (membersIn source)) n (omega (arith, is-code, large)))
 
-kind-requires : tie.Need-kind-requires
-kind-requires c κs = search needs
-
 returns : tie.Need-returns
 returns c =
     let start = c .before .before .before in
@@ -38,12 +35,6 @@ returns c =
     let row = itemRow (start .args .s) in
     let none = none-around (start .args .source .now) (start .args .s) (c .before .kind .result) (start .pre .1 .0) (c .before .kind .ensures .0) (c .if1 .taken) in
     (none (levelsIn sizes row), (none (bytesIn sizes row), none (fillerIn sizes row)))
-
-item-row-requires : tie.Need-item-row-requires
-item-row-requires c κs = search needs
-
-size-of-requires : tie.Need-size-of-requires
-size-of-requires c κs = search needs
 
 returns-2 : tie.Need-returns-2
 returns-2 c =
@@ -55,4 +46,4 @@ returns-2 c =
     (all _ _ (size .0 ∙ ap (levelsIn sizes) row), (all _ _ (size .1 ∙ ap (bytesIn sizes) row), all _ _ (size .2 ∙ ap (fillerIn sizes) row)))
 
 pub item-size-spec : {M : Type 1} → statement M
-item-size-spec = tie.close (tie.spec kind-requires returns item-row-requires size-of-requires returns-2)
+item-size-spec = tie.close (tie.spec (λ c κs. search needs) returns (λ c κs. search needs) (λ c κs. search needs) returns-2)

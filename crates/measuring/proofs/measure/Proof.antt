@@ -5,17 +5,11 @@ use Rattle.measuring.proofs.Whole.{root-given, root-held, whole-size}
 use Rattle.measuring.proofs.measure.Statement.{statement}
 use Rattle.measuring.proofs.measure.Tie as tie
 
-element-requires : tie.Need-element-requires
-element-requires c κs = root-given (c .before .before .pre)
-
 add-held : tie.Need-add-held
 add-held c =
     let start = c .before .before .before .before .before in
     let small = root-held (start .pre) (c .before .before .element .ensures (root-given (start .pre)) .0) in
     omega (arith, small .levels-held)
-
-held-requires : tie.Need-held-requires
-held-requires c κs = search needs
 
 add-held-2 : tie.Need-add-held-2
 add-held-2 c =
@@ -23,12 +17,9 @@ add-held-2 c =
     let small = root-held (start .pre) (c .before .before .before .before .element .ensures (root-given (start .pre)) .0) in
     omega (arith, small .bytes-held)
 
-held-requires-2 : tie.Need-held-requires-2
-held-requires-2 c κs = search needs
-
 returns : tie.Need-returns
 returns c =
     λ m. whole-size m (c .before .before .before .before .before .element .ensures (root-given m) .0) (c .before .before .held .ensures) (c .held2 .ensures)
 
 pub measure-spec : {M : Type 1} → statement M
-measure-spec = tie.close (tie.spec element-requires add-held held-requires add-held-2 held-requires-2 returns)
+measure-spec = tie.close (tie.spec (λ c κs. root-given (c .before .before .pre)) add-held (λ c κs. search needs) add-held-2 (λ c κs. search needs) returns)

@@ -25,18 +25,6 @@ module _ {tr : List ℕ} {from : ℕ} where
   ahead-none (char c r) a other = refl
   ahead-none (elem t k r) a other = absurd (other (element-first a))
 
-shared-slice-read-if1 : tie.Need-shared-slice-read-if1
-shared-slice-read-if1 c = let start = c .before .before in omega (arith, content-within (start .pre .1))
-
-add-wide : tie.Need-add-wide
-add-wide c = let start = c .before .before .before in omega (arith, opens (start .pre .0) (start .pre .1) (c .if1 .taken) .two)
-
-shared-slice-read-wide : tie.Need-shared-slice-read-wide
-shared-slice-read-wide c = let start = c .before .before .before .before in opens (start .pre .0) (start .pre .1) (c .before .if1 .taken) .two
-
-wide-requires : tie.Need-wide-requires
-wide-requires c κs = search needs
-
 returns : tie.Need-returns
 returns c = λ k a. c .wide .ensures ∙ ahead-opens k a (c .before .before .if1 .taken)
 
@@ -44,4 +32,4 @@ returns-2 : tie.Need-returns-2
 returns-2 c = λ k a. sym (ahead-none k a (c .if1 .left))
 
 pub type-ahead-spec : {M : Type 1} → statement M
-type-ahead-spec = tie.close (tie.spec shared-slice-read-if1 add-wide shared-slice-read-wide wide-requires returns returns-2)
+type-ahead-spec = tie.close (tie.spec (λ c. let start = c .before .before in omega (arith, content-within (start .pre .1))) (λ c. let start = c .before .before .before in omega (arith, opens (start .pre .0) (start .pre .1) (c .if1 .taken) .two)) (λ c. let start = c .before .before .before .before in opens (start .pre .0) (start .pre .1) (c .before .if1 .taken) .two) (λ c κs. search needs) returns returns-2)

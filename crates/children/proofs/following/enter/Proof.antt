@@ -5,18 +5,6 @@ use Rattle.children.proofs.Entering.{enter-text, enter-empty, enter-seq
 use Rattle.children.proofs.following.enter.Statement.{statement}
 use Rattle.children.proofs.following.enter.Tie as tie
 
-child-requires : tie.Need-child-requires
-child-requires c κs = (c .before .before .before .pre .0, search needs)
-
-cast-child-of-type : tie.Need-cast-child-of-type
-cast-child-of-type c = omega (arith, c .before .before .before .pre .1 .0)
-
-child-of-type-requires : tie.Need-child-of-type-requires
-child-of-type-requires c κs = search needs
-
-child-requires-2 : tie.Need-child-requires-2
-child-requires-2 c κs = (c .before .before .before .pre .0, search needs)
-
 returns : tie.Need-returns
 returns c = λ k a count row. enter-text _ _ _ k count row (c .match .keys1)
 
@@ -36,10 +24,10 @@ pub enter-spec : {M : Type 1} → statement M
 enter-spec =
     tie.close
     (tie.spec
-    child-requires
-    cast-child-of-type
-    child-of-type-requires
-    child-requires-2
+    (λ c κs. (c .before .before .before .pre .0, search needs))
+    (λ c. omega (arith, c .before .before .before .pre .1 .0))
+    (λ c κs. search needs)
+    (λ c κs. (c .before .before .before .pre .0, search needs))
     returns
     returns-2
     returns-3

@@ -16,21 +16,12 @@ abbrev μ-loop : tie.MeasureT-loop
 loop-holds : tie.Need-loop-holds Inv-loop μ-loop
 loop-holds c = let start = c .before .before .before in onward-start (start .pre .1 .0) (start .args .tr .now) (start .args .at)
 
-step-requires : tie.Need-step-requires Inv-loop μ-loop
-step-requires c κs = place-within (c .before .loop .inv .walk) (c .loop-test .taken)
-
-sub-member : tie.Need-sub-member Inv-loop μ-loop
-sub-member c = step-bounds (c .before .before .loop .inv .walk) (c .before .loop-test .taken) (c .step .ensures .0) .0
-
 member-requires : tie.Need-member-requires Inv-loop μ-loop
 member-requires c κs =
     let walk = c .before .before .loop .inv .walk in
     let read = c .step .ensures .0 in
     let bounds = step-bounds walk (c .before .loop-test .taken) read in
     (is-small walk (c .before .loop-test .taken) read, omega (arith, bounds .0, bounds .1))
-
-kind-requires : tie.Need-kind-requires Inv-loop μ-loop
-kind-requires c κs = is-small (c .before .before .before .loop .inv .walk) (c .before .before .loop-test .taken) (c .before .step .ensures .0)
 
 enter-requires : tie.Need-enter-requires Inv-loop μ-loop
 enter-requires c κs =
@@ -39,23 +30,11 @@ enter-requires c κs =
     let there = now .reached (start .pre .1 .1 .0) (start .pre .1 .1 .1) in
     (start .pre .0, (next-small now (c .before .before .before .loop-test .taken) (c .before .before .step .ensures .0) (c .before .member .ensures .0) (c .kind .ensures .0), (there .content, there .there)))
 
-enum-known-found : tie.Need-enum-known-found Inv-loop μ-loop
-enum-known-found c = search needs
-
-enum-told : tie.Need-enum-told Inv-loop μ-loop
-enum-told c = search needs
-
 returns : tie.Need-returns Inv-loop μ-loop
 returns c =
     let turn = c .before .before .before .before .before .before in
     onward-missing (turn .before .loop .inv) (turn .loop-test .taken) (c .before .before .before .before .before .step .ensures .0) (c .before .before .before .before .member .ensures .0) (c .before .before .before .kind .ensures .0)
     (rw (c .enum-told .given .1) at (c .before .before .enter .ensures))
-
-add-i : tie.Need-add-i Inv-loop μ-loop
-add-i c = omega (arith, c .before .before .before .before .before .before .before .loop-test .taken)
-
-loop-less : tie.Need-loop-less Inv-loop μ-loop
-loop-less c = omega (arith, c .before .before .before .before .before .before .before .loop-test .taken)
 
 loop-again : tie.Need-loop-again Inv-loop μ-loop
 loop-again c =
@@ -73,15 +52,15 @@ follow-spec =
     Inv-loop
     μ-loop
     loop-holds
-    step-requires
-    sub-member
+    (λ c κs. place-within (c .before .loop .inv .walk) (c .loop-test .taken))
+    (λ c. step-bounds (c .before .before .loop .inv .walk) (c .before .loop-test .taken) (c .step .ensures .0) .0)
     member-requires
-    kind-requires
+    (λ c κs. is-small (c .before .before .before .loop .inv .walk) (c .before .before .loop-test .taken) (c .before .step .ensures .0))
     enter-requires
-    enum-known-found
-    enum-told
+    (λ c. search needs)
+    (λ c. search needs)
     returns
-    add-i
-    loop-less
+    (λ c. omega (arith, c .before .before .before .before .before .before .before .loop-test .taken))
+    (λ c. omega (arith, c .before .before .before .before .before .before .before .loop-test .taken))
     loop-again
     returns-2)
