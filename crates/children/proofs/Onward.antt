@@ -32,7 +32,7 @@ unfolding follow
 follow-end T τ k = refl
 
 -- the content at offset `here` leads by the given steps to what is sought
-pub record Reached (T : Table) (tr : List ℕ) (here τ : ℕ) (steps : List ℕ) (sought : Option Content) : Type 0 where
+pub record PathLeft (T : Table) (tr : List ℕ) (here τ : ℕ) (steps : List ℕ) (sought : Option Content) : Type 0 where
   pub content : Content
   pub there : At tr here content
   pub same : sought ≡ follow T τ steps content
@@ -41,7 +41,7 @@ pub record Reached (T : Table) (tr : List ℕ) (here τ : ℕ) (steps : List ℕ
 pub record Onward (target em : List ℕ) (start steps tau : ℕ) (tr : List ℕ) (at i here τ : ℕ) : Type 0 where
   pub walk : Taken target em start steps i τ
   pub reached : (k : Content) → At tr at k
-      → Reached (tableBy target) tr here τ (stepsFrom em (start + 2 * i + 2) (steps - i)) (follow (tableBy target) tau (stepsFrom em (start + 2) steps) k)
+      → PathLeft (tableBy target) tr here τ (stepsFrom em (start + 2 * i + 2) (steps - i)) (follow (tableBy target) tau (stepsFrom em (start + 2) steps) k)
 
 -- before the first step
 pub onward-start : {target em : List ℕ} {start steps tau : ℕ} (path : Followable target em start steps tau) (tr : List ℕ) (at : ℕ) → Onward target em start steps tau tr at 0 at tau

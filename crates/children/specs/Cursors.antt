@@ -68,17 +68,17 @@ Shows source target map em σ tr k cursor.Last parts = parts ≡ done
 Shows source target map em σ tr k cursor.Lost parts = parts ≡ broken
 
 -- at first all are left
-abbrev pub Begins : List ℕ → List ℕ → List ℕ → List ℕ → List ℕ → Image → Cursor → Type 0
-Begins source target map em tr image r =
+abbrev pub ShowsAll : List ℕ → List ℕ → List ℕ → List ℕ → List ℕ → Image → Cursor → Type 0
+ShowsAll source target map em tr image r =
     (k : Content) → At tr (image .from) k → Shows source target map em (image .sigma) tr k r (childParts (settingIn source target map em) (image .sigma) k)
 
 -- a number that falls with each child
-abbrev pub weight : List ℕ → Cursor → ℕ
-weight tr (cursor.Edges i) = 17 - i
-weight tr cursor.Choice = 1
-weight tr (cursor.Items r) = 1 + (length tr - r .at)
-weight tr cursor.Last = 0
-weight tr cursor.Lost = 0
+abbrev pub cursorWeight : List ℕ → Cursor → ℕ
+cursorWeight tr (cursor.Edges i) = 17 - i
+cursorWeight tr cursor.Choice = 1
+cursorWeight tr (cursor.Items r) = 1 + (length tr - r .at)
+cursorWeight tr cursor.Last = 0
+cursorWeight tr cursor.Lost = 0
 
 -- the next child: its source type m, where what it is read from begins, and the cursor after it
 pub record GivesOne (source target map em : List ℕ) (σ : ℕ) (tr : List ℕ) (k : Content) (bound m o : ℕ) (then : Cursor) (parts : Parts) : Type 0 where
@@ -87,7 +87,7 @@ pub record GivesOne (source target map em : List ℕ) (σ : ℕ) (tr : List ℕ)
   pub is : parts ≡ part m inside rest
   pub there : At tr o inside
   pub on : Shows source target map em σ tr k then rest
-  pub less : weight tr then < bound
+  pub less : cursorWeight tr then < bound
   pub is-type : m < typesIn source
 
 abbrev pub Gives : List ℕ → List ℕ → List ℕ → List ℕ → ℕ → List ℕ → Content → ℕ → Part → Parts → Type 0

@@ -22,7 +22,7 @@ ghost use Rattle.loaded_table.specs.Loaded.{kindsOf, tableBy};
 ghost use Rattle.loaded_embedding.specs.Loaded.{targetsOf, startsOf, lengthsOf};
 ghost use Rattle.paths.specs.Following.{Followable, pathAt};
 ghost use Rattle.children.specs.Parts.{Parts};
-ghost use Rattle.children.specs.Cursors.{ImageThere, LeftEdges, LeftChoice, LeftItems, Shows, Begins, weight, Gives};
+ghost use Rattle.children.specs.Cursors.{ImageThere, LeftEdges, LeftChoice, LeftItems, Shows, ShowsAll, cursorWeight, Gives};
 ghost use Rattle.model.specs.Definitions.Content.{Content};
 ghost use Rattle.model.specs.Definitions.Inverse as model;
 ghost use Rattle.scanning.specs.Finding.{Finds};
@@ -193,7 +193,7 @@ pub fn next<'a>(
 ) -> Part
     requires image { ⌜ ImageThere (now source) (now target) (now map) (now em) (now tr) (now sp) image ⌝ }
     requires left { ⌜ ((k : Content) × (parts : Parts) × At (now tr) (image .from) k × Shows (now source) (now target) (now map) (now em) (image .sigma) (now tr) k cursor parts) ⌝ }
-    ensures { λ r. ⌜ ((k : Content) (parts : Parts) → At (now (tr .entry)) (image .from) k → Shows (now (source .entry)) (now (target .entry)) (now (map .entry)) (now (em .entry)) (image .sigma) (now (tr .entry)) k cursor parts → Gives (now (source .entry)) (now (target .entry)) (now (map .entry)) (now (em .entry)) (image .sigma) (now (tr .entry)) k (weight (now (tr .entry)) cursor) r parts) ⌝ }
+    ensures { λ r. ⌜ ((k : Content) (parts : Parts) → At (now (tr .entry)) (image .from) k → Shows (now (source .entry)) (now (target .entry)) (now (map .entry)) (now (em .entry)) (image .sigma) (now (tr .entry)) k cursor parts → Gives (now (source .entry)) (now (target .entry)) (now (map .entry)) (now (em .entry)) (image .sigma) (now (tr .entry)) k (cursorWeight (now (tr .entry)) cursor) r parts) ⌝ }
 {
     match cursor {
         Cursor::Edges(i) => next_member(source, target, map, em, tr, sp, image, i),
@@ -216,7 +216,7 @@ fn begin_list<'a>(
 ) -> Cursor
     requires image { ⌜ ImageThere (now source) (now target) (now map) (now em) (now tr) (now sp) image ⌝ }
     requires list { ⌜ 4 ≤ getD (kindsOf (now source)) (image .sigma) 0 ⌝ }
-    ensures { λ r. ⌜ Begins (now (source .entry)) (now (target .entry)) (now (map .entry)) (now (em .entry)) (now (tr .entry)) image r ⌝ }
+    ensures { λ r. ⌜ ShowsAll (now (source .entry)) (now (target .entry)) (now (map .entry)) (now (em .entry)) (now (tr .entry)) image r ⌝ }
 {
     let sigma = image.sigma;
     let edge = sigma * MAX_MEMBERS;
@@ -253,7 +253,7 @@ pub fn begin<'a>(
     image: Image,
 ) -> Cursor
     requires image { ⌜ ImageThere (now source) (now target) (now map) (now em) (now tr) (now sp) image ⌝ }
-    ensures { λ r. ⌜ Begins (now (source .entry)) (now (target .entry)) (now (map .entry)) (now (em .entry)) (now (tr .entry)) image r ⌝ }
+    ensures { λ r. ⌜ ShowsAll (now (source .entry)) (now (target .entry)) (now (map .entry)) (now (em .entry)) (now (tr .entry)) image r ⌝ }
 {
     let kind = loaded_table::kind(source, image.sigma);
     match kind {

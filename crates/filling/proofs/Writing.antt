@@ -10,7 +10,7 @@ use Rattle.writing.specs.Writing.{Writes}
 use Rattle.writing.specs.Laws.{writes-left, writes-length, writes-then}
 use Rattle.filling.specs.Asked.{Fits, FillerAsked}
 use Rattle.filling.specs.FillerRows.{fillerLeft, filler-starts}
-use Rattle.filling.specs.Loops.{Turn, Roomy, FillerGoes, filler-last, RowGoes, SymbolDone, row-on}
+use Rattle.filling.specs.Loops.{Advance, Roomy, FillerGoes, filler-last, RowGoes, SymbolDone, row-on}
 
 -- Of the bytes `whole`, to be written at offset `at` of `old`, the bytes `rest` are left, to be written at `next` of `out`.
 pub record ToWrite (old : List ℕ) (at : ℕ) (out : List ℕ) (next : ℕ) (whole rest : List ℕ) : Type 0 where
@@ -29,7 +29,7 @@ module _ {old : List ℕ} {at : ℕ} {out : List ℕ} {next : ℕ} where
   write-room room = record { room = λ l bs more e. omega (arith, l .place, l .long, ap length e, length-append bs more) }
 
   -- some bytes of it are written
-  pub write-turn : {new : List ℕ} {after : ℕ} → Turn (ToWrite old at out next) (ToWrite old at new after) (λ (bs : List ℕ). Writes out new next bs after)
+  pub write-turn : {new : List ℕ} {after : ℕ} → Advance (ToWrite old at out next) (ToWrite old at new after) (λ (bs : List ℕ). Writes out new next bs after)
   write-turn =
       record {
         takes = λ l bs more e w.

@@ -14,7 +14,7 @@ use Rattle.loaded_table.specs.Loaded.{tableBy}
 use Rattle.rows.specs.Rows.{Rows, rowAt, toOf, sourceRow, itemRow}
 use Rattle.scanning.specs.Scanning.{At}
 use Rattle.loaded_setting.specs.Ready.{settingIn, Ready}
-use Rattle.filling.specs.Contents.{Child}
+use Rattle.filling.specs.Contents.{NumberedChild}
 
 -- ---- what is prepared
 
@@ -35,8 +35,8 @@ pub record Prepared (source pool places : List ℕ) : Type 0 where
   pub ready : Ready source target map em
   pub rows : Rows (settingIn source target map em) pool places
 
-abbrev pub settingOf : {source pool places : List ℕ} → Prepared source pool places → Setting
-settingOf {source} p = settingIn source (p .target) (p .map) (p .em)
+abbrev pub preparedSetting : {source pool places : List ℕ} → Prepared source pool places → Setting
+preparedSetting {source} p = settingIn source (p .target) (p .map) (p .em)
 
 -- ---- the bytes that are asked for
 
@@ -60,9 +60,9 @@ pub record ChildAsked (source pool places tr : List ℕ) (i : ℕ) (bs : List �
   pub there : At tr 0 around
   pub type : ℕ
   pub inside : Content
-  pub child : Child (tableBy source) around i type inside
+  pub child : NumberedChild (tableBy source) around i type inside
   pub is-type : type < length (tableBy source)
-  pub is : bs ≡ writes (settingOf prepared) type inside
+  pub is : bs ≡ writes (preparedSetting prepared) type inside
 
 -- a source list whose content begins the document tr, and the number of its item's row
 pub record ListOf (source pool places : List ℕ) (r : ℕ) : Type 0 where
@@ -75,7 +75,7 @@ pub record ListOf (source pool places : List ℕ) (r : ℕ) : Type 0 where
 
 -- the bytes of the items of content k
 abbrev pub itemBytes : {source pool places : List ℕ} {r : ℕ} → ListOf source pool places r → Content → List ℕ
-itemBytes l k = overChildren (λ t inner. filledRow (settingOf (l .prepared) .target) (λ h. writes (settingOf (l .prepared)) t inner) (itemTemplate (settingOf (l .prepared)) (l .type))) k
+itemBytes l k = overChildren (λ t inner. filledRow (preparedSetting (l .prepared) .target) (λ h. writes (preparedSetting (l .prepared)) t inner) (itemTemplate (preparedSetting (l .prepared)) (l .type))) k
 
 pub record ItemsAsked (source pool places tr : List ℕ) (r : ℕ) (bs : List ℕ) : Type 0 where
   pub listed : ListOf source pool places r
@@ -97,7 +97,7 @@ pub record RowAsked (source pool places tr : List ℕ) (r : ℕ) (bs : List ℕ)
   pub there : At tr 0 inside
   pub is-type : type < length (tableBy source)
   pub row-of : RowOf (tableBy source) type inside r
-  pub is : bs ≡ filledRow (settingOf prepared .target) (heldBy (settingOf prepared) type inside) (rowAt pool places r)
+  pub is : bs ≡ filledRow (preparedSetting prepared .target) (heldBy (preparedSetting prepared) type inside) (rowAt pool places r)
 
 -- the image's document, of a source document that conforms
 pub record ImageAsked (source pool places tr : List ℕ) (bs : List ℕ) : Type 0 where
@@ -105,7 +105,7 @@ pub record ImageAsked (source pool places tr : List ℕ) (bs : List ℕ) : Type 
   pub inside : Content
   pub form : tr ≡ document 0 inside
   pub holds : Holds (tableBy source) (kindOf (tableBy source) 0) inside
-  pub is : bs ≡ document 0 (image (settingOf prepared) inside)
+  pub is : bs ≡ document 0 (image (preparedSetting prepared) inside)
 
 -- ---- room for them
 

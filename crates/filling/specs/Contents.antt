@@ -14,11 +14,11 @@ use Rattle.scanning.specs.Scanning.{At}
 use Rattle.scanning.specs.Laws.{element-first, Opens, opens, opens-next}
 
 -- what is left of content behind its first i elements
-unfoldable pub passed : ℕ → Content → Content
-passed zero k = k
-passed (suc i) end = end
-passed (suc i) (char c r) = end
-passed (suc i) (elem t l r) = passed i r
+unfoldable pub afterFirst : ℕ → Content → Content
+afterFirst zero k = k
+afterFirst (suc i) end = end
+afterFirst (suc i) (char c r) = end
+afterFirst (suc i) (elem t l r) = afterFirst i r
 
 -- an element of type t that holds l opens at offset o
 pub record ElementAt (tr : List ℕ) (o t : ℕ) (l : Content) : Type 0 where
@@ -57,20 +57,20 @@ inside-part {tr} o {k} e a = at-part (o + 2) e (subst (λ (n : ℕ). At tr n k) 
 -- ---- children of conforming content
 
 -- child i of content, of type t, which holds l
-pub record Child (S : Table) (k : Content) (i t : ℕ) (l : Content) : Type 0 where
+pub record NumberedChild (S : Table) (k : Content) (i t : ℕ) (l : Content) : Type 0 where
   pub rest : Content
-  pub is : passed i k ≡ elem t l rest
+  pub is : afterFirst i k ≡ elem t l rest
   pub holds : Holds S (kindOf S t) l
 
 -- a child of a sequence, the member of a choice, the first item
 pub record SomeChild (S : Table) (ms : List ℕ) (k : Content) (i : ℕ) : Type 0 where
   pub type : ℕ
   pub inside : Content
-  pub child : Child S k i type inside
+  pub child : NumberedChild S k i type inside
   pub member : List·Memᴰ type ms
 
 pub sequence-child : {S : Table} {ms : List ℕ} {k : Content} (i : ℕ) → Holds S (sequence ms) k → i < length ms → SomeChild S ms k i
-unfolding passed
+unfolding afterFirst
 sequence-child i no-member less = absurd (omega arith)
 sequence-child zero (one-member {m} {ms} {k} {r} h later) less =
     record { type = m; inside = k; child = record { rest = r; is = refl; holds = h }; member = List·Memᴰ·head refl }
@@ -84,12 +84,12 @@ sequence-child (suc i) (one-member {m} {ms} {k} {r} h later) less =
     }
 
 pub choice-child : {S : Table} {ms : List ℕ} {k : Content} → Holds S (choice ms) k → SomeChild S ms k 0
-unfolding passed
+unfolding afterFirst
 choice-child (chosen {m} {ms} {k} mem h) = record { type = m; inside = k; child = record { rest = end; is = refl; holds = h }; member = mem }
 
 -- what a function makes of child i
-pub at-child : {A : Type 0} (none : A) (f : ℕ → Content → A) (i : ℕ) (k : Content) {t : ℕ} {l r : Content} → passed i k ≡ elem t l r → atChild none f k i ≡ f t l
-unfolding passed atChild
+pub at-child : {A : Type 0} (none : A) (f : ℕ → Content → A) (i : ℕ) (k : Content) {t : ℕ} {l r : Content} → afterFirst i k ≡ elem t l r → atChild none f k i ≡ f t l
+unfolding afterFirst atChild
 at-child none f zero end e = let z : _≡_ {A = ℕ} 0 1 = cc in absurd (omega arith)
 at-child none f zero (char c r) e = let z : _≡_ {A = ℕ} 0 1 = cc in absurd (omega arith)
 at-child none f zero (elem t l r) e = cc
@@ -129,7 +129,7 @@ pub record ChildThere (tr : List ℕ) (i : ℕ) : Type 0 where
   pub type : ℕ
   pub inside : Content
   pub rest : Content
-  pub is : passed i around ≡ elem type inside rest
+  pub is : afterFirst i around ≡ elem type inside rest
 
 -- conforming content at an offset
 pub record Conforms (tr : List ℕ) (o : ℕ) : Type 0 where

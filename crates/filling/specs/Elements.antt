@@ -18,7 +18,7 @@ use Rattle.model.specs.Theorems.TemplateShapes.{HoleOfItem}
 use Rattle.model.specs.Theorems.Templates.{writes-again}
 use Rattle.filling.specs.Model.{item-symbols}
 use Rattle.filling.specs.Contents.{at-part, inside-part, ElementAt, ChildThere, FirstThere}
-use Rattle.filling.specs.Asked.{Prepared, settingOf, ChildAsked, ListOf, itemBytes, own-row, item-row, RowAsked}
+use Rattle.filling.specs.Asked.{Prepared, preparedSetting, ChildAsked, ListOf, itemBytes, own-row, item-row, RowAsked}
 use Rattle.filling.specs.RowNumbers.{first-chosen}
 use Rattle.filling.specs.Turns.{filled-same}
 
@@ -26,7 +26,7 @@ use Rattle.filling.specs.Turns.{filled-same}
 
 -- what is written for an element is what its row stands for
 pub element-row : {source pool places : List ℕ} (p : Prepared source pool places) {s : ℕ} {k : Content} → s < length (tableBy source) → Holds (tableBy source) (kindOf (tableBy source) s) k
-    → {part : List ℕ} → At part 0 k → {r : ℕ} → r ≡ sourceRow (tableBy source) s (firstIn k) → RowAsked source pool places part r (writes (settingOf p) s k)
+    → {part : List ℕ} → At part 0 k → {r : ℕ} → r ≡ sourceRow (tableBy source) s (firstIn k) → RowAsked source pool places part r (writes (preparedSetting p) s k)
 element-row {source} {pool} {places} p {s} {k} exists holds there is-row =
     record {
       prepared = p;
@@ -35,15 +35,15 @@ element-row {source} {pool} {places} p {s} {k} exists holds there is-row =
       there = there;
       is-type = exists;
       row-of = own-row holds is-row;
-      is = writes-again (settingOf p) s k
-          ∙ ap (filledRow (settingOf p .target) (heldBy (settingOf p) s k)) (sym (ap (rowAt pool places) is-row ∙ p .rows .template-at s (firstIn k) exists (first-chosen holds)));
+      is = writes-again (preparedSetting p) s k
+          ∙ ap (filledRow (preparedSetting p .target) (heldBy (preparedSetting p) s k)) (sym (ap (rowAt pool places) is-row ∙ p .rows .template-at s (firstIn k) exists (first-chosen holds)));
     }
 
 -- ---- the items of a list
 
 -- the bytes of an item of type t that holds inner
 abbrev pub oneItem : {source pool places : List ℕ} {r : ℕ} → ListOf source pool places r → ℕ → Content → List ℕ
-oneItem l t inner = filledRow (settingOf (l .prepared) .target) (λ h. writes (settingOf (l .prepared)) t inner) (itemTemplate (settingOf (l .prepared)) (l .type))
+oneItem l t inner = filledRow (preparedSetting (l .prepared) .target) (λ h. writes (preparedSetting (l .prepared)) t inner) (itemTemplate (preparedSetting (l .prepared)) (l .type))
 
 -- no item is left
 pub items-none : {source pool places : List ℕ} {r : ℕ} (l : ListOf source pool places r) → itemBytes l end ≡ []
@@ -81,7 +81,7 @@ item-asked {source} {pool} {places} {r} l {tr} {o} {inner} {rest} there holds {p
     }
   where
     X₁ : Setting
-    X₁ = settingOf (l .prepared)
+    X₁ = preparedSetting (l .prepared)
 
 -- ---- finding a child
 

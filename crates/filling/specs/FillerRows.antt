@@ -11,14 +11,14 @@ use Rattle.loaded_table.specs.Loaded.{length-of}
 use Rattle.rows.specs.Rows.{symbolOf, rowIn, fromOf, toOf}
 use Rattle.model.specs.Theorems.Templates.{filler-written}
 use Rattle.filling.specs.Model.{OfFiller, filler-symbols}
-use Rattle.filling.specs.Asked.{Fillers, Prepared, settingOf, FillerAsked}
+use Rattle.filling.specs.Asked.{Fillers, Prepared, preparedSetting, FillerAsked}
 use Rattle.filling.specs.Symbols.{Meaning, opens, fills, child-there, text-there, items-there, closes, meaning, opening-symbol, filler-symbol, child-symbol, characters-symbol, items-symbol, closing-symbol, symbolBytes, row-first, row-done, symbol-in, filler-bytes}
 
 -- the rows of filler among those of a setting
 unfoldable pub fillers-of : {source pool places : List ℕ} → Prepared source pool places → Fillers pool places
 fillers-of p =
     record {
-      table = settingOf p .target;
+      table = preparedSetting p .target;
       sound = p .ready .valid .target-sound;
       few = omega (arith, length-of (p .target), p .ready .target-bounded .few-types);
       long = omega (arith, p .rows .long);

@@ -14,7 +14,7 @@ use Rattle.filling.specs.Turns.{row-within, rowLeft, row-starts, row-end
 use Rattle.filling.specs.Items.{Remains, remains-all, remains-within, remains-none, OneItem, one-item-left, item-bytes, item-there, item-row-asked, remains-less}
 
 -- What is known before a turn and what was done with the bytes that it took give what is known after it.
-pub record Turn (Before After : List ℕ → List ℕ → Type 0) (Done : List ℕ → Type 0) : Type 0 where
+pub record Advance (Before After : List ℕ → List ℕ → Type 0) (Done : List ℕ → Type 0) : Type 0 where
   pub takes : {whole rest : List ℕ} → Before whole rest → (bs more : List ℕ) → rest ≡ bs ++ more → Done bs → After whole more
 
 -- What is known before a turn gives room for the bytes that it takes.
@@ -58,7 +58,7 @@ module _ {pool places : List ℕ} {t to i : ℕ} {Known : List ℕ → List ℕ 
             room = s .room (g .known bs a) (fillerSymbol a i (g .low) less) (fillerLeft a (i + 1)) (filler-more a i (g .low) less);
           }
 
-    module _ {After : List ℕ → List ℕ → Type 0} {Done : List ℕ → Type 0} (turn : Turn Known After Done) (w : (bs : List ℕ) → FillerAsked pool places (getD pool i 0 - 64) bs → Done bs) where
+    module _ {After : List ℕ → List ℕ → Type 0} {Done : List ℕ → Type 0} (turn : Advance Known After Done) (w : (bs : List ℕ) → FillerAsked pool places (getD pool i 0 - 64) bs → Done bs) where
       -- and something is done with it
       pub filler-then : (bs : List ℕ) (a : FillerAsked pool places t bs) → After (fillerLeft a (fromOf places t)) (fillerLeft a (i + 1))
       filler-then bs a =
@@ -134,7 +134,7 @@ module _ {source pool places tr : List ℕ} {r to i : ℕ} {Known : List ℕ →
       unfolding SymbolDone
       plain-done no-child no-items w bs a = w (symbol a) (row-plain a i (g .low) row-less no-child no-items)
 
-      module _ {After : List ℕ → List ℕ → Type 0} (turn : Turn Known After Done) (w : SymbolDone Done) where
+      module _ {After : List ℕ → List ℕ → Type 0} (turn : Advance Known After Done) (w : SymbolDone Done) where
         pub row-then : (bs : List ℕ) (a : RowAsked source pool places tr r bs) → After bs (rowLeft a (i + 1))
         unfolding SymbolDone
         row-then bs a = turn .takes (g .known bs a) (symbol a) (rowLeft a (i + 1)) (row-more a i (g .low) row-less) (w bs a)
@@ -186,7 +186,7 @@ module _ {source pool places tr : List ℕ} {r o : ℕ} {Known : List ℕ → Li
             room = s .room (g .lists bs a .known) (item-bytes (one a)) (itemBytes (a .listed) (one a .next)) (one a .more);
           }
 
-      module _ {After : List ℕ → List ℕ → Type 0} {Done : List ℕ → Type 0} (turn : Turn Known After Done) (w : (bs : List ℕ) → RowAsked source pool places part r bs → Done bs) where
+      module _ {After : List ℕ → List ℕ → Type 0} {Done : List ℕ → Type 0} (turn : Advance Known After Done) (w : (bs : List ℕ) → RowAsked source pool places part r bs → Done bs) where
         -- and something is done with it
         pub item-then : (bs : List ℕ) (a : ItemsAsked source pool places tr r bs) → After bs (itemBytes (a .listed) (one a .next))
         item-then bs a =

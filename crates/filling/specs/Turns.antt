@@ -16,8 +16,8 @@ use Rattle.scanning.specs.Scanning.{At}
 use Rattle.model.specs.Theorems.TemplateShapes.{HoleIn, HoleOfItem}
 use Rattle.model.specs.Theorems.Templates.{text-characters}
 use Rattle.filling.specs.Model.{Allowed, template-symbols, item-symbols}
-use Rattle.filling.specs.Contents.{passed, SomeChild, sequence-child, choice-child, at-child}
-use Rattle.filling.specs.Asked.{settingOf, FillerAsked, PlainAsked, an-opening, a-filler, the-characters, a-closing, ChildAsked, ItemsAsked, RowOf, own-row, item-row, RowAsked}
+use Rattle.filling.specs.Contents.{afterFirst, SomeChild, sequence-child, choice-child, at-child}
+use Rattle.filling.specs.Asked.{preparedSetting, FillerAsked, PlainAsked, an-opening, a-filler, the-characters, a-closing, ChildAsked, ItemsAsked, RowOf, own-row, item-row, RowAsked}
 use Rattle.filling.specs.Symbols.{Meaning, opens, fills, child-there, text-there, items-there, closes, meaning, filler-symbol, child-symbol, characters-symbol, items-symbol, symbolBytes, row-first, row-done, symbol-in, opening-bytes, filler-bytes, child-bytes, characters-bytes, items-bytes, closing-bytes}
 use Rattle.filling.specs.FillerRows.{fillers-of}
 use Rattle.filling.specs.RowNumbers.{first-chosen, index-small, rank, own-rank}
@@ -66,7 +66,7 @@ list-row S s t m e = rw e (unfold rowIndex in omega arith)
 
 module _ {source pool places tr : List ℕ} {r : ℕ} {bs : List ℕ} (a : RowAsked source pool places tr r bs) where
   abbrev X : Setting
-  X = settingOf (a .prepared)
+  X = preparedSetting (a .prepared)
 
   abbrev S : Table
   S = tableBy source
@@ -183,7 +183,7 @@ module _ {source pool places tr : List ℕ} {r : ℕ} {bs : List ℕ} (a : RowAs
             let none : x′ - 128 ≡ 0 = subst (Allowed (X .target) HoleOfItem) (child-symbol x′ h g) (item-symbol is q) in
             let exists : m < length S = valid .source-sound .well-formed .members-exist (a .type) m (rw is (unfold membersOf in List·Memᴰ·head refl)) in
             asked (m ∷ [])
-            (record { type = m; inside = l; child = record { rest = rest; is = rw (none, e) (unfold passed in refl); holds = k }; member = List·Memᴰ·head refl }) exists
+            (record { type = m; inside = l; child = record { rest = rest; is = rw (none, e) (unfold afterFirst in refl); holds = k }; member = List·Memᴰ·head refl }) exists
 
     -- and where it is the items
     pub row-items : x′ ≡ 145 → ItemsAsked source pool places tr (r + 16) rowSymbol

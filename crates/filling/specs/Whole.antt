@@ -12,7 +12,7 @@ use Rattle.rows.specs.Rows.{sourceRow}
 use Rattle.scanning.specs.Scanning.{At}
 use Rattle.scanning.specs.Laws.{root-at}
 use Rattle.filling.specs.Contents.{FirstThere, inside-part}
-use Rattle.filling.specs.Asked.{settingOf, ImageAsked, RowAsked}
+use Rattle.filling.specs.Asked.{preparedSetting, ImageAsked, RowAsked}
 use Rattle.filling.specs.Elements.{element-row}
 
 -- a document's root, what it holds, and its end
@@ -23,7 +23,7 @@ document-bytes k = refl
 module _ {source pool places tr : List ℕ} {bs : List ℕ} (a : ImageAsked source pool places tr bs) where
   -- what the root of the image holds
   abbrev pub held : List ℕ
-  held = writes (settingOf (a .prepared)) 0 (a .inside)
+  held = writes (preparedSetting (a .prepared)) 0 (a .inside)
 
   pub root-there : At tr 2 (a .inside)
   root-there = subst (λ (l : List ℕ). At l 2 (a .inside)) (sym (a .form)) (root-at 0 (a .inside))
@@ -50,5 +50,5 @@ module _ {source pool places tr : List ℕ} {bs : List ℕ} (a : ImageAsked sour
   -- the bytes of the image
   pub image-bytes : bs ≡ (0x30 ∷ 0 ∷ []) ++ ((held ++ 0x32 ∷ []) ++ 0x3F ∷ [])
   image-bytes =
-      a .is ∙ document-bytes (image (settingOf (a .prepared)) (a .inside))
-      ∙ ap (λ (inner : List ℕ). (0x30 ∷ 0 ∷ []) ++ ((inner ++ 0x32 ∷ []) ++ 0x3F ∷ [])) (sym (write-image (settingOf (a .prepared)) (a .prepared .ready .valid) (a .inside) (a .holds)))
+      a .is ∙ document-bytes (image (preparedSetting (a .prepared)) (a .inside))
+      ∙ ap (λ (inner : List ℕ). (0x30 ∷ 0 ∷ []) ++ ((inner ++ 0x32 ∷ []) ++ 0x3F ∷ [])) (sym (write-image (preparedSetting (a .prepared)) (a .prepared .ready .valid) (a .inside) (a .holds)))

@@ -18,18 +18,18 @@ use Rattle.inverse.proofs.Elements.{end-length, element-length, element
 -- ---- a child and what follows it
 
 -- what was read as a child and as what follows it
-record Child (read : ℕ → Content → Option Content) (m : ℕ) (k : Content) (rest : Option Content) (r : Content) : Type 0 where
+record ChildAndRest (read : ℕ → Content → Option Content) (m : ℕ) (k : Content) (rest : Option Content) (r : Content) : Type 0 where
   pub inside : Content
   pub after : Content
   pub was-read : read m k ≡ some inside
   pub was-after : rest ≡ some after
   pub made : r ≡ elem m inside after
 
-child-read : (read : ℕ → Content → Option Content) (m : ℕ) (k : Content) (rest : Option Content) (r : Content) → readOne read m (some k) rest ≡ some r → Child read m k rest r
+child-read : (read : ℕ → Content → Option Content) (m : ℕ) (k : Content) (rest : Option Content) (r : Content) → readOne read m (some k) rest ≡ some r → ChildAndRest read m k rest r
 unfolding readOne andThen
 child-read read m k rest r e = go (read m k) rest refl refl e
   where
-    go : (a b : Option Content) → read m k ≡ a → rest ≡ b → andThen a (λ (i : Content). andThen b (λ (l : Content). some (elem m i l))) ≡ some r → Child read m k rest r
+    go : (a b : Option Content) → read m k ≡ a → rest ≡ b → andThen a (λ (i : Content). andThen b (λ (l : Content). some (elem m i l))) ≡ some r → ChildAndRest read m k rest r
     go none b p q f = some-none f refl
     go (some i) none p q f = some-none f refl
     go (some i) (some l) p q f = record { inside = i; after = l; was-read = p; was-after = q; made = cc }

@@ -14,7 +14,7 @@ use Rattle.scanning.specs.Scanning.{At}
 use Rattle.writing.specs.Laws.{writes-length}
 use Rattle.children.specs.declared.Cursor.{Cursor}
 use Rattle.children.specs.Parts.{Parts, done, broken, readParts, childParts}
-use Rattle.children.specs.Cursors.{Shows, weight, GivesOne}
+use Rattle.children.specs.Cursors.{Shows, cursorWeight, GivesOne}
 use Rattle.inverse.specs.Reading.{elementOf, ReadsTo}
 use Rattle.inverse.proofs.Joining.{Onto, onto-start, onto-missing, onto-done, child-refused, child-written}
 use Rattle.inverse.proofs.ByKind.{read-children}
@@ -24,7 +24,7 @@ abbrev childRead : List ℕ → List ℕ → List ℕ → List ℕ → ℕ → �
 childRead source target map em depth m j = readTo (settingIn source target map em) (depth - 1) m j
 
 -- the children that are left, where the image holds k
-pub record Left (source target map em : List ℕ) (σ : ℕ) (tr : List ℕ) (depth : ℕ) (k : Content) (old : List ℕ) (at₀ : ℕ) (out : List ℕ) (to : ℕ) (cursor : Cursor) : Type 0 where
+pub record ChildrenLeft (source target map em : List ℕ) (σ : ℕ) (tr : List ℕ) (depth : ℕ) (k : Content) (old : List ℕ) (at₀ : ℕ) (out : List ℕ) (to : ℕ) (cursor : Cursor) : Type 0 where
   pub parts : Parts
   pub shows : Shows source target map em σ tr k cursor parts
   pub onto : Onto old at₀ (readTo (settingIn source target map em) depth σ k) out to (readParts (childRead source target map em depth) parts)
@@ -34,7 +34,7 @@ pub record Reading (source target map em : List ℕ) (σ : ℕ) (tr : List ℕ) 
   pub long : length out ≡ length old
   pub fits : to ≤ length out
   pub here : (k : Content) × At tr from k
-  pub left : (k : Content) → At tr from k → Left source target map em σ tr depth k old at₀ out to cursor
+  pub left : (k : Content) → At tr from k → ChildrenLeft source target map em σ tr depth k old at₀ out to cursor
 
 -- no child is read yet
 pub reading-start : {source target map em : List ℕ} (ready : Ready source target map em) {σ : ℕ} (exists : σ < typesIn source) {tr : List ℕ} {from depth : ℕ} {old : List ℕ} {at₀ : ℕ} {cursor : Cursor}
@@ -82,8 +82,8 @@ module _ {source target map em : List ℕ} {σ : ℕ} {tr : List ℕ} {from dept
       onto-missing (l .onto) (ap (readParts (childRead source target map em depth)) (gives k (l .parts) a (l .shows)))
 
   module _ {m o : ℕ} {then : Cursor}
-      (gives : (k : Content) (parts : Parts) → At tr from k → Shows source target map em σ tr k cursor parts → GivesOne source target map em σ tr k (weight tr cursor) m o then parts) where
-    one : (k : Content) (a : At tr from k) → GivesOne source target map em σ tr k (weight tr cursor) m o then (now .left k a .parts)
+      (gives : (k : Content) (parts : Parts) → At tr from k → Shows source target map em σ tr k cursor parts → GivesOne source target map em σ tr k (cursorWeight tr cursor) m o then parts) where
+    one : (k : Content) (a : At tr from k) → GivesOne source target map em σ tr k (cursorWeight tr cursor) m o then (now .left k a .parts)
     one k a = gives k (now .left k a .parts) a (now .left k a .shows)
 
     onto-one : (k : Content) (a : At tr from k)
@@ -95,7 +95,7 @@ module _ {source target map em : List ℕ} {σ : ℕ} {tr : List ℕ} {from dept
     pub turn-inside : (m < typesIn source) × ((j : Content) × At tr o j)
     turn-inside = let g = one (now .here .0) (now .here .1) in (g .is-type, (g .inside, g .there))
 
-    pub turn-less : weight tr then < weight tr cursor
+    pub turn-less : cursorWeight tr then < cursorWeight tr cursor
     turn-less = one (now .here .0) (now .here .1) .less
 
     -- the child is missing or doesn't fit

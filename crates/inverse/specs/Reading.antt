@@ -22,9 +22,9 @@ pub record ReadsTo (old new : List ℕ) (at e : ℕ) (sought : Option Content) :
   pub fits : e ≤ length old
 
 -- or there is none, or it doesn't fit the buffer
-abbrev pub Reads : List ℕ → List ℕ → ℕ → Read → Option Content → Type 0
-Reads old new at (answer.To e) sought = ReadsTo old new at e sought
-Reads old new at answer.Nothing sought = (j : Content) → sought ≡ some j → length old < at + length (bytes j)
+abbrev pub ReadsInto : List ℕ → List ℕ → ℕ → Read → Option Content → Type 0
+ReadsInto old new at (answer.To e) sought = ReadsTo old new at e sought
+ReadsInto old new at answer.Nothing sought = (j : Content) → sought ≡ some j → length old < at + length (bytes j)
 
 -- ---- a whole document
 

@@ -21,7 +21,7 @@ ghost use Rattle.loaded_table.specs.Loaded.{tableBy};
 ghost use Rattle.loaded_embedding.specs.Loaded.{targetsOf, startsOf, lengthsOf};
 ghost use Rattle.children.specs.Cursors.{ImageThere};
 ghost use Rattle.paths.specs.Following.{Followable, pathAt};
-ghost use Rattle.inverse.specs.Reading.{elementOf, Reads, Brings};
+ghost use Rattle.inverse.specs.Reading.{elementOf, ReadsInto, Brings};
 ghost use Rattle.model.specs.Definitions.Content.{Content, document};
 ghost use Rattle.model.specs.Definitions.Inverse as model;
 ghost use Rattle.scanning.specs.Scanning.{At};
@@ -29,7 +29,7 @@ ghost use Rattle.scanning.specs.Spanning.{Spans};
 ghost use Rattle.loaded_setting.specs.Ready.{settingIn, Ready};
 
 // An element to be read: its image, a bound of its levels, and where it is written.
-pub struct Task {
+pub struct ToRead {
     pub image: Image,
     pub depth: usize,
     pub at: usize,
@@ -49,14 +49,14 @@ fn read_text<'a>(
     tr: &'a [u8],
     sp: &'a [u16],
     out: &mut [u8],
-    task: Task,
+    task: ToRead,
 ) -> Read
     requires spans { ⌜ Spans (now tr) (now sp) ⌝ }
     requires place { ⌜ task .image .sigma < 64 ⌝ }
     requires path { ⌜ Followable (now target) (now em) (getD (startsOf (now map)) (task .image .sigma * 16 + 0) 0) (getD (lengthsOf (now map)) (task .image .sigma * 16 + 0) 0) (getD (targetsOf (now map)) (task .image .sigma) 0) ⌝ }
     requires content { ⌜ ((k : Content) × At (now tr) (task .image .from) k) ⌝ }
     requires room { ⌜ task .at ≤ length (now out) ⌝ }
-    ensures { λ r. ⌜ ((k : Content) → At (now (tr .entry)) (task .image .from) k → Reads (now (out .entry)) (now (out .exit)) (task .at) r (model.follow (tableBy (now (target .entry))) (getD (targetsOf (now (map .entry))) (task .image .sigma) 0) (pathAt (now (em .entry)) (now (map .entry)) (task .image .sigma * 16 + 0)) k)) ⌝ }
+    ensures { λ r. ⌜ ((k : Content) → At (now (tr .entry)) (task .image .from) k → ReadsInto (now (out .entry)) (now (out .exit)) (task .at) r (model.follow (tableBy (now (target .entry))) (getD (targetsOf (now (map .entry))) (task .image .sigma) 0) (pathAt (now (em .entry)) (now (map .entry)) (task .image .sigma * 16 + 0)) k)) ⌝ }
 {
     let at = task.at;
     let found = along(target, map, em, tr, sp, task.image, 0);
@@ -82,11 +82,11 @@ fn read_to<'a>(
     tr: &'a [u8],
     sp: &'a [u16],
     out: &mut [u8],
-    task: Task,
+    task: ToRead,
 ) -> Read
     requires image { ⌜ ImageThere (now source) (now target) (now map) (now em) (now tr) (now sp) (task .image) ⌝ }
     requires room { ⌜ task .at ≤ length (now out) ⌝ }
-    ensures { λ r. ⌜ ((k : Content) → At (now (tr .entry)) (task .image .from) k → Reads (now (out .entry)) (now (out .exit)) (task .at) r (model.readTo (settingIn (now (source .entry)) (now (target .entry)) (now (map .entry)) (now (em .entry))) (task .depth) (task .image .sigma) k)) ⌝ }
+    ensures { λ r. ⌜ ((k : Content) → At (now (tr .entry)) (task .image .from) k → ReadsInto (now (out .entry)) (now (out .exit)) (task .at) r (model.readTo (settingIn (now (source .entry)) (now (target .entry)) (now (map .entry)) (now (em .entry))) (task .depth) (task .image .sigma) k)) ⌝ }
 {
     let image = task.image;
     let depth = task.depth;
@@ -103,7 +103,7 @@ fn read_to<'a>(
         match part {
             Part::One(m, o, then) => {
                 let inside = Image { sigma: m, from: o };
-                let below = Task {
+                let below = ToRead {
                     image: inside,
                     depth: depth - 1,
                     at: to,
@@ -132,11 +132,11 @@ fn read_element<'a>(
     tr: &'a [u8],
     sp: &'a [u16],
     out: &mut [u8],
-    task: Task,
+    task: ToRead,
 ) -> Read
     requires image { ⌜ ImageThere (now source) (now target) (now map) (now em) (now tr) (now sp) (task .image) ⌝ }
     requires room { ⌜ task .at ≤ length (now out) ⌝ }
-    ensures { λ r. ⌜ ((k : Content) → At (now (tr .entry)) (task .image .from) k → Reads (now (out .entry)) (now (out .exit)) (task .at) r (elementOf (task .image .sigma) (model.readTo (settingIn (now (source .entry)) (now (target .entry)) (now (map .entry)) (now (em .entry))) (task .depth) (task .image .sigma) k))) ⌝ }
+    ensures { λ r. ⌜ ((k : Content) → At (now (tr .entry)) (task .image .from) k → ReadsInto (now (out .entry)) (now (out .exit)) (task .at) r (elementOf (task .image .sigma) (model.readTo (settingIn (now (source .entry)) (now (target .entry)) (now (map .entry)) (now (em .entry))) (task .depth) (task .image .sigma) k))) ⌝ }
 {
     let at = task.at;
     if out.len() - at < 3 {
@@ -175,7 +175,7 @@ pub fn read_back<'a>(
     requires document { ⌜ ((k : Content) × (now tr ≡ document 0 k)) ⌝ }
     ensures { λ r. ⌜ ((k : Content) → now (tr .entry) ≡ document 0 k → Brings (now (out .entry)) (now (out .exit)) r (model.readBack (settingIn (now (source .entry)) (now (target .entry)) (now (map .entry)) (now (em .entry))) k)) ⌝ }
 {
-    let whole = Task {
+    let whole = ToRead {
         image: Image { sigma: 0, from: 2 },
         depth: tr.len(),
         at: 0,

@@ -12,10 +12,10 @@ use lib.Dec.{eqb}
 use borrow.Author.Tests.{eqb-true, eq-eqb}
 use Rattle.model.specs.Theorems.Tools.{true-false}
 use Rattle.writing.specs.Laws.{part-cons}
-use Rattle.matching.specs.Same.{Same, ToCompare, compare-all, compare-turn, compare-stops, all-compared, byte-same, byte-differs}
+use Rattle.matching.specs.Same.{SameBytes, ToCompare, compare-all, compare-turn, compare-stops, all-compared, byte-same, byte-differs}
 
 -- the document ends before the e bytes of `from` do
-pub part-short : (from : List ℕ) (e : ℕ) (doc : List ℕ) (at next : ℕ) → e ≤ length from → length doc - at < e → Same doc at (take e from) false next
+pub part-short : (from : List ℕ) (e : ℕ) (doc : List ℕ) (at next : ℕ) → e ≤ length from → length doc - at < e → SameBytes doc at (take e from) false next
 part-short from e doc at next within short =
     record {
       within = λ y. true-false y refl;
@@ -47,16 +47,16 @@ module _ {from : List ℕ} {e : ℕ} {doc : List ℕ} {at i next : ℕ} (g : Par
                 (byte-same doc next (getD from i 0) (part-inside room) same);
           }
 
-      pub part-stops : (getD doc next 0 ≡ getD from i 0 → ⊥) → Same doc at (take e from) false at
+      pub part-stops : (getD doc next 0 ≡ getD from i 0 → ⊥) → SameBytes doc at (take e from) false at
       part-stops other =
           compare-stops refl .takes (g .left) (getD from i 0 ∷ []) (take (e - (i + 1)) (drop (i + 1) from)) (part-cons from i e less within)
           (byte-differs doc next (getD from i 0) at (λ inside same. other same))
 
-  pub part-ends : e ≤ i → Same doc at (take e from) true next
+  pub part-ends : e ≤ i → SameBytes doc at (take e from) true next
   part-ends all = let none : e - i ≡ 0 = omega arith in all-compared (subst (ToCompare doc at next (take e from)) (rw none refl) (g .left))
 
 -- bytes stand in a document, and nothing behind them
-pub same-ends : {doc : List ℕ} {at : ℕ} {bs : List ℕ} {b : Bool} {next : ℕ} → Same doc at bs b next → b ≡ true → (eqb next (length doc) ≡ true) ↔ (drop at doc ≡ bs ++ [])
+pub same-ends : {doc : List ℕ} {at : ℕ} {bs : List ℕ} {b : Bool} {next : ℕ} → SameBytes doc at bs b next → b ≡ true → (eqb next (length doc) ≡ true) ↔ (drop at doc ≡ bs ++ [])
 same-ends {doc} {at} {bs} {b} {next} s same = (
   λ e. s .stands same ∙ ap (λ (n : ℕ). bs ++ drop n doc) (eqb-true next (length doc) e) ∙ ap (λ (r : List ℕ). bs ++ r) (drop-length doc),
   λ q. eq-eqb next (length doc) (last q),

@@ -8,7 +8,7 @@ use lib.ListN.{drop}
 use Rattle.model.specs.Theorems.Tools.{true-false}
 use Rattle.filling.specs.Asked.{ImageAsked}
 use Rattle.filling.specs.Whole.{held, image-bytes}
-use Rattle.matching.specs.Same.{Same, same-then}
+use Rattle.matching.specs.Same.{SameBytes, same-then}
 
 -- the bytes of the image before its end, and its end
 image-parts : {source pool places tr : List ℕ} {bs : List ℕ} (a : ImageAsked source pool places tr bs) → bs ≡ ((0x30 ∷ 0 ∷ []) ++ held a) ++ (0x32 ∷ 0x3F ∷ [])
@@ -16,14 +16,14 @@ image-parts a = image-bytes a ∙ ap (λ (r : List ℕ). 0x30 ∷ 0 ∷ r) (appe
 
 module _ {source pool places tr : List ℕ} {doc : List ℕ} {bs : List ℕ} (a : ImageAsked source pool places tr bs) where
   -- a part of the image does not stand at the start
-  image-differs : (cs more : List ℕ) {b : Bool} {next : ℕ} → Same doc 0 cs b next → b ≡ false → bs ≡ cs ++ more → (false ≡ true) ↔ (bs ≡ doc)
+  image-differs : (cs more : List ℕ) {b : Bool} {next : ℕ} → SameBytes doc 0 cs b next → b ≡ false → bs ≡ cs ++ more → (false ≡ true) ↔ (bs ≡ doc)
   image-differs cs more s other e = (λ q. true-false q refl, λ q. absurd (s .differs other more (sym q ∙ e)))
 
-  module _ {b : Bool} {mid : ℕ} (opened : Same doc 0 (0x30 ∷ 0 ∷ []) b mid) where
+  module _ {b : Bool} {mid : ℕ} (opened : SameBytes doc 0 (0x30 ∷ 0 ∷ []) b mid) where
     pub image-unopened : b ≡ false → (false ≡ true) ↔ (bs ≡ doc)
     image-unopened other = image-differs (0x30 ∷ 0 ∷ []) ((held a ++ 0x32 ∷ []) ++ 0x3F ∷ []) opened other (image-bytes a)
 
-    module _ (open-same : b ≡ true) {c : Bool} {next : ℕ} (inner : Same doc mid (held a) c next) where
+    module _ (open-same : b ≡ true) {c : Bool} {next : ℕ} (inner : SameBytes doc mid (held a) c next) where
       pub image-unlike : c ≡ false → (false ≡ true) ↔ (bs ≡ doc)
       image-unlike other = image-differs ((0x30 ∷ 0 ∷ []) ++ held a) (0x32 ∷ 0x3F ∷ []) (same-then opened open-same inner) other (image-parts a)
 

@@ -10,14 +10,14 @@ use lib.ListN.{length, drop, getD, length-append, length-drop}
 use lib.Seq.{drop-cons}
 use Rattle.model.specs.Theorems.Tools.{true-false}
 use Rattle.filling.specs.Asked.{SomeAsked}
-use Rattle.filling.specs.Loops.{Turn, Roomy}
+use Rattle.filling.specs.Loops.{Advance, Roomy}
 
 -- bytes are asked for, and the place is one of the document
 abbrev pub Compares : (List ℕ → Type 0) → ℕ → ℕ → Type 0
 Compares Asked at long = SomeAsked Asked (λ (bs : List ℕ). at ≤ long)
 
 -- `same` says whether the bytes bs stand in the document at offset `at`; then `next` is the offset behind them
-pub record Same (doc : List ℕ) (at : ℕ) (bs : List ℕ) (same : Bool) (next : ℕ) : Type 0 where
+pub record SameBytes (doc : List ℕ) (at : ℕ) (bs : List ℕ) (same : Bool) (next : ℕ) : Type 0 where
   pub within : same ≡ true → next ≤ length doc
   pub place : same ≡ true → next ≡ at + length bs
   pub stands : same ≡ true → drop at doc ≡ bs ++ drop next doc
@@ -33,11 +33,11 @@ goes true e = refl
 goes false e = true-false refl e
 
 -- no bytes stand everywhere
-pub same-none : (doc : List ℕ) (at : ℕ) → at ≤ length doc → Same doc at [] true at
+pub same-none : (doc : List ℕ) (at : ℕ) → at ≤ length doc → SameBytes doc at [] true at
 same-none doc at h = record { within = λ e. h; place = λ e. sym (add-zero at); stands = λ e. refl; differs = λ e rest q. true-false refl e }
 
 -- two after each other
-pub same-then : {doc : List ℕ} {at : ℕ} {bs cs : List ℕ} {b c : Bool} {mid next : ℕ} → Same doc at bs b mid → b ≡ true → Same doc mid cs c next → Same doc at (bs ++ cs) c next
+pub same-then : {doc : List ℕ} {at : ℕ} {bs cs : List ℕ} {b c : Bool} {mid next : ℕ} → SameBytes doc at bs b mid → b ≡ true → SameBytes doc mid cs c next → SameBytes doc at (bs ++ cs) c next
 same-then {doc} {at} {bs} {cs} {b} {c} {mid} {next} first agrees second =
     record {
       within = second .within;
@@ -47,7 +47,7 @@ same-then {doc} {at} {bs} {cs} {b} {c} {mid} {next} first agrees second =
     }
 
 -- where the first differ, so do all
-pub same-stops : {doc : List ℕ} {at : ℕ} {bs : List ℕ} {b : Bool} {next : ℕ} → Same doc at bs b next → b ≡ false → (cs : List ℕ) → Same doc at (bs ++ cs) b next
+pub same-stops : {doc : List ℕ} {at : ℕ} {bs : List ℕ} {b : Bool} {next : ℕ} → SameBytes doc at bs b next → b ≡ false → (cs : List ℕ) → SameBytes doc at (bs ++ cs) b next
 same-stops {bs = bs} first apart cs =
     record {
       within = λ e. true-false e apart;
@@ -60,7 +60,7 @@ same-stops {bs = bs} first apart cs =
 pub record ToCompare (doc : List ℕ) (at next : ℕ) (whole rest : List ℕ) : Type 0 where
   pub done : List ℕ
   pub split : whole ≡ done ++ rest
-  pub found : Same doc at done true next
+  pub found : SameBytes doc at done true next
 
 -- at first all is left
 pub compare-all : {doc : List ℕ} {at : ℕ} → at ≤ length doc → (whole : List ℕ) → ToCompare doc at at whole whole
@@ -76,27 +76,27 @@ module _ {doc : List ℕ} {at next : ℕ} where
 
   module _ {b : Bool} {after : ℕ} where
     -- the last bytes are compared
-    pub compare-last : {whole bs : List ℕ} → ToCompare doc at next whole bs → Same doc next bs b after → Same doc at whole b after
+    pub compare-last : {whole bs : List ℕ} → ToCompare doc at next whole bs → SameBytes doc next bs b after → SameBytes doc at whole b after
     compare-last g s = rw (g .split) (same-then (g .found) refl s)
 
     -- the next bytes stand there
-    pub compare-turn : b ≡ true → Turn (ToCompare doc at next) (ToCompare doc at after) (λ (bs : List ℕ). Same doc next bs b after)
+    pub compare-turn : b ≡ true → Advance (ToCompare doc at next) (ToCompare doc at after) (λ (bs : List ℕ). SameBytes doc next bs b after)
     compare-turn agrees =
         record {
           takes = λ g bs more e s.
-              record { done = g .done ++ bs; split = again g bs more e; found = subst (λ (c : Bool). Same doc at (g .done ++ bs) c after) agrees (same-then (g .found) refl s) };
+              record { done = g .done ++ bs; split = again g bs more e; found = subst (λ (c : Bool). SameBytes doc at (g .done ++ bs) c after) agrees (same-then (g .found) refl s) };
         }
 
     -- they do not
-    pub compare-stops : b ≡ false → Turn (ToCompare doc at next) (λ (whole rest : List ℕ). Same doc at whole b after) (λ (bs : List ℕ). Same doc next bs b after)
+    pub compare-stops : b ≡ false → Advance (ToCompare doc at next) (λ (whole rest : List ℕ). SameBytes doc at whole b after) (λ (bs : List ℕ). SameBytes doc next bs b after)
     compare-stops apart = record { takes = λ g bs more e s. rw (again g bs more e) (same-stops (same-then (g .found) refl s) apart more) }
 
   -- nothing is left
-  pub all-compared : {whole : List ℕ} → ToCompare doc at next whole [] → Same doc at whole true next
+  pub all-compared : {whole : List ℕ} → ToCompare doc at next whole [] → SameBytes doc at whole true next
   all-compared g = rw (g .split ∙ append-nil (g .done)) (g .found)
 
 -- one byte
-pub byte-same : (doc : List ℕ) (at b : ℕ) → at < length doc → getD doc at 0 ≡ b → Same doc at (b ∷ []) true (at + 1)
+pub byte-same : (doc : List ℕ) (at b : ℕ) → at < length doc → getD doc at 0 ≡ b → SameBytes doc at (b ∷ []) true (at + 1)
 byte-same doc at b inside e =
     record {
       within = λ y. omega arith;
@@ -105,7 +105,7 @@ byte-same doc at b inside e =
       differs = λ y rest q. true-false refl y;
     }
 
-pub byte-differs : (doc : List ℕ) (at b next : ℕ) → (at < length doc → getD doc at 0 ≡ b → ⊥) → Same doc at (b ∷ []) false next
+pub byte-differs : (doc : List ℕ) (at b next : ℕ) → (at < length doc → getD doc at 0 ≡ b → ⊥) → SameBytes doc at (b ∷ []) false next
 byte-differs doc at b next other =
     record {
       within = λ y. true-false y refl;

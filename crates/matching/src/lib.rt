@@ -7,7 +7,7 @@ ghost use Prim.Native.Nat.{ℕ, _≤_};
 ghost use lib.ListN.{length, take, drop};
 ghost use Rattle.scanning.specs.Spanning.{Spans};
 ghost use Rattle.filling.specs.Asked.{FillerAsked, PlainAsked, ChildAsked, ItemsAsked, RowAsked, ImageAsked};
-ghost use Rattle.matching.specs.Same.{Same, Compares};
+ghost use Rattle.matching.specs.Same.{SameBytes, Compares};
 use codes::CLOSES;
 use codes::MAX_MEMBERS;
 use codes::OPENS;
@@ -32,7 +32,7 @@ pub struct Match {
 // Compares one byte.
 fn same_byte(doc: &[u8], at: usize, b: u8) -> Match
     requires { ⌜ at ≤ length (now doc) ⌝ }
-    ensures { λ r. ⌜ Same (now (doc .entry)) at (b ∷ []) (r .same) (r .at) ⌝ }
+    ensures { λ r. ⌜ SameBytes (now (doc .entry)) at (b ∷ []) (r .same) (r .at) ⌝ }
 {
     if at < doc.len() {
         if doc[at] == b {
@@ -48,7 +48,7 @@ fn same_byte(doc: &[u8], at: usize, b: u8) -> Match
 // Compares 30 t, which opens an element of type t.
 fn same_open(doc: &[u8], at: usize, t: u8) -> Match
     requires { ⌜ at ≤ length (now doc) ⌝ }
-    ensures { λ r. ⌜ Same (now (doc .entry)) at (0x30 ∷ t ∷ []) (r .same) (r .at) ⌝ }
+    ensures { λ r. ⌜ SameBytes (now (doc .entry)) at (0x30 ∷ t ∷ []) (r .same) (r .at) ⌝ }
 {
     let first = same_byte(doc, at, OPENS);
     if !first.same {
@@ -61,7 +61,7 @@ fn same_open(doc: &[u8], at: usize, t: u8) -> Match
 // Compares the first e bytes of `from`. The loop compares one byte a turn.
 fn same_part<'a>(from: &'a [u8], e: usize, doc: &'a [u8], at: usize) -> Match
     requires { ⌜ (e ≤ length (now from)) × (at ≤ length (now doc)) ⌝ }
-    ensures { λ r. ⌜ Same (now (doc .entry)) at (take e (now (from .entry))) (r .same) (r .at) ⌝ }
+    ensures { λ r. ⌜ SameBytes (now (doc .entry)) at (take e (now (from .entry))) (r .same) (r .at) ⌝ }
 {
     if doc.len() - at < e {
         return Match { same: false, at };
@@ -84,7 +84,7 @@ fn same_part<'a>(from: &'a [u8], e: usize, doc: &'a [u8], at: usize) -> Match
 // Compares a filler element of target type t: one for each symbol of its row.
 fn filler<'a>(pool: &'a [u8], places: &'a [u32], t: u8, doc: &'a [u8], at: usize) -> Match
     requires { ⌜ Compares (FillerAsked (now pool) (now places) t) at (length (now doc)) ⌝ }
-    ensures { λ r. ⌜ ((bs : List ℕ) → FillerAsked (now (pool .entry)) (now (places .entry)) t bs → Same (now (doc .entry)) at bs (r .same) (r .at)) ⌝ }
+    ensures { λ r. ⌜ ((bs : List ℕ) → FillerAsked (now (pool .entry)) (now (places .entry)) t bs → SameBytes (now (doc .entry)) at bs (r .same) (r .at)) ⌝ }
 {
     let row = wide(t);
     let to = rows::to(places, row);
@@ -109,7 +109,7 @@ fn filler<'a>(pool: &'a [u8], places: &'a [u32], t: u8, doc: &'a [u8], at: usize
 // Compares a filler element of target type t. Most rows of filler are empty, and these elements are compared without recursion.
 fn filler_element<'a>(pool: &'a [u8], places: &'a [u32], t: u8, doc: &'a [u8], at: usize) -> Match
     requires { ⌜ Compares (FillerAsked (now pool) (now places) t) at (length (now doc)) ⌝ }
-    ensures { λ r. ⌜ ((bs : List ℕ) → FillerAsked (now (pool .entry)) (now (places .entry)) t bs → Same (now (doc .entry)) at bs (r .same) (r .at)) ⌝ }
+    ensures { λ r. ⌜ ((bs : List ℕ) → FillerAsked (now (pool .entry)) (now (places .entry)) t bs → SameBytes (now (doc .entry)) at bs (r .same) (r .at)) ⌝ }
 {
     let row = wide(t);
     let to = rows::to(places, row);
@@ -136,7 +136,7 @@ fn plain<'a>(
 ) -> Match
     requires spans { ⌜ Spans (now tr) (now sp) ⌝ }
     requires task { ⌜ Compares (PlainAsked (now pool) (now places) (now tr) x) at (length (now doc)) ⌝ }
-    ensures { λ r. ⌜ ((bs : List ℕ) → PlainAsked (now (pool .entry)) (now (places .entry)) (now (tr .entry)) x bs → Same (now (doc .entry)) at bs (r .same) (r .at)) ⌝ }
+    ensures { λ r. ⌜ ((bs : List ℕ) → PlainAsked (now (pool .entry)) (now (places .entry)) (now (tr .entry)) x bs → SameBytes (now (doc .entry)) at bs (r .same) (r .at)) ⌝ }
 {
     if x < FILLER {
         return same_open(doc, at, x);
@@ -164,7 +164,7 @@ fn run<'a>(
 ) -> Match
     requires spans { ⌜ Spans (now tr) (now sp) ⌝ }
     requires task { ⌜ Compares (RowAsked (now source) (now pool) (now places) (now tr) r) at (length (now doc)) ⌝ }
-    ensures { λ r′. ⌜ ((bs : List ℕ) → RowAsked (now (source .entry)) (now (pool .entry)) (now (places .entry)) (now (tr .entry)) r bs → Same (now (doc .entry)) at bs (r′ .same) (r′ .at)) ⌝ }
+    ensures { λ r′. ⌜ ((bs : List ℕ) → RowAsked (now (source .entry)) (now (pool .entry)) (now (places .entry)) (now (tr .entry)) r bs → SameBytes (now (doc .entry)) at bs (r′ .same) (r′ .at)) ⌝ }
 {
     let to = rows::to(places, r);
     let mut i = rows::from(places, r);
@@ -204,7 +204,7 @@ fn child<'a>(
 ) -> Match
     requires spans { ⌜ Spans (now tr) (now sp) ⌝ }
     requires task { ⌜ Compares (ChildAsked (now source) (now pool) (now places) (now tr) i) at (length (now doc)) ⌝ }
-    ensures { λ r. ⌜ ((bs : List ℕ) → ChildAsked (now (source .entry)) (now (pool .entry)) (now (places .entry)) (now (tr .entry)) i bs → Same (now (doc .entry)) at bs (r .same) (r .at)) ⌝ }
+    ensures { λ r. ⌜ ((bs : List ℕ) → ChildAsked (now (source .entry)) (now (pool .entry)) (now (places .entry)) (now (tr .entry)) i bs → SameBytes (now (doc .entry)) at bs (r .same) (r .at)) ⌝ }
 {
     let o = element_at(tr, sp, i);
     let row = row_of(source, tr, o);
@@ -234,7 +234,7 @@ fn items<'a>(
 ) -> Match
     requires spans { ⌜ Spans (now tr) (now sp) ⌝ }
     requires task { ⌜ Compares (ItemsAsked (now source) (now pool) (now places) (now tr) r) at (length (now doc)) ⌝ }
-    ensures { λ r′. ⌜ ((bs : List ℕ) → ItemsAsked (now (source .entry)) (now (pool .entry)) (now (places .entry)) (now (tr .entry)) r bs → Same (now (doc .entry)) at bs (r′ .same) (r′ .at)) ⌝ }
+    ensures { λ r′. ⌜ ((bs : List ℕ) → ItemsAsked (now (source .entry)) (now (pool .entry)) (now (places .entry)) (now (tr .entry)) r bs → SameBytes (now (doc .entry)) at bs (r′ .same) (r′ .at)) ⌝ }
 {
     let mut o: usize = 0;
     let mut next = at;

@@ -19,12 +19,12 @@ use Rattle.measuring.proofs.Edges.{HasEdge, in-sequence, in-choice, in-
 
 -- What is left of the content of an element of kind κ from child number i on: each child's type exists, what it holds
 -- conforms, and it has an edge.
-pub data Left (S : Table) (κ : Kind) : ℕ → Content → Type 0 where
-  none-left : {i : ℕ} → Left S κ i end
-  character-left : {i c : ℕ} {r : Content} → Left S κ i r → Left S κ i (char c r)
-  child-left : {i t : ℕ} {k r : Content} → t < length S → Holds S (kindOf S t) k → HasEdge i t κ → Left S κ (suc i) r → Left S κ i (elem t k r)
+pub data ContentLeft (S : Table) (κ : Kind) : ℕ → Content → Type 0 where
+  none-left : {i : ℕ} → ContentLeft S κ i end
+  character-left : {i c : ℕ} {r : Content} → ContentLeft S κ i r → ContentLeft S κ i (char c r)
+  child-left : {i t : ℕ} {k r : Content} → t < length S → Holds S (kindOf S t) k → HasEdge i t κ → ContentLeft S κ (suc i) r → ContentLeft S κ i (elem t k r)
 
-pub after-letter : {S : Table} {κ : Kind} {i c : ℕ} {r : Content} → Left S κ i (char c r) → Left S κ i r
+pub after-letter : {S : Table} {κ : Kind} {i c : ℕ} {r : Content} → ContentLeft S κ i (char c r) → ContentLeft S κ i r
 after-letter (character-left rest) = rest
 
 -- the child that stands first, and the rest
@@ -32,9 +32,9 @@ pub record ChildLeft (S : Table) (κ : Kind) (i t : ℕ) (k r : Content) : Type 
   pub exists : t < length S
   pub holds : Holds S (kindOf S t) k
   pub edge : HasEdge i t κ
-  pub rest : Left S κ (suc i) r
+  pub rest : ContentLeft S κ (suc i) r
 
-pub child-of : {S : Table} {κ : Kind} {i t : ℕ} {k r : Content} → Left S κ i (elem t k r) → ChildLeft S κ i t k r
+pub child-of : {S : Table} {κ : Kind} {i t : ℕ} {k r : Content} → ContentLeft S κ i (elem t k r) → ChildLeft S κ i t k r
 child-of (child-left exists holds edge rest) = record { exists = exists; holds = holds; edge = edge; rest = rest }
 
 -- a member of a list has a place in it
@@ -48,24 +48,24 @@ member-index t (m ∷ ms) (List·Memᴰ·tail e) = go (eqb t m) (member-index t 
     go false less = omega (arith, less)
 
 module _ (S : Table) where
-  left-text : {i : ℕ} {k : Content} → Holds S text k → Left S text i k
+  left-text : {i : ℕ} {k : Content} → Holds S text k → ContentLeft S text i k
   left-text no-character = none-left
   left-text (one-character a h) = character-left (left-text h)
 
-  left-list : {i m : ℕ} {k : Content} → m < length S → Holds S (list m) k → Left S (list m) i k
+  left-list : {i m : ℕ} {k : Content} → m < length S → Holds S (list m) k → ContentLeft S (list m) i k
   left-list less no-item = none-left
   left-list less (one-item hk hr) = child-left less hk in-list (left-list less hr)
 
   -- the members of a sequence from number i on
   left-sequence : {i : ℕ} {ms all : List ℕ} {k : Content} → i + length ms ≡ length all → ((m : ℕ) → List·Memᴰ m ms → m < length S)
-      → Holds S (sequence ms) k → Left S (sequence all) i k
+      → Holds S (sequence ms) k → ContentLeft S (sequence all) i k
   left-sequence many exist no-member = none-left
   left-sequence {i = i} {all = all} many exist (one-member {m = m} hk hr) =
       let less : i < length all = omega (arith, many) in
       child-left (exist m (List·Memᴰ·head refl)) hk (in-sequence less) (left-sequence (omega (arith, many)) (λ n e. exist n (List·Memᴰ·tail e)) hr)
 
   -- all of conforming content
-  left-all : (κ : Kind) {k : Content} → ((m : ℕ) → List·Memᴰ m (membersOf κ) → m < length S) → Holds S κ k → Left S κ 0 k
+  left-all : (κ : Kind) {k : Content} → ((m : ℕ) → List·Memᴰ m (membersOf κ) → m < length S) → Holds S κ k → ContentLeft S κ 0 k
   unfolding membersOf
   left-all text exist h = left-text h
   left-all empty exist nothing = none-left
@@ -100,5 +100,5 @@ module _ (S : Table) where
   first-ahead (one-item hk hr) = refl
 
 -- of an element of a well-formed table
-pub left-of : {S : Table} → WellFormed S → (s : ℕ) {k : Content} → Holds S (kindOf S s) k → Left S (kindOf S s) 0 k
+pub left-of : {S : Table} → WellFormed S → (s : ℕ) {k : Content} → Holds S (kindOf S s) k → ContentLeft S (kindOf S s) 0 k
 left-of {S} wf s holds = left-all S (kindOf S s) (λ m. wf .members-exist s m) holds

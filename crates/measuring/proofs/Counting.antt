@@ -12,7 +12,7 @@ use Rattle.model.specs.Definitions.Templates.{firstIn, around, depthOf, ownLeng
 use Rattle.scanning.specs.Scanning.{At}
 use Rattle.scanning.specs.Laws.{content-within, element-first, character-first, end-first, Opens, opens, opens-next, letters, ends}
 use Rattle.measuring.specs.Measured.{Held, Measured}
-use Rattle.measuring.proofs.Content.{Left, ChildLeft, child-of, after-letter}
+use Rattle.measuring.proofs.Content.{ContentLeft, ChildLeft, child-of, after-letter}
 
 -- ---- held numbers
 
@@ -97,7 +97,7 @@ module _ (X : Setting) (s : ℕ) where
 pub record Counted (X : Setting) (s : ℕ) (tr : List ℕ) (k : Content) (close o i high long fill : ℕ) : Type 0 where
   pub left : Content
   pub here : At tr o left
-  pub fit : Left (X .source) (kindOf (X .source) s) i left
+  pub fit : ContentLeft (X .source) (kindOf (X .source) s) i left
   pub closes : o + length (bytes left) ≡ close
   pub levels-left : min 60001 (max high (deepest X s i left)) ≡ min 60001 (max (ownLevels X s (firstIn k)) (deepest X s 0 k))
   pub bytes-left : min 60001 (long + sumLength X s left) ≡ min 60001 (ownLength X s (firstIn k) + sumLength X s k)
@@ -155,7 +155,7 @@ module _ {X : Setting} {s : ℕ} {tr : List ℕ} {k : Content} {close o i high l
         record {
           left = l .next;
           here = record { rest = now .here .rest; stands = l .follows };
-          fit = after-letter (subst (Left (X .source) (kindOf (X .source) s) i) (l .is) (now .fit));
+          fit = after-letter (subst (ContentLeft (X .source) (kindOf (X .source) s) i) (l .is) (now .fit));
           closes = omega (arith, short, now .closes);
           levels-left = ap (λ (n : ℕ). min 60001 (max high n)) deep ∙ now .levels-left;
           bytes-left = held-character long (sumLength X s (l .next)) ∙ ap (λ (n : ℕ). min 60001 (long + n)) sum ∙ now .bytes-left;
@@ -169,7 +169,7 @@ module _ {X : Setting} {s : ℕ} {tr : List ℕ} {k : Content} {close o i high l
 
     -- a child: it exists, conforms, and has an edge
     pub counted-child : ChildLeft (X .source) (kindOf (X .source) s) i (opened .type) (opened .inside) (opened .next)
-    counted-child = child-of (subst (Left (X .source) (kindOf (X .source) s) i) (opened .is) (now .fit))
+    counted-child = child-of (subst (ContentLeft (X .source) (kindOf (X .source) s) i) (opened .is) (now .fit))
 
     -- with the size of its image, what follows it is left
     module _ {about-high about-long about-fill depth in-high in-long in-fill stop : ℕ}

@@ -35,15 +35,15 @@ held-start a b = omega arith
 held-sum : (a b : ℕ) → min 60001 (min 60001 a + b) ≡ min 60001 (a + b)
 held-sum a b = omega arith
 
-abbrev pub settingOf : {source map sizes tr : List ℕ} {s from : ℕ} → Given source map sizes tr s from → Setting
-settingOf {source} {map} g = settingIn source (g .target) map (g .em)
+abbrev pub givenSetting : {source map sizes tr : List ℕ} {s from : ℕ} → Given source map sizes tr s from → Setting
+givenSetting {source} {map} g = settingIn source (g .target) map (g .em)
 
 -- the loop's invariant
-pub record Counts (source map sizes tr : List ℕ) (s from o i high long fill : ℕ) : Type 0 where
+pub record SizeSoFar (source map sizes tr : List ℕ) (s from o i high long fill : ℕ) : Type 0 where
   pub far : from ≤ o
   pub few : i ≤ o
   pub held : Held high long fill
-  pub counted : (g : Given source map sizes tr s from) → Counted (settingOf g) s tr (g .held) (from + length (bytes (g .held))) o i high long fill
+  pub counted : (g : Given source map sizes tr s from) → Counted (givenSetting g) s tr (g .held) (from + length (bytes (g .held))) o i high long fill
 
 -- what stands ahead where an element opens
 pub record Ahead (source map sizes tr : List ℕ) (s o i t : ℕ) : Type 0 where
@@ -53,7 +53,7 @@ pub record Ahead (source map sizes tr : List ℕ) (s o i t : ℕ) : Type 0 where
 
 -- a child measured: its size and what stands around it are held, it ends within the document, and its size joined to the
 -- size so far leaves what follows it
-pub record Turned (source map sizes tr : List ℕ) (s from o i : ℕ) (high long fill about-high about-long about-fill depth in-high in-long in-fill stop : ℕ) : Type 0 where
+pub record ChildMeasured (source map sizes tr : List ℕ) (s from o i : ℕ) (high long fill about-high about-long about-fill depth in-high in-long in-fill stop : ℕ) : Type 0 where
   pub about-held : Held about-high about-long about-fill
   pub inner-held : Held in-high in-long in-fill
   pub further : o + 1 < stop
@@ -62,7 +62,7 @@ pub record Turned (source map sizes tr : List ℕ) (s from o i : ℕ) (high long
       → high′ ≡ max high (max about-high (min 60001 (depth + in-high)))
       → long′ ≡ min 60001 (long + about-long + in-long)
       → fill′ ≡ min 60001 (fill + about-fill + in-fill)
-      → Counts source map sizes tr s from (stop + 1) (i + 1) high′ long′ fill′
+      → SizeSoFar source map sizes tr s from (stop + 1) (i + 1) high′ long′ fill′
 
 module _ {source map sizes tr : List ℕ} {s from : ℕ} where
   exists-in : (g : Given source map sizes tr s from) → s < length (tableBy source)
@@ -78,9 +78,9 @@ module _ {source map sizes tr : List ℕ} {s from : ℕ} where
       → high ≡ around (kindOf (tableBy source) s) (levelsIn sizes (itemRow s))
       → long ≡ around (kindOf (tableBy source) s) (bytesIn sizes (itemRow s))
       → fill ≡ around (kindOf (tableBy source) s) (fillerIn sizes (itemRow s))
-      → Around (settingOf g) s high long fill
+      → Around (givenSetting g) s high long fill
   around-of g a b c =
-      let at : (item : ℕ) → kindOf (tableBy source) s ≡ list item → SizeAt sizes (itemRow s) (itemLevels (settingOf g) s) (itemLength (settingOf g) s) (itemFiller (settingOf g) s) = λ item same. g .sized .item-size s item (exists-in g) same in
+      let at : (item : ℕ) → kindOf (tableBy source) s ≡ list item → SizeAt sizes (itemRow s) (itemLevels (givenSetting g) s) (itemLength (givenSetting g) s) (itemFiller (givenSetting g) s) = λ item same. g .sized .item-size s item (exists-in g) same in
       record {
         levels-are = a ∙ held-around _ _ _ (λ item same. at item same .levels-are);
         bytes-are = b ∙ held-around _ _ _ (λ item same. at item same .bytes-are);
@@ -94,14 +94,14 @@ module _ {source map sizes tr : List ℕ} {s from : ℕ} where
       (is-long : long ≡ bytesIn sizes row)
       (is-fill : fill ≡ fillerIn sizes row) where
     own-at : (g : Given source map sizes tr s from)
-        → SizeAt sizes row (ownLevels (settingOf g) s (firstIn (g .held))) (ownLength (settingOf g) s (firstIn (g .held))) (ownFiller (settingOf g) s (firstIn (g .held)))
+        → SizeAt sizes row (ownLevels (givenSetting g) s (firstIn (g .held))) (ownLength (givenSetting g) s (firstIn (g .held))) (ownFiller (givenSetting g) s (firstIn (g .held)))
     own-at g =
         let same : first ≡ firstIn (g .held) = firsts (g .held) (g .there) ∙ first-ahead (tableBy source) (g .holds) in
         let own = g .sized .own-size s (firstIn (g .held)) (exists-in g) (first-chosen (tableBy source) (kindOf (tableBy source) s) (g .holds)) in
         rw (is-row, same) own
 
     -- at the start all of the content is left
-    pub counts-start : Given source map sizes tr s from → Counts source map sizes tr s from from 0 high long fill
+    pub counts-start : Given source map sizes tr s from → SizeSoFar source map sizes tr s from from 0 high long fill
     counts-start given =
         let own₀ = own-at given in
         record {
@@ -125,12 +125,12 @@ module _ {source map sizes tr : List ℕ} {s from : ℕ} where
               };
         }
 
-  module _ {o i high long fill : ℕ} (now : Counts source map sizes tr s from o i high long fill) (given : Given source map sizes tr s from) where
+  module _ {o i high long fill : ℕ} (now : SizeSoFar source map sizes tr s from o i high long fill) (given : Given source map sizes tr s from) where
     pub turn-within : o < length tr
     turn-within = counted-within (now .counted given)
 
     pub turn-done : getD tr o 0 ≡ 0x32 → (g : Given source map sizes tr s from)
-        → Measured (settingOf g) s (g .held) high long fill × (o ≡ from + length (bytes (g .held)))
+        → Measured (givenSetting g) s (g .held) high long fill × (o ≡ from + length (bytes (g .held)))
     turn-done here g = counted-done (now .counted g) (now .held) here
 
     pub turn-two : getD tr o 0 ≡ 0x31 → o + 1 < length tr
@@ -138,7 +138,7 @@ module _ {source map sizes tr : List ℕ} {s from : ℕ} where
 
     -- a character
     pub turn-letter : getD tr o 0 ≡ 0x31 → {high′ long′ fill′ : ℕ} → high′ ≡ high → long′ ≡ min 60001 (long + 2) → fill′ ≡ fill
-        → Counts source map sizes tr s from (o + 2) i high′ long′ fill′
+        → SizeSoFar source map sizes tr s from (o + 2) i high′ long′ fill′
     turn-letter first a b c =
         rw (a, b, c)
         record {
@@ -190,16 +190,16 @@ module _ {source map sizes tr : List ℕ} {s from : ℕ} where
             (is-long : about-long ≡ around (kindOf (tableBy source) s) (bytesIn sizes (itemRow s)))
             (is-fill : about-fill ≡ around (kindOf (tableBy source) s) (fillerIn sizes (itemRow s)))
             (deep : depth ≡ getD (lengthsOf map) (s * 16 + edgeNumber (kindOf (tableBy source) s) i t) 0)
-            (inner : (g : Given source map sizes tr t (o + 2)) → Measured (settingOf g) t (g .held) in-high in-long in-fill × (stop ≡ o + 2 + length (bytes (g .held)))) where
+            (inner : (g : Given source map sizes tr t (o + 2)) → Measured (givenSetting g) t (g .held) in-high in-long in-fill × (stop ≡ o + 2 + length (bytes (g .held)))) where
           about-is-held : Held about-high about-long about-fill
           about-is-held =
               let item = around-of given is-high is-long is-fill in
               record { levels-held = omega (arith, item .levels-are); bytes-held = omega (arith, item .bytes-are); filler-held = omega (arith, item .filler-is) }
 
           inside : (g : Given source map sizes tr s from)
-              → Measured (settingOf g) (opened (now .counted g) first .type) (opened (now .counted g) first .inside) in-high in-long in-fill × (stop ≡ o + 2 + length (bytes (opened (now .counted g) first .inside)))
+              → Measured (givenSetting g) (opened (now .counted g) first .type) (opened (now .counted g) first .inside) in-high in-long in-fill × (stop ≡ o + 2 + length (bytes (opened (now .counted g) first .inside)))
           inside g =
-              subst (λ (u : ℕ). (h : Given source map sizes tr u (o + 2)) → Measured (settingOf h) u (h .held) in-high in-long in-fill × (stop ≡ o + 2 + length (bytes (h .held)))) (type-is g) inner (child-given g)
+              subst (λ (u : ℕ). (h : Given source map sizes tr u (o + 2)) → Measured (givenSetting h) u (h .held) in-high in-long in-fill × (stop ≡ o + 2 + length (bytes (h .held)))) (type-is g) inner (child-given g)
 
           inner-is-held : Held in-high in-long in-fill
           inner-is-held =
@@ -214,7 +214,7 @@ module _ {source map sizes tr : List ℕ} {s from : ℕ} where
               → high′ ≡ max high (max about-high (min 60001 (depth + in-high)))
               → long′ ≡ min 60001 (long + about-long + in-long)
               → fill′ ≡ min 60001 (fill + about-fill + in-fill)
-              → Counts source map sizes tr s from (stop + 1) (i + 1) high′ long′ fill′
+              → SizeSoFar source map sizes tr s from (stop + 1) (i + 1) high′ long′ fill′
           joins a b c =
               let far = stop-within .0 in
               rw (a, b, c, add-one i)
@@ -228,5 +228,5 @@ module _ {source map sizes tr : List ℕ} {s from : ℕ} where
                     counted-next (now .counted g) first (around-of g is-high is-long is-fill) deep-here (inside g .0) (inside g .1);
               }
 
-          pub turn-child : Turned source map sizes tr s from o i high long fill about-high about-long about-fill depth in-high in-long in-fill stop
+          pub turn-child : ChildMeasured source map sizes tr s from o i high long fill about-high about-long about-fill depth in-high in-long in-fill stop
           turn-child = record { about-held = about-is-held; inner-held = inner-is-held; further = stop-within .0; within = stop-within .1; joined = joins }

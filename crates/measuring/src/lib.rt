@@ -134,7 +134,7 @@ fn child_depth<'a>(
 }
 
 // The size of what the image of an element holds, and where the source element's content ends.
-struct Part {
+struct ElementSize {
     size: Size,
     end: usize,
 }
@@ -148,7 +148,7 @@ fn element<'a>(
     tr: &'a [u8],
     s: usize,
     from: usize,
-) -> Part
+) -> ElementSize
     requires { ⌜ Given (now source) (now map) (now sizes) (now tr) s from ⌝ }
     ensures { λ r. ⌜ ((g : Given (now (source .entry)) (now (map .entry)) (now (sizes .entry)) (now (tr .entry)) s from) → Measured (settingIn (now (source .entry)) (g .target) (now (map .entry)) (g .em)) s (g .held) (r .size .levels) (r .size .bytes) (r .size .filler) × (r .end ≡ from + length (bytes (g .held)))) ⌝ }
 {
@@ -171,7 +171,7 @@ fn element<'a>(
             i += 1;
         }
     }
-    Part { size: size, end: o }
+    ElementSize { size: size, end: o }
 }
 
 // The levels, the bytes and the bytes of filler of the image of a conforming document. The root element and the end of the

@@ -1,12 +1,12 @@
 -- `element_at` meets its contract: the element that is sought stays ahead.
 use native.Mathlib.Omega.{arith}
 use Rattle.filling.specs.Contents.{ChildThere, element-at}
-use Rattle.filling.proofs.Finding.{Ahead, ahead-starts, ahead-next, next-within, ahead-further, ahead-ends}
+use Rattle.filling.proofs.Finding.{ToPass, ahead-starts, ahead-next, next-within, ahead-further, ahead-ends}
 use Rattle.filling.proofs.element_at.Statement.{statement}
 use Rattle.filling.proofs.element_at.Tie as tie
 
 abbrev Inv-loop : tie.InvT-loop
-Inv-loop tr sp i o₀ left₀ o left = (c : ChildThere tr i) → Ahead c o left
+Inv-loop tr sp i o₀ left₀ o left = (c : ChildThere tr i) → ToPass c o left
 
 abbrev μ-loop : tie.MeasureT-loop
 μ-loop tr sp i o₀ left₀ o left = left

@@ -9,7 +9,7 @@ use borrow.Fn.PlainCycle.{Measures, is, falls, and}
 use Rattle.model.specs.Theorems.Tools.{some-none}
 use Rattle.writing.specs.Laws.{writes-length}
 use Rattle.paths.specs.Edges.{small}
-use Rattle.children.specs.Cursors.{weight}
+use Rattle.children.specs.Cursors.{cursorWeight}
 use Rattle.inverse.proofs.ByKind.{read-zero, read-text, text-follows}
 use Rattle.inverse.proofs.Elements.{element-no-room, element-refused, held-within, element-no-close, element-written}
 use Rattle.inverse.proofs.Turning.{Reading, reading-start, turn-shows, turn-done, turn-broken, turn-inside, turn-less, turn-refused, turn-on}
@@ -136,7 +136,7 @@ abbrev read-to-Inv-loop : read-to-lts.InvT-loop
 read-to-Inv-loop source target map em tr sp out₀ image depth cursor₀ to₀ out cursor to = Reading source target map em (image .sigma) tr (image .from) depth out₀ to₀ out to cursor
 
 abbrev read-to-μ-loop : read-to-lts.MeasureT-loop
-read-to-μ-loop source target map em tr sp out₀ image depth cursor₀ to₀ out cursor to = weight tr cursor
+read-to-μ-loop source target map em tr sp out₀ image depth cursor₀ to₀ out cursor to = cursorWeight tr cursor
 
 read-to-returns : (t : ℕ) → read-to-lts.Need-returns (read-to-calls t) (read-to-at t) read-to.Post read-to-Inv-loop read-to-μ-loop
 read-to-returns t c = λ k a j e. some-none e (read-zero _ _ _ k (c .if1 .taken))

@@ -12,7 +12,7 @@ use Rattle.filling.specs.RowNumbers.{rank, rank-bounds, item-rank}
 use Rattle.filling.specs.Turns.{row-there, items-rank}
 use Rattle.filling.specs.Elements.{child-sought, child-first, child-within, child-row}
 use Rattle.filling.specs.Loops.{RowGoes, row-goes, row-last, row-less, row-symbol-there, asks-items, asks-child, asks-plain, SymbolDone, items-done, child-done, plain-done, row-then, row-on, ListGoes, list-goes, list-within, list-last, item-inside, item-passed, item-asks, item-then, item-on}
-use Rattle.matching.specs.Same.{Same, stays, goes, ToCompare, compare-all, compare-room, compare-turn, compare-stops, all-compared}
+use Rattle.matching.specs.Same.{SameBytes, stays, goes, ToCompare, compare-all, compare-room, compare-turn, compare-stops, all-compared}
 use Rattle.matching.proofs.Running.{symbol-found}
 use Prim.Native.Nat.{ℕ, _<_}
 use borrow.Fn.Kinds.{In}
@@ -141,7 +141,7 @@ run-plain-requires t c κs =
 -- the symbol was compared
 abbrev run-one : (t : ℕ) → run-lts.Joined1 (run-calls t) (run-at t) run.Post run-Inv-loop run-μ-loop → Type 0
 run-one t c =
-    SymbolDone (c .before .before .before .before .loop .inv) (c .before .before .before .loop-test .taken) (λ (bs : List ℕ). Same (c .before .before .before .before .before .before .before .before .before .before .before .before .args .doc .now) (c .before .before .before .before .loop .next) bs (c .if1 .one .same) (c .if1 .one .at))
+    SymbolDone (c .before .before .before .before .loop .inv) (c .before .before .before .loop-test .taken) (λ (bs : List ℕ). SameBytes (c .before .before .before .before .before .before .before .before .before .before .before .before .args .doc .now) (c .before .before .before .before .loop .next) bs (c .if1 .one .same) (c .if1 .one .at))
 
 run-compared : (t : ℕ) (c : run-lts.Joined1 (run-calls t) (run-at t) run.Post run-Inv-loop run-μ-loop) → run-one t c
 run-compared t c =

@@ -7,13 +7,13 @@ use native.Mathlib.Omega.{arith}
 use lib.ListN.{take}
 use Rattle.scanning.specs.Laws.{content-within, content-part}
 use Rattle.filling.specs.Turns.{plain-opening, plain-filler, plain-characters, plain-closing}
-use Rattle.matching.specs.Same.{Same}
+use Rattle.matching.specs.Same.{SameBytes}
 use Rattle.matching.proofs.plain.Statement.{statement}
 use Rattle.matching.proofs.plain.Tie as tie
 
 -- the same bytes by another name
-same-bytes : {doc : List ℕ} {at : ℕ} {bs cs : List ℕ} {b : Bool} {next : ℕ} → cs ≡ bs → Same doc at bs b next → Same doc at cs b next
-same-bytes {doc} {at} {b = b} {next} e s = subst (λ (l : List ℕ). Same doc at l b next) (sym e) s
+same-bytes : {doc : List ℕ} {at : ℕ} {bs cs : List ℕ} {b : Bool} {next : ℕ} → cs ≡ bs → SameBytes doc at bs b next → SameBytes doc at cs b next
+same-bytes {doc} {at} {b = b} {next} e s = subst (λ (l : List ℕ). SameBytes doc at l b next) (sym e) s
 
 returns : tie.Need-returns
 returns c = λ bs a. same-bytes (plain-opening a (c .before .if1 .taken)) (c .same-open .ensures)

@@ -4,7 +4,7 @@ use Prim.Native.Nat.{ℕ, _+_, _-_, _<_}
 use native.Mathlib.Omega.{arith}
 use lib.ListN.{length}
 use Rattle.rows.specs.Rows.{itemRow}
-use Rattle.measuring.proofs.Turns.{Counts, Ahead, Turned, row-within, counts-start, turn-within, turn-done, turn-two, turn-letter, turn-opens, turn-ahead, turn-child}
+use Rattle.measuring.proofs.Turns.{SizeSoFar, Ahead, ChildMeasured, row-within, counts-start, turn-within, turn-done, turn-two, turn-letter, turn-opens, turn-ahead, turn-child}
 use borrow.Author.Needs.{needs}
 use borrow.Fn.Kinds.{In}
 use borrow.Fn.PlainCycle.{Measures, is, falls, and}
@@ -37,7 +37,7 @@ claims t = (type-ahead-reads.Asked, type-ahead-reads.Learnt, item-size-reads.Ask
 
 abbrev element-Inv-loop : element-lts.InvT-loop
 element-Inv-loop source map sizes tr s from first around size₀ o₀ i₀ size o i =
-    Counts source map sizes tr s from o i (size .levels) (size .bytes) (size .filler)
+    SizeSoFar source map sizes tr s from o i (size .levels) (size .bytes) (size .filler)
 
 abbrev element-μ-loop : element-lts.MeasureT-loop
 element-μ-loop source map sizes tr s from first around size₀ o₀ i₀ size o i = length tr - o
@@ -65,7 +65,7 @@ element-turned t c =
     let l = c .before .before .before .before .before .before .before .before .loop in
     let about = c .before .before .before .before .before .before .before .before .before .before .before .item-size .result in
     let inner = c .element .result .size in
-    Turned (start .source .now) (start .map .now) (start .sizes .now) (start .tr .now) (start .s) (start .from) (l .o) (l .i) (l .size .levels) (l .size .bytes) (l .size .filler) (about .levels) (about .bytes) (about .filler) (c .before .child-depth .result) (inner .levels) (inner .bytes) (inner .filler) (c .element .result .end)
+    ChildMeasured (start .source .now) (start .map .now) (start .sizes .now) (start .tr .now) (start .s) (start .from) (l .o) (l .i) (l .size .levels) (l .size .bytes) (l .size .filler) (about .levels) (about .bytes) (about .filler) (c .before .child-depth .result) (inner .levels) (inner .bytes) (inner .filler) (c .element .result .end)
 
 element-turn : (t : ℕ) (c : element-lts.After-element (claims t) (element-at t) element.Post element-Inv-loop element-μ-loop) → element-turned t c
 element-turn t c =
