@@ -35,16 +35,10 @@ abbrev μ-read-to : Measures 6 read-to-kinds.ps ℕ
 μ-read-to κs a = 2 * a .1 .1 .1 .1 .1 .1 .1 .0 .depth
 
 abbrev read-element-at : ℕ → In 6 read-element-kinds.ps
-read-element-at t =
-    and 6 read-element-kinds.ps (is 6 read-element-kinds.ps μ-read-element t) read-element.Pre
+read-element-at t = and 6 read-element-kinds.ps (is 6 read-element-kinds.ps μ-read-element t) read-element.Pre
 
 abbrev read-element-below : ℕ → In 6 read-element-kinds.ps
-read-element-below t =
-    and
-    6
-    read-element-kinds.ps
-    (falls 6 read-element-kinds.ps _<_ μ-read-element t)
-    read-element.Pre
+read-element-below t = and 6 read-element-kinds.ps (falls 6 read-element-kinds.ps _<_ μ-read-element t) read-element.Pre
 
 abbrev read-to-at : ℕ → In 6 read-to-kinds.ps
 read-to-at t = and 6 read-to-kinds.ps (is 6 read-to-kinds.ps μ-read-to t) read-to.Pre
@@ -54,35 +48,11 @@ read-to-below t = and 6 read-to-kinds.ps (falls 6 read-to-kinds.ps _<_ μ-read-t
 
 -- what the functions that `read-element` calls ask and tell
 abbrev read-element-calls : ℕ → read-element-lts.Claims
-read-element-calls t = (
-  put-open-reads.Asked,
-  put-open-reads.Learnt,
-  read-to-below t,
-  read-to.Post,
-  put-close-reads.Asked,
-  put-close-reads.Learnt,
-)
+read-element-calls t = (put-open-reads.Asked, put-open-reads.Learnt, read-to-below t, read-to.Post, put-close-reads.Asked, put-close-reads.Learnt)
 
 -- what the functions that `read-to` calls ask and tell
 abbrev read-to-calls : ℕ → read-to-lts.Claims
-read-to-calls t = (
-  kind-reads.Asked,
-  kind-reads.Learnt,
-  read-text-reads.Asked,
-  read-text-reads.Learnt,
-  begin-reads.Asked,
-  begin-reads.Learnt,
-  next-reads.Asked,
-  next-reads.Learnt,
-  read-element-below t,
-  read-element.Post,
-)
-
-read-element-returns : (t : ℕ) → read-element-lts.Need-returns (read-element-calls t) (read-element-at t) read-element.Post
-read-element-returns t c = λ k a. element-no-room _ _ _ _ (c .if1 .taken)
-
-read-element-cast-put-open : (t : ℕ) → read-element-lts.Need-cast-put-open (read-element-calls t) (read-element-at t) read-element.Post
-read-element-cast-put-open t c = let start = c .before .before .before .before .before .before in omega (arith, start .pre .1 .0 .known-type, start .pre .1 .0 .ready .source-bounded .few-types)
+read-to-calls t = (kind-reads.Asked, kind-reads.Learnt, read-text-reads.Asked, read-text-reads.Learnt, begin-reads.Asked, begin-reads.Learnt, next-reads.Asked, next-reads.Learnt, read-element-below t, read-element.Post)
 
 read-element-read-to-requires : (t : ℕ) → read-element-lts.Need-read-to-requires (read-element-calls t) (read-element-at t) read-element.Post
 read-element-read-to-requires t c κs =
@@ -90,47 +60,19 @@ read-element-read-to-requires t c κs =
     let opened = c .before .before .before .put-open .ensures in
     (omega (arith, start .pre .0), (start .pre .1 .0, omega (arith, opened .after, writes-length opened, c .before .before .before .before .before .if1 .left, start .pre .1 .1)))
 
-read-element-same-length : (t : ℕ) → read-element-lts.Need-same-length (read-element-calls t) (read-element-at t) read-element.Post
-read-element-same-length t c =
-    let read = c .before .before .before .before .before .before in
-    let opened = read .before .before .before .before in
-    let start = opened .before .before .before .before .before .before .before in
-    let here = start .pre .1 .0 .content in
-    held-within _ _ (opened .put-open .ensures) (rw (c .before .before .held .given .1) at (read .read-to .ensures (here .0) (here .1))) .1
-
 read-element-returns-2 : (t : ℕ) → read-element-lts.Need-returns-2 (read-element-calls t) (read-element-at t) read-element.Post
-read-element-returns-2 t c =
-    let read = c .before .before .before .before .before .before in
-    let opened = read .before .before .before .before in
-    λ k a. element-no-close _ _ (opened .put-open .ensures) (rw (c .before .before .held .given .1) at (read .read-to .ensures k a)) (c .if2 .taken)
+read-element-returns-2 t c k a = let read = c .before .before .before .before .before .before in element-no-close _ _ (read .before .before .before .before .put-open .ensures) (rw (c .before .before .held .given .1) at (read .read-to .ensures k a)) (c .if2 .taken)
 
 read-element-put-close-requires : (t : ℕ) → read-element-lts.Need-put-close-requires (read-element-calls t) (read-element-at t) read-element.Post
 read-element-put-close-requires t c κs =
     let read = c .before .before .before .before .before .before .before in
-    let opened = read .before .before .before .before in
-    let start = opened .before .before .before .before .before .before .before in
-    let here = start .pre .1 .0 .content in
-    omega (arith, held-within _ _ (opened .put-open .ensures) (rw (c .before .before .before .held .given .1) at (read .read-to .ensures (here .0) (here .1))) .0, c .before .if2 .left)
-
-read-element-same-length-2 : (t : ℕ) → read-element-lts.Need-same-length-2 (read-element-calls t) (read-element-at t) read-element.Post
-read-element-same-length-2 t c =
-    let read = c .before .before .before .before .before .before .before .before .before .before in
-    let opened = read .before .before .before .before in
-    let start = opened .before .before .before .before .before .before .before in
-    let here = start .pre .1 .0 .content in
-    writes-length (c .before .before .put-close .ensures) ∙ held-within _ _ (opened .put-open .ensures) (rw (c .before .before .before .before .before .before .held .given .1) at (read .read-to .ensures (here .0) (here .1))) .1
+    let here = read .before .before .before .before .before .before .before .before .before .before .before .pre .1 .0 .content in
+    omega (arith, held-within _ _ (read .before .before .before .before .put-open .ensures) (rw (c .before .before .before .held .given .1) at (read .read-to .ensures (here .0) (here .1))) .0, c .before .if2 .left)
 
 read-element-returns-3 : (t : ℕ) → read-element-lts.Need-returns-3 (read-element-calls t) (read-element-at t) read-element.Post
-read-element-returns-3 t c =
+read-element-returns-3 t c k a =
     let read = c .before .before .before .before .before .before .before .before .before .before in
-    let opened = read .before .before .before .before in
-    λ k a. element-written _ _ (opened .put-open .ensures) (rw (c .before .before .before .before .before .before .held .given .1) at (read .read-to .ensures k a)) (c .before .before .before .before .if2 .left) (c .before .before .put-close .ensures)
-
-read-element-same-length-3 : (t : ℕ) → read-element-lts.Need-same-length-3 (read-element-calls t) (read-element-at t) read-element.Post
-read-element-same-length-3 t c = c .before .before .before .before .read-to .kept .1 .1 .1 .1 .1 .1 .0 ∙ writes-length (c .before .before .before .before .before .before .before .before .put-open .ensures)
-
-read-element-returns-4 : (t : ℕ) → read-element-lts.Need-returns-4 (read-element-calls t) (read-element-at t) read-element.Post
-read-element-returns-4 t c = λ k a. element-refused _ _ (c .before .before .before .before .before .before .before .before .put-open .ensures) (rw (c .enum-told .given .1) at (c .before .before .before .before .read-to .ensures k a))
+    element-written _ _ (read .before .before .before .before .put-open .ensures) (rw (c .before .before .before .before .before .before .held .given .1) at (read .read-to .ensures k a)) (c .before .before .before .before .if2 .left) (c .before .before .put-close .ensures)
 
 abbrev read-to-Inv-loop : read-to-lts.InvT-loop
 read-to-Inv-loop source target map em tr sp out₀ image depth cursor₀ to₀ out cursor to = Reading source target map em (image .sigma) tr (image .from) depth out₀ to₀ out to cursor
@@ -138,93 +80,82 @@ read-to-Inv-loop source target map em tr sp out₀ image depth cursor₀ to₀ o
 abbrev read-to-μ-loop : read-to-lts.MeasureT-loop
 read-to-μ-loop source target map em tr sp out₀ image depth cursor₀ to₀ out cursor to = cursorWeight tr cursor
 
-read-to-returns : (t : ℕ) → read-to-lts.Need-returns (read-to-calls t) (read-to-at t) read-to.Post read-to-Inv-loop read-to-μ-loop
-read-to-returns t c = λ k a j e. some-none e (read-zero _ _ _ k (c .if1 .taken))
-
 read-to-read-text-requires : (t : ℕ) → read-to-lts.Need-read-text-requires (read-to-calls t) (read-to-at t) read-to.Post read-to-Inv-loop read-to-μ-loop
 read-to-read-text-requires t c κs =
     let start = c .before .before .before .before .before .before .before .before .before in
+    let i = start .pre .1 .0 in
     let code = sym (c .before .before .kind .ensures .0) ∙ c .before .if2 .taken in
-    (start .pre .1 .0 .spans, (small (start .pre .1 .0 .ready) (start .pre .1 .0 .known-type), (text-follows (start .pre .1 .0 .ready) (start .pre .1 .0 .known-type) _ (c .before .before .before .if1 .left) code, (start .pre .1 .0 .content, start .pre .1 .1))))
+    (i .spans, (small (i .ready) (i .known-type), (text-follows (i .ready) (i .known-type) _ (c .before .before .before .if1 .left) code, (i .content, start .pre .1 .1))))
 
 read-to-returns-2 : (t : ℕ) → read-to-lts.Need-returns-2 (read-to-calls t) (read-to-at t) read-to.Post read-to-Inv-loop read-to-μ-loop
-read-to-returns-2 t c =
-    let start = c .before .before .before .before .before .before .before .before .before .before .before .before in
-    let code = sym (c .before .before .before .before .before .kind .ensures .0) ∙ c .before .before .before .before .if2 .taken in
-    λ k a. rw (read-text (start .pre .1 .0 .ready) (start .pre .1 .0 .known-type) _ (c .before .before .before .before .before .before .if1 .left) code k) (c .before .before .read-text .ensures k a)
+read-to-returns-2 t c k a =
+    let tested = c .before .before .before .before in
+    let i = tested .before .before .before .before .before .before .before .before .pre .1 .0 in
+    let code = sym (tested .before .kind .ensures .0) ∙ tested .if2 .taken in
+    rw (read-text (i .ready) (i .known-type) _ (tested .before .before .if1 .left) code k) (c .before .before .read-text .ensures k a)
 
 read-to-loop-holds : (t : ℕ) → read-to-lts.Need-loop-holds (read-to-calls t) (read-to-at t) read-to.Post read-to-Inv-loop read-to-μ-loop
 read-to-loop-holds t c =
     let start = c .before .before .before .before .before .before .before .before .before in
+    let i = start .pre .1 .0 in
     let other = rw (c .before .before .kind .ensures .0) at (c .before .if2 .left) in
-    reading-start (start .pre .1 .0 .ready) (start .pre .1 .0 .known-type) (c .before .before .before .if1 .left) other (start .pre .1 .1) (start .pre .1 .0 .content) (c .begin .ensures)
+    reading-start (i .ready) (i .known-type) (c .before .before .before .if1 .left) other (start .pre .1 .1) (i .content) (c .begin .ensures)
 
 read-to-read-element-requires : (t : ℕ) → read-to-lts.Need-read-element-requires (read-to-calls t) (read-to-at t) read-to.Post read-to-Inv-loop read-to-μ-loop
 read-to-read-element-requires t c κs =
-    let start = c .before .before .before .before .before .before .before .before .before .before .before .before .before .before .before in
-    let now = c .before .before .before .before .before .loop .inv in
-    let inside = turn-inside now (rw (c .before .before .part .given .1) at (c .before .before .before .before .next .ensures)) in
-    (omega (arith, start .pre .0, c .before .before .before .before .before .before .before .before .before .if1 .left), (record { spans = start .pre .1 .0 .spans; ready = start .pre .1 .0 .ready; known-type = inside .0; content = inside .1 }, now .fits))
-
-read-to-loop-less : (t : ℕ) → read-to-lts.Need-loop-less (read-to-calls t) (read-to-at t) read-to.Post read-to-Inv-loop read-to-μ-loop
-read-to-loop-less t c = turn-less (c .before .before .before .before .before .before .before .before .before .before .before .loop .inv) (rw (c .before .before .before .before .before .before .before .before .part .given .1) at (c .before .before .before .before .before .before .before .before .before .before .next .ensures))
+    let l = c .before .before .before .before .before in
+    let start = l .before .before .before .before .before .before .before .before .before .before in
+    let i = start .pre .1 .0 in
+    let inside = turn-inside (l .loop .inv) (rw (c .before .before .part .given .1) at (c .before .before .before .before .next .ensures)) in
+    (omega (arith, start .pre .0, l .before .before .before .before .if1 .left), (record { spans = i .spans; ready = i .ready; known-type = inside .0; content = inside .1 }, l .loop .inv .fits))
 
 read-to-loop-again : (t : ℕ) → read-to-lts.Need-loop-again (read-to-calls t) (read-to-at t) read-to.Post read-to-Inv-loop read-to-μ-loop
-read-to-loop-again t c = turn-on (c .before .before .before .before .before .before .before .before .before .before .before .loop .inv) (rw (c .before .before .before .before .before .before .before .before .part .given .1) at (c .before .before .before .before .before .before .before .before .before .before .next .ensures)) (rw (c .before .child .given .1) at (c .before .before .before .before .before .read-element .ensures))
-
-read-to-same-length-2 : (t : ℕ) → read-to-lts.Need-same-length-2 (read-to-calls t) (read-to-at t) read-to.Post read-to-Inv-loop read-to-μ-loop
-read-to-same-length-2 t c = c .before .before .before .before .read-element .kept .1 .1 .1 .1 .1 .1 .0 ∙ (c .before .before .before .before .before .before .before .before .before .before .loop .inv) .long
+read-to-loop-again t c = let p = c .before .before .before .before .before .before .before .before in turn-on (p .before .before .before .loop .inv) (rw (p .part .given .1) at (p .before .before .next .ensures)) (rw (c .before .child .given .1) at (c .before .before .before .before .before .read-element .ensures))
 
 read-to-returns-3 : (t : ℕ) → read-to-lts.Need-returns-3 (read-to-calls t) (read-to-at t) read-to.Post read-to-Inv-loop read-to-μ-loop
-read-to-returns-3 t c = turn-refused (c .before .before .before .before .before .before .before .before .before .before .loop .inv) (rw (c .before .before .before .before .before .before .before .part .given .1) at (c .before .before .before .before .before .before .before .before .before .next .ensures)) (rw (c .enum-told .given .1) at (c .before .before .before .before .read-element .ensures))
-
-read-to-returns-4 : (t : ℕ) → read-to-lts.Need-returns-4 (read-to-calls t) (read-to-at t) read-to.Post read-to-Inv-loop read-to-μ-loop
-read-to-returns-4 t c = turn-done (c .before .before .before .loop .inv) (rw (c .enum-told2 .given .1) at (c .before .before .next .ensures))
-
-read-to-returns-5 : (t : ℕ) → read-to-lts.Need-returns-5 (read-to-calls t) (read-to-at t) read-to.Post read-to-Inv-loop read-to-μ-loop
-read-to-returns-5 t c = turn-broken (c .before .before .before .loop .inv) (rw (c .enum-told3 .given .1) at (c .before .before .next .ensures))
+read-to-returns-3 t c = let p = c .before .before .before .before .before .before .before in turn-refused (p .before .before .before .loop .inv) (rw (p .part .given .1) at (p .before .before .next .ensures)) (rw (c .enum-told .given .1) at (c .before .before .before .before .read-element .ensures))
 
 pub +read-element+read-to-spec : {M : Type 1} → statement M
 +read-element+read-to-spec = close μ-read-element μ-read-to (λ t. read-element-lts.spec (read-element-calls t) (read-element-at t)
     read-element.Post
     (λ c. c .before .before .before .before .pre .1 .1)
-    (read-element-returns t)
-    (read-element-cast-put-open t)
-    (λ c κs. let start = c .before .before .before .before .before .before in omega (arith, start .pre .1 .1, c .before .if1 .left))
+    (λ c k a. element-no-room _ _ _ _ (c .if1 .taken))
+    (λ c. let i = c .before .before .before .before .before .before .pre .1 .0 in omega (arith, i .known-type, i .ready .source-bounded .few-types))
+    (λ c κs. omega (arith, c .before .before .before .before .before .before .pre .1 .1, c .before .if1 .left))
     (read-element-read-to-requires t)
     (λ c. search needs)
-    (read-element-same-length t)
+    (λ c. let read = c .before .before .before .before .before .before in read .read-to .kept .1 .1 .1 .1 .1 .1 .0 ∙ writes-length (read .before .before .before .before .put-open .ensures))
     (read-element-returns-2 t)
     (read-element-put-close-requires t)
     (λ c. search needs)
-    (read-element-same-length-2 t)
+    (λ c. let read = c .before .before .before .before .before .before .before .before .before .before in writes-length (c .before .before .put-close .ensures) ∙ read .read-to .kept .1 .1 .1 .1 .1 .1 .0 ∙ writes-length (read .before .before .before .before .put-open .ensures))
     (read-element-returns-3 t)
-    (read-element-same-length-3 t)
-    (read-element-returns-4 t))
+    (λ c. let read = c .before .before .before .before in read .read-to .kept .1 .1 .1 .1 .1 .1 .0 ∙ writes-length (read .before .before .before .before .put-open .ensures))
+    (λ c k a. let read = c .before .before .before .before in element-refused _ _ (read .before .before .before .before .put-open .ensures) (rw (c .enum-told .given .1) at (read .read-to .ensures k a))))
     λ t. read-to-lts.spec (read-to-calls t) (read-to-at t)
     read-to.Post
     read-to-Inv-loop
     read-to-μ-loop
-    (read-to-returns t)
-    (λ c κs. let start = c .before .before .before .before .before .before in small (start .pre .1 .0 .ready) (start .pre .1 .0 .known-type))
+    (λ c k a j e. some-none e (read-zero _ _ _ k (c .if1 .taken)))
+    (λ c κs. let i = c .before .before .before .before .before .before .pre .1 .0 in small (i .ready) (i .known-type))
     (read-to-read-text-requires t)
     (λ c. search needs)
     (read-to-returns-2 t)
-    (λ c κs. let start = c .before .before .before .before .before .before .before .before in start .pre .1 .0)
+    (λ c κs. c .before .before .before .before .before .before .before .before .pre .1 .0)
     (read-to-loop-holds t)
-    (λ c κs. let start = c .before .before .before .before .before .before .before .before .before .before in (start .pre .1 .0, turn-shows (c .loop .inv)))
+    (λ c κs. (c .before .before .before .before .before .before .before .before .before .before .pre .1 .0, turn-shows (c .loop .inv)))
     (λ c. search needs)
     (λ c. omega (arith, c .before .before .before .before .before .before .before .before .if1 .left))
     (read-to-read-element-requires t)
     (λ c. search needs)
-    (read-to-loop-less t)
+    (λ c. let p = c .before .before .before .before .before .before .before .before in turn-less (p .before .before .before .loop .inv) (rw (p .part .given .1) at (p .before .before .next .ensures)))
     (read-to-loop-again t)
     (λ c. search needs)
-    (read-to-same-length-2 t)
+    (λ c. let read = c .before .before .before .before in read .read-element .kept .1 .1 .1 .1 .1 .1 .0 ∙ read .before .before .before .before .before .before .loop .inv .long)
     (read-to-returns-3 t)
     (λ c. search needs)
     (λ c. c .before .before .before .loop .inv .long)
-    (read-to-returns-4 t)
+    (λ c. turn-done (c .before .before .before .loop .inv) (rw (c .enum-told2 .given .1) at (c .before .before .next .ensures)))
     (λ c. search needs)
     (λ c. c .before .before .before .loop .inv .long)
-    (read-to-returns-5 t)
+    (λ c. turn-broken (c .before .before .before .loop .inv) (rw (c .enum-told3 .given .1) at (c .before .before .next .ensures)))
