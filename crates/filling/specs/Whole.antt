@@ -1,8 +1,9 @@
 -- The whole image document: its root element and its end.
 use mathlib.Core.Path.{_≡_, refl, sym, ap, _∙_, subst}
 use mathlib.Core.List.{List, [], _∷_, _++_}
-use Prim.Native.Nat.{ℕ, _+_}
-use lib.ListN.{getD, drop}
+use Prim.Native.Nat.{ℕ, _+_, _<_}
+use native.Mathlib.Omega.{arith}
+use lib.ListN.{length, getD, drop}
 use Rattle.model.specs.Definitions.Content.{Content, bytes, document}
 use Rattle.model.specs.Definitions.Image.{image}
 use Rattle.model.specs.Definitions.Templates.{writes, firstIn}
@@ -10,7 +11,7 @@ use Rattle.model.specs.Theorems.Templates.{write-image}
 use Rattle.loaded_table.specs.Loaded.{tableBy}
 use Rattle.rows.specs.Rows.{sourceRow}
 use Rattle.scanning.specs.Scanning.{At}
-use Rattle.scanning.specs.Laws.{root-at}
+use Rattle.scanning.specs.Laws.{content-within, root-at}
 use Rattle.filling.specs.Contents.{FirstThere, inside-part}
 use Rattle.filling.specs.Asked.{preparedSetting, ImageAsked, RowAsked}
 use Rattle.filling.specs.Elements.{element-row}
@@ -42,10 +43,14 @@ module _ {source pool places tr : List ℕ} {bs : List ℕ} (a : ImageAsked sour
         holds = a .holds;
       }
 
-  -- its row
-  pub image-row : {part : List ℕ} → part ≡ drop 2 tr → {r : ℕ} → r ≡ sourceRow (tableBy source) 0 (firstIn (a .inside)) → RowAsked source pool places part r held
-  image-row is-part is-row =
-      element-row (a .prepared) (a .prepared .ready .valid .source-sound .well-formed .has-root) (a .holds) (inside-part 0 is-part root-there) is-row
+  -- what it holds begins within the document
+  pub image-within : 2 < length tr
+  image-within = omega (arith, content-within root-there)
+
+  -- its row is asked for
+  pub image-row : {part : List ℕ} → part ≡ drop 2 tr → {r : ℕ} → ((c : FirstThere (tableBy source) tr 0) → r ≡ sourceRow (tableBy source) (c .type) (firstIn (c .inside)))
+      → RowAsked source pool places part r held
+  image-row is-part row-is = element-row (a .prepared) (image-root .is-type) (a .holds) (inside-part 0 is-part root-there) (row-is image-root)
 
   -- the bytes of the image
   pub image-bytes : bs ≡ (0x30 ∷ 0 ∷ []) ++ ((held ++ 0x32 ∷ []) ++ 0x3F ∷ [])

@@ -1,53 +1,41 @@
 -- `is_image` meets its contract: the root's row is compared between the commands of the root and the end of the document.
 use native.Mathlib.Omega.{arith}
 use borrow.Rule.Slice.PartAt.{part-to-end}
-use Rattle.scanning.specs.Laws.{content-within}
 use Rattle.scanning.specs.Spanning.{spans-part}
-use Rattle.filling.specs.Whole.{held, image-root, image-row}
+use Rattle.filling.specs.Whole.{held, image-root, image-within, image-row}
 use Rattle.matching.specs.Same.{stays, goes}
 use Rattle.matching.proofs.Whole.{image-unopened, image-unlike, image-ends}
 use Rattle.matching.proofs.is_image.Statement.{statement}
 use Rattle.matching.proofs.is_image.Tie as tie
 
-returns : tie.Need-returns
-returns c = λ bs a. image-unopened a (c .before .before .same-open .ensures) (stays _ (c .if1 .taken))
-
-sub-run-2 : tie.Need-sub-run-2
-sub-run-2 c = let start = c .before .before .before .before .before .before .before .before .before .before in omega (arith, content-within (image-root (start .pre .1 .1) .element .within), start .pre .0 .whole)
-
-part-run-start-2 : tie.Need-part-run-start-2
-part-run-start-2 c = let start = c .before .before .before .before .before .before .before .before .before .before in omega (arith, content-within (image-root (start .pre .1 .1) .element .within), start .pre .0 .whole)
-
 run-requires : tie.Need-run-requires
 run-requires c κs =
-    let start = c .before .before .before .before .before .before .before .before .before .before .before in
+    let opened = c .before .before .before .before in
+    let start = opened .before .before .before .before .before .before .before in
     let a = start .pre .1 .1 in
     let is-part = part-to-end (start .args .tr .now) 2 in (
       spans-part 2 (start .pre .0) is-part (part-to-end (start .args .sp .now) 2),
-      record {
-        bytes = held a;
-        asked = image-row a is-part (c .before .before .before .before .before .row-of .ensures (image-root a));
-        room = c .before .before .before .before .same-open .ensures .within (goes _ (c .before .before .if1 .left));
-      },
+      record { bytes = held a; asked = image-row a is-part (opened .before .row-of .ensures); room = opened .same-open .ensures .within (goes _ (c .before .before .if1 .left)) },
     )
 
 returns-2 : tie.Need-returns-2
-returns-2 c =
-    λ bs a.
-    image-unlike a (c .before .before .before .before .before .before .before .same-open .ensures) (goes _ (c .before .before .before .before .before .if1 .left))
-    (c .before .before .run .ensures (held a) (image-row a (part-to-end (c .before .before .before .before .before .before .before .before .before .before .before .before .before .before .args .tr .now) 2) (c .before .before .before .before .before .before .before .before .row-of .ensures (image-root a)))) (stays _ (c .if2 .taken))
+returns-2 c bs a =
+    let opened = c .before .before .before .before .before .before .before in
+    let inner = c .before .before .run .ensures (held a) (image-row a (part-to-end (opened .before .before .before .before .before .before .before .args .tr .now) 2) (opened .before .row-of .ensures)) in
+    image-unlike a (opened .same-open .ensures) (goes _ (c .before .before .before .before .before .if1 .left)) inner (stays _ (c .if2 .taken))
 
 ends-requires : tie.Need-ends-requires
 ends-requires c κs =
-    let start = c .before .before .before .before .before .before .before .before .before .before .before .before .before .before in
+    let opened = c .before .before .before .before .before .before .before in
+    let start = opened .before .before .before .before .before .before .before in
     let a = start .pre .1 .1 in
-    c .before .before .run .ensures (held a) (image-row a (part-to-end (start .args .tr .now) 2) (c .before .before .before .before .before .before .before .before .row-of .ensures (image-root a))) .within (goes _ (c .if2 .left))
+    c .before .before .run .ensures (held a) (image-row a (part-to-end (start .args .tr .now) 2) (opened .before .row-of .ensures)) .within (goes _ (c .if2 .left))
 
 returns-3 : tie.Need-returns-3
-returns-3 c =
-    λ bs a.
-    image-ends a (c .before .before .before .before .before .before .before .before .same-open .ensures) (goes _ (c .before .before .before .before .before .before .if1 .left))
-    (c .before .before .before .run .ensures (held a) (image-row a (part-to-end (c .before .before .before .before .before .before .before .before .before .before .before .before .before .before .before .args .tr .now) 2) (c .before .before .before .before .before .before .before .before .before .row-of .ensures (image-root a)))) (goes _ (c .before .if2 .left)) (c .ends .ensures)
+returns-3 c bs a =
+    let opened = c .before .before .before .before .before .before .before .before in
+    let inner = c .before .before .before .run .ensures (held a) (image-row a (part-to-end (opened .before .before .before .before .before .before .before .args .tr .now) 2) (opened .before .row-of .ensures)) in
+    image-ends a (opened .same-open .ensures) (goes _ (c .before .before .before .before .before .before .if1 .left)) inner (goes _ (c .before .if2 .left)) (c .ends .ensures)
 
 pub is-image-spec : {M : Type 1} → statement M
 is-image-spec =
@@ -55,12 +43,12 @@ is-image-spec =
     (tie.spec
     (λ c κs. let a = c .before .before .before .before .before .pre .1 .1 in (a .prepared .ready .source-bounded, image-root a))
     (λ c κs. omega arith)
-    returns
-    (λ c. omega (arith, content-within (image-root (c .before .before .before .before .before .before .before .before .before .pre .1 .1) .element .within)))
-    (λ c. omega (arith, content-within (image-root (c .before .before .before .before .before .before .before .before .before .pre .1 .1) .element .within)))
+    (λ c bs a. image-unopened a (c .before .before .same-open .ensures) (stays _ (c .if1 .taken)))
+    (λ c. omega (arith, image-within (c .before .before .before .before .before .before .before .before .before .pre .1 .1)))
+    (λ c. omega (arith, image-within (c .before .before .before .before .before .before .before .before .before .pre .1 .1)))
     (λ c. omega arith)
-    sub-run-2
-    part-run-start-2
+    (λ c. let start = c .before .before .before .before .before .before .before .before .before .before in omega (arith, image-within (start .pre .1 .1), start .pre .0 .whole))
+    (λ c. let start = c .before .before .before .before .before .before .before .before .before .before in omega (arith, image-within (start .pre .1 .1), start .pre .0 .whole))
     (λ c. omega arith)
     run-requires
     returns-2
