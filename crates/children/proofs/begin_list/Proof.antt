@@ -7,34 +7,46 @@ use Rattle.children.proofs.begin_list.Statement.{statement}
 use Rattle.children.proofs.begin_list.Tie as tie
 
 list-depth-requires : tie.Need-list-depth-requires
-list-depth-requires c κs = let start = c .before .before .before .before .before .before in list-path (start .pre .0 .ready) (start .pre .0 .known-type) (start .pre .1) (c .before .before .start .ensures .0) (c .before .steps .ensures .0) (c .target .ensures .0)
+list-depth-requires c κs =
+    let start = c .before .before .before .before .before .before in
+    let i = start .pre .0 in
+    list-path (i .ready) (i .known-type) (start .pre .1) (c .before .before .start .ensures .0) (c .before .steps .ensures .0) (c .target .ensures .0)
 
 follow-requires : tie.Need-follow-requires
 follow-requires c κs =
     let start = c .before .before .before .before .before .before .before in
-    (start .pre .0 .spans, (list-before (start .pre .0 .ready) (start .pre .0 .known-type) (start .pre .1) (c .before .before .before .start .ensures .0) (c .before .before .steps .ensures .0) (c .before .target .ensures .0) (c .list-depth .ensures), start .pre .0 .content))
+    let i = start .pre .0 in
+    (i .spans, (list-before (i .ready) (i .known-type) (start .pre .1) (c .before .before .before .start .ensures .0) (c .before .before .steps .ensures .0) (c .before .target .ensures .0) (c .list-depth .ensures), i .content))
 
 sub-t22 : tie.Need-sub-t22
-sub-t22 c = let start = c .before .before .before .before .before .before .before .before .before .before .before in omega (arith, cut-less (start .pre .0 .ready) (start .pre .0 .known-type) (start .pre .1) (c .before .before .before .before .before .before .before .start .ensures .0) (c .before .before .before .before .before .before .steps .ensures .0) (c .before .before .before .before .before .target .ensures .0) (c .before .before .before .before .list-depth .ensures))
+sub-t22 c =
+    let cut = c .before .before .before .before in
+    let start = cut .before .before .before .before .before .before .before in
+    let i = start .pre .0 in
+    omega (arith, cut-less (i .ready) (i .known-type) (start .pre .1) (cut .before .before .before .start .ensures .0) (cut .before .before .steps .ensures .0) (cut .before .target .ensures .0) (cut .list-depth .ensures))
 
 returns : tie.Need-returns
-returns c =
-    let start = c .before .before .before .before .before .before .before .before .before .before .before .before in
-    λ k a. begin-items (start .pre .0 .ready) (start .pre .0 .known-type) (start .pre .1) (c .before .before .before .before .before .before .before .before .start .ensures .0) (c .before .before .before .before .before .before .before .steps .ensures .0) (c .before .before .before .before .before .before .target .ensures .0) (c .before .before .before .before .before .list-depth .ensures) k (rw (c .before .before .found .given .1) at (c .before .before .before .before .follow .ensures k a)) (c .member .ensures .0)
+returns c k a =
+    let cut = c .before .before .before .before .before in
+    let start = cut .before .before .before .before .before .before .before in
+    let i = start .pre .0 in
+    begin-items (i .ready) (i .known-type) (start .pre .1) (cut .before .before .before .start .ensures .0) (cut .before .before .steps .ensures .0) (cut .before .target .ensures .0) (cut .list-depth .ensures) k (rw (c .before .before .found .given .1) at (c .before .before .before .before .follow .ensures k a)) (c .member .ensures .0)
 
 returns-2 : tie.Need-returns-2
-returns-2 c =
-    let start = c .before .before .before .before .before .before .before .before .before .before in
-    λ k a. begin-lost (start .pre .0 .ready) (start .pre .0 .known-type) (start .pre .1) (c .before .before .before .before .before .before .start .ensures .0) (c .before .before .before .before .before .steps .ensures .0) (c .before .before .before .before .target .ensures .0) (c .before .before .before .list-depth .ensures) k (rw (c .enum-told .given .1) at (c .before .before .follow .ensures k a))
+returns-2 c k a =
+    let cut = c .before .before .before in
+    let start = cut .before .before .before .before .before .before .before in
+    let i = start .pre .0 in
+    begin-lost (i .ready) (i .known-type) (start .pre .1) (cut .before .before .before .start .ensures .0) (cut .before .before .steps .ensures .0) (cut .before .target .ensures .0) (cut .list-depth .ensures) k (rw (c .enum-told .given .1) at (c .before .before .follow .ensures k a))
 
 pub begin-list-spec : {M : Type 1} → statement M
 begin-list-spec =
     tie.close
     (tie.spec
-    (λ c. let start = c .before .before .before in omega (arith, small (start .pre .0 .ready) (start .pre .0 .known-type)))
-    (λ c κs. let start = c .before .before .before in omega (arith, small (start .pre .0 .ready) (start .pre .0 .known-type)))
-    (λ c κs. let start = c .before .before .before .before in omega (arith, small (start .pre .0 .ready) (start .pre .0 .known-type)))
-    (λ c κs. let start = c .before .before .before .before .before in small (start .pre .0 .ready) (start .pre .0 .known-type))
+    (λ c. let i = c .before .before .before .pre .0 in omega (arith, small (i .ready) (i .known-type)))
+    (λ c κs. let i = c .before .before .before .pre .0 in omega (arith, small (i .ready) (i .known-type)))
+    (λ c κs. let i = c .before .before .before .before .pre .0 in omega (arith, small (i .ready) (i .known-type)))
+    (λ c κs. let i = c .before .before .before .before .before .pre .0 in small (i .ready) (i .known-type))
     list-depth-requires
     follow-requires
     (λ c. search needs)

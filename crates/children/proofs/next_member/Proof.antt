@@ -7,52 +7,46 @@ use Rattle.children.proofs.Edges.{edges-done, edges-less, edges-follow,
 use Rattle.children.proofs.next_member.Statement.{statement}
 use Rattle.children.proofs.next_member.Tie as tie
 
-returns : tie.Need-returns
-returns c =
-    let start = c .before .before .before .before .before in
-    λ k parts a left. edges-done (start .pre .0 .ready) (start .pre .0 .known-type) left (c .if1 .taken ∙ c .before .count .ensures .0)
-
 along-requires : tie.Need-along-requires
 along-requires c κs =
     let start = c .before .before .before .before .before in
+    let i = start .pre .0 in
     let left = start .pre .1 in
     let other = rw (c .before .count .ensures .0) at (c .if1 .left) in
-    let ready = start .pre .0 .ready in
-    let exists = start .pre .0 .known-type in
-    (start .pre .0 .spans, ((small ready exists, omega (arith, edges-less ready exists (left .3) other, few ready exists)), (edges-follow ready exists (left .3) other, (left .0, left .2))))
+    (i .spans, ((small (i .ready) (i .known-type), omega (arith, edges-less (i .ready) (i .known-type) (left .3) other, few (i .ready) (i .known-type))), (edges-follow (i .ready) (i .known-type) (left .3) other, (left .0, left .2))))
 
 member-requires : tie.Need-member-requires
 member-requires c κs =
     let start = c .before .before .before .before .before .before .before .before .before in
+    let i = start .pre .0 in
     let other = rw (c .before .before .before .before .before .count .ensures .0) at (c .before .before .before .before .if1 .left) in
-    let ready = start .pre .0 .ready in
-    let exists = start .pre .0 .known-type in
-    (small ready exists, omega (arith, edges-less ready exists (start .pre .1 .3) other, few ready exists))
+    (small (i .ready) (i .known-type), omega (arith, edges-less (i .ready) (i .known-type) (start .pre .1 .3) other, few (i .ready) (i .known-type)))
 
 add-after : tie.Need-add-after
 add-after c =
     let start = c .before .before .before .before .before .before .before .before .before .before in
+    let i = start .pre .0 in
     let other = rw (c .before .before .before .before .before .before .count .ensures .0) at (c .before .before .before .before .before .if1 .left) in
-    omega (arith, edges-less (start .pre .0 .ready) (start .pre .0 .known-type) (start .pre .1 .3) other, few (start .pre .0 .ready) (start .pre .0 .known-type))
+    omega (arith, edges-less (i .ready) (i .known-type) (start .pre .1 .3) other, few (i .ready) (i .known-type))
 
 returns-2 : tie.Need-returns-2
-returns-2 c =
-    let start = c .before .before .before .before .before .before .before .before .before .before in
+returns-2 c k parts a left =
+    let i = c .before .before .before .before .before .before .before .before .before .before .pre .0 in
     let other = rw (c .before .before .before .before .before .before .count .ensures .0) at (c .before .before .before .before .before .if1 .left) in
-    λ k parts a left. rw (c .member .ensures .0) (edges-one (start .pre .0 .ready) (start .pre .0 .known-type) left other (rw (c .before .before .found .given .1) at (c .before .before .before .before .along .ensures k a)))
+    rw (c .member .ensures .0) (edges-one (i .ready) (i .known-type) left other (rw (c .before .before .found .given .1) at (c .before .before .before .before .along .ensures k a)))
 
 returns-3 : tie.Need-returns-3
-returns-3 c =
-    let start = c .before .before .before .before .before .before .before .before in
+returns-3 c k parts a left =
+    let i = c .before .before .before .before .before .before .before .before .pre .0 in
     let other = rw (c .before .before .before .before .count .ensures .0) at (c .before .before .before .if1 .left) in
-    λ k parts a left. edges-broken (start .pre .0 .ready) (start .pre .0 .known-type) left other (rw (c .enum-told .given .1) at (c .before .before .along .ensures k a))
+    edges-broken (i .ready) (i .known-type) left other (rw (c .enum-told .given .1) at (c .before .before .along .ensures k a))
 
 pub next-member-spec : {M : Type 1} → statement M
 next-member-spec =
     tie.close
     (tie.spec
-    (λ c κs. let start = c .before .before .before in small (start .pre .0 .ready) (start .pre .0 .known-type))
-    returns
+    (λ c κs. let i = c .before .before .before .pre .0 in small (i .ready) (i .known-type))
+    (λ c k parts a left. let i = c .before .before .before .before .before .pre .0 in edges-done (i .ready) (i .known-type) left (c .if1 .taken ∙ c .before .count .ensures .0))
     along-requires
     (λ c. search needs)
     member-requires

@@ -58,9 +58,10 @@ put-end-requires c κs =
 
 returns : tie.Need-returns
 returns c bs a =
-    let opened = c .before .before .before .before .before .before .before .before .before .before .before .before .before .before .before .before in
-    let inner = c .before .before .before .before .before .before .before .before .before .before .run .ensures _ (image-row a (part-to-end (opened .before .before .before .before .before .before .before .before .args .tr .now) 2) (opened .before .before .row-of .ensures)) in
-    rw (image-bytes a) (writes-then (opened .put-open .ensures) (writes-then (writes-then inner (c .before .before .before .before .before .before .put-close .ensures)) (c .before .before .put-end .ensures)))
+    let earlier = c .before .before .before .before .before .before in
+    let opened = earlier .before .before .before .before .before .before .before .before .before .before in
+    let inner = earlier .before .before .before .before .run .ensures _ (image-row a (part-to-end (opened .before .before .before .before .before .before .before .before .args .tr .now) 2) (opened .before .before .row-of .ensures)) in
+    rw (image-bytes a) (writes-then (opened .put-open .ensures) (writes-then (writes-then inner (earlier .put-close .ensures)) (c .before .before .put-end .ensures)))
 
 pub write-image-spec : {M : Type 1} → statement M
 write-image-spec =

@@ -25,8 +25,9 @@ put-end-requires c κs =
 
 returns-2 : tie.Need-returns-2
 returns-2 c =
-    let start = c .before .before .before .before .before .before .before .before .before .before .before .before .before .before .before .before in
-    λ k e. whole-written (start .pre .1 .0) k e (rw (c .before .before .before .before .before .before .root .given .1) at (c .before .before .before .before .before .before .before .before .before .before .read-element .ensures k (root-there e))) (c .before .before .before .before .if1 .left) (c .before .before .put-end .ensures)
+    let earlier = c .before .before .before .before .before .before in
+    let start = earlier .before .before .before .before .before .before .before .before .before .before in
+    λ k e. whole-written (start .pre .1 .0) k e (rw (earlier .root .given .1) at (earlier .before .before .before .before .read-element .ensures k (root-there e))) (c .before .before .before .before .if1 .left) (c .before .before .put-end .ensures)
 
 returns-3 : tie.Need-returns-3
 returns-3 c =

@@ -32,8 +32,9 @@ copy-requires c κs =
 
 returns-2 : tie.Need-returns-2
 returns-2 c =
-    let start = c .before .before .before .before .before .before .before .before .before .before .before .before .before .before in
-    λ k a. text-copied (rw (c .before .before .before .before .before .before .before .found .given .1) at (c .before .before .before .before .before .before .before .before .before .along .ensures k a)) (c .before .before .before .before .before .close-of .ensures) (c .before .before .before .before .if1 .left) (start .pre .1 .1 .1 .1) (c .before .before .copy .ensures)
+    let earlier = c .before .before .before .before in
+    let start = earlier .before .before .before .before .before .before .before .before .before .before in
+    λ k a. text-copied (rw (earlier .before .before .before .found .given .1) at (earlier .before .before .before .before .before .along .ensures k a)) (earlier .before .close-of .ensures) (earlier .if1 .left) (start .pre .1 .1 .1 .1) (c .before .before .copy .ensures)
 
 returns-3 : tie.Need-returns-3
 returns-3 c = λ k a j e. some-none e (rw (c .enum-told .given .1) at (c .before .before .along .ensures k a))

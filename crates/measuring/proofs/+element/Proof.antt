@@ -61,16 +61,18 @@ element-ahead t c = turn-ahead (c .before .before .before .before .before .befor
 -- it was measured
 abbrev element-turned : (t : ℕ) → element-lts.After-element (claims t) (element-at t) element.Post element-Inv-loop element-μ-loop → Type 0
 element-turned t c =
-    let start = c .before .before .before .before .before .before .before .before .before .before .before .before .before .before .before .args in
-    let l = c .before .before .before .before .before .before .before .before .loop in
-    let about = c .before .before .before .before .before .before .before .before .before .before .before .item-size .result in
+    let earlier = c .before .before .before .before .before .before .before .before in
+    let start = earlier .before .before .before .before .before .before .before .args in
+    let l = earlier .loop in
+    let about = earlier .before .before .before .item-size .result in
     let inner = c .element .result .size in
     ChildMeasured (start .source .now) (start .map .now) (start .sizes .now) (start .tr .now) (start .s) (start .from) (l .o) (l .i) (l .size .levels) (l .size .bytes) (l .size .filler) (about .levels) (about .bytes) (about .filler) (c .before .child-depth .result) (inner .levels) (inner .bytes) (inner .filler) (c .element .result .end)
 
 element-turn : (t : ℕ) (c : element-lts.After-element (claims t) (element-at t) element.Post element-Inv-loop element-μ-loop) → element-turned t c
 element-turn t c =
-    let about = c .before .before .before .before .before .before .before .before .before .before .before .item-size .ensures in
-    turn-child (c .before .before .before .before .before .before .before .before .loop .inv) (c .before .before .before .before .before .before .before .before .before .before .before .before .before .before .before .pre .1) (c .before .before .before .before .if2 .left) (c .before .before .before .before .before .before .if1 .taken) (c .before .before .wide .result) (c .before .before .wide .ensures) (about .0) (about .1 .0) (about .1 .1) (c .before .child-depth .ensures .0) (c .element .ensures)
+    let earlier = c .before .before .before .before .before .before in
+    let about = earlier .before .before .before .before .before .item-size .ensures in
+    turn-child (earlier .before .before .loop .inv) (earlier .before .before .before .before .before .before .before .before .before .pre .1) (c .before .before .before .before .if2 .left) (earlier .if1 .taken) (c .before .before .wide .result) (c .before .before .wide .ensures) (about .0) (about .1 .0) (about .1 .1) (c .before .child-depth .ensures .0) (c .element .ensures)
 
 loop-again-2 : (t : ℕ) → element-lts.Need-loop-again-2 (claims t) (element-at t) element.Post element-Inv-loop element-μ-loop
 loop-again-2 t c = let size = c .before .with-child .ensures in element-turn t (c .before .before .before) .joined (size .0) (size .1 .0) (size .1 .1)
