@@ -23,6 +23,10 @@ pub element-length : (m : ℕ) (i r : Content) → length (bytes (elem m i r)) �
 unfolding bytes
 element-length m i r = omega (arith, length-append (bytes i) (0x32 ∷ bytes r))
 
+-- one content is sought, of one length
+pub sought-length : {sought : Option Content} {k l : Content} → sought ≡ some k → sought ≡ some l → length (bytes k) ≡ length (bytes l)
+sought-length {k = k} {l} f g = let same : k ≡ l = cc in ap (λ (m : Content). length (bytes m)) same
+
 -- what an element that was read holds
 pub record Made (m : ℕ) (sought : Option Content) (j : Content) : Type 0 where
   pub inside : Content
@@ -60,11 +64,7 @@ module _ (m : ℕ) (sought : Option Content) where
       pub element-no-close : at₂ ≡ length out₂ → (j : Content) → elementOf m sought ≡ some j → length old < at + length (bytes j)
       element-no-close full j e =
           let made = element-made m sought j e in
-          let same : held .content ≡ made .inside = same-inside (held .content) (made .inside) (held .is) (made .was-read) in
-          omega (arith, long j made, ap (λ (l : Content). length (bytes l)) same, opened .after, held .written .after, held-within .1)
-        where
-          same-inside : (k l : Content) → sought ≡ some k → sought ≡ some l → k ≡ l
-          same-inside k l f g = cc
+          omega (arith, long j made, sought-length (held .is) (made .was-read), opened .after, held .written .after, held-within .1)
 
       -- it is written
       pub element-written : {out₃ : List ℕ} {at₃ : ℕ} → (at₂ ≡ length out₂ → ⊥) → Writes out₂ out₃ at₂ (0x32 ∷ []) at₃ → ReadsTo old out₃ at at₃ (elementOf m sought)
@@ -95,8 +95,4 @@ module _ {tr : List ℕ} {o close : ℕ} {sought : Option Content} (found : Begi
   -- or don't fit
   pub text-too-long : (old : List ℕ) (at : ℕ) → length old - at < close - o → (j : Content) → sought ≡ some j → length old < at + length (bytes j)
   text-too-long old at short j e =
-      let same : found .content ≡ j = same-content (found .content) (found .is) in
-      omega (arith, ends, ap (λ (l : Content). length (bytes l)) same)
-    where
-      same-content : (l : Content) → sought ≡ some l → l ≡ j
-      same-content l f = cc
+      omega (arith, ends, sought-length (found .is) e)

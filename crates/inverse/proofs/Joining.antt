@@ -13,7 +13,7 @@ use Rattle.model.specs.Theorems.Tools.{some-none}
 use Rattle.writing.specs.Writing.{Writes}
 use Rattle.writing.specs.Laws.{writes-left}
 use Rattle.inverse.specs.Reading.{elementOf, ReadsTo}
-use Rattle.inverse.proofs.Elements.{end-length, element-length, element-made}
+use Rattle.inverse.proofs.Elements.{end-length, element-length, sought-length, element-made}
 
 -- ---- a child and what follows it
 
@@ -71,11 +71,7 @@ module _ {old : List ℕ} {at₀ : ℕ} {whole : Option Content} {out : List ℕ
       go none e = some-none is (now .missing e)
       go (some r) e =
           let joined = now .there r e in
-          let same : joined .content ≡ j = same-content (joined .content) (joined .is) in
-          omega (arith, long r e, joined .same-end, ap (λ (l : Content). length (bytes l)) same)
-        where
-          same-content : (l : Content) → whole ≡ some l → l ≡ j
-          same-content l f = cc
+          omega (arith, long r e, joined .same-end, sought-length (joined .is) is)
 
   pub onto-missing : rest ≡ none → (j : Content) → whole ≡ some j → length old < at₀ + length (bytes j)
   onto-missing e j is = some-none is (now .missing e)

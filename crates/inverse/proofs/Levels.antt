@@ -15,7 +15,7 @@ use Rattle.model.specs.Definitions.EmbeddingChecks.{rightSteps, leavesOnly}
 use Rattle.model.specs.Definitions.Image.{Setting, onlyPath}
 use Rattle.model.specs.Definitions.Inverse.{childAt, childOfType, enter, follow, readOne, readMembers, readIfThere, readChoice, readItems, readList, readKind, readTo}
 use Rattle.model.specs.Theorems.Facts.{Along, along-none, along-both, GoodPath, MemberPath, ValidEdges, text-edge, no-edge, sequence-edges, choice-edges, list-edge, Valid}
-use Rattle.model.specs.Theorems.Tools.{some-none, true-false, and-right}
+use Rattle.model.specs.Theorems.Tools.{some-none, true-false}
 
 -- ---- what a path leads to is lower
 
@@ -64,16 +64,11 @@ step-lower T τ p ps k j e = go (enter (kindOf T τ) p (next T τ p) k) refl e
     go none q f = some-none f refl
     go (some i) q f = omega (arith, enter-lower (kindOf T τ) p (next T τ p) k i q, follow-lower T (next T τ p) ps i j f)
 
--- the paths of a sequence's and of a choice's edges have a step
-sequence-lower : (X : Setting) (τ : ℕ) (ns ps : List ℕ) (k j : Content) → GoodPath X τ (sequence ns) ps → follow (X .target) τ ps k ≡ some j → levels j < levels k
-unfolding rightSteps leaves some-of
-sequence-lower X τ ns [] k j good e = true-false (and-right (leavesOnly _ []) false (good .right)) refl
-sequence-lower X τ ns (p ∷ ps) k j good e = step-lower (X .target) τ p ps k j e
-
-choice-lower : (X : Setting) (τ : ℕ) (ns ps : List ℕ) (k j : Content) → GoodPath X τ (choice ns) ps → follow (X .target) τ ps k ≡ some j → levels j < levels k
-unfolding rightSteps leaves some-of
-choice-lower X τ ns [] k j good e = true-false (and-right (leavesOnly _ []) false (good .right)) refl
-choice-lower X τ ns (p ∷ ps) k j good e = step-lower (X .target) τ p ps k j e
+-- the path of an edge that has to have a step
+edge-lower : (X : Setting) (τ : ℕ) (κ : Kind) (ps : List ℕ) (k j : Content) → rightSteps κ [] ≡ false → GoodPath X τ κ ps → follow (X .target) τ ps k ≡ some j → levels j < levels k
+unfolding leaves
+edge-lower X τ κ [] k j needs good e = true-false (good .right) needs
+edge-lower X τ κ (p ∷ ps) k j needs good e = step-lower (X .target) τ p ps k j e
 
 -- ---- two ways to read that agree on lower content
 
@@ -97,7 +92,7 @@ module _ (first second : ℕ → Content → Option Content) where
     members-same X τ ns k low [] [] along-none exist = refl
     members-same X τ ns k low (m ∷ ms) (p ∷ pss) (along-both path rest) exist =
         one-same m (follow (X .target) τ p k) _ _
-        (λ j e. agree m j (exist m (List·Memᴰ·head refl)) (omega (arith, sequence-lower X τ ns p k j (path .good) e)))
+        (λ j e. agree m j (exist m (List·Memᴰ·head refl)) (omega (arith, edge-lower X τ (sequence ns) p k j (unfold rightSteps leavesOnly some-of in refl) (path .good) e)))
         (members-same X τ ns k low ms pss rest (λ q here. exist q (List·Memᴰ·tail here)))
 
     choice-same : (X : Setting) (τ : ℕ) (ns : List ℕ) (k : Content) → levels k ≤ bound → (ms : List ℕ) (pss : List (List ℕ)) → Along (MemberPath X τ (choice ns)) ms pss
@@ -106,7 +101,7 @@ module _ (first second : ℕ → Content → Option Content) where
     choice-same X τ ns k low [] [] along-none exist = refl
     choice-same X τ ns k low (m ∷ ms) (p ∷ pss) (along-both path rest) exist =
         there-same m (follow (X .target) τ p k) _ _
-        (λ j e. agree m j (exist m (List·Memᴰ·head refl)) (omega (arith, choice-lower X τ ns p k j (path .good) e)))
+        (λ j e. agree m j (exist m (List·Memᴰ·head refl)) (omega (arith, edge-lower X τ (choice ns) p k j (unfold rightSteps leavesOnly some-of in refl) (path .good) e)))
         (choice-same X τ ns k low ms pss rest (λ q here. exist q (List·Memᴰ·tail here)))
 
     items-same : (T : Table) (τ : ℕ) (ps : List ℕ) (m : ℕ) → m < n → (k : Content) → levels k ≤ bound

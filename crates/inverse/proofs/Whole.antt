@@ -1,7 +1,7 @@
 -- A whole document: its root element and the 3F after it.
 use mathlib.Core.Path.{_≡_, sym, ap, _∙_}
 use mathlib.Core.List.{List, [], _∷_, _++_}
-use mathlib.Core.Option.{Option, some}
+use mathlib.Core.Option.{some}
 use Prim.Native.Nat.{ℕ, suc, _+_, _-_, _≤_, _<_}
 use native.Mathlib.Omega.{arith}
 use lib.ListN.{length, length-append}
@@ -16,7 +16,7 @@ use Rattle.scanning.specs.Laws.{root-at}
 use Rattle.writing.specs.Writing.{Writes}
 use Rattle.writing.specs.Laws.{writes-then, writes-length}
 use Rattle.inverse.specs.Reading.{elementOf, ReadsTo, BringsTo}
-use Rattle.inverse.proofs.Elements.{end-length, element-length, Made, element-made}
+use Rattle.inverse.proofs.Elements.{end-length, element-length, sought-length, Made, element-made}
 use Rattle.inverse.proofs.Levels.{levels-enough, levels-bytes}
 
 document-length : (j : Content) → length (document 0 j) ≡ 4 + length (bytes j)
@@ -63,13 +63,9 @@ module _ {source target map em : List ℕ} (ready : Ready source target map em) 
       -- there is no room for the document's end
       pub whole-no-end : at₁ ≡ length out₁ → (j : Content) → readBack X k ≡ some j → length old < length (document 0 j)
       whole-no-end full j e =
-          let same : made .inside ≡ j = same-content (made .inside) (made .was-read) (sym back ∙ e) in
           let long : length (bytes (root .content)) ≡ 3 + length (bytes (made .inside)) + length (bytes end) =
           ap (λ (l : Content). length (bytes l)) (made .is) ∙ element-length 0 (made .inside) end in
-          omega (arith, document-length j, ap (λ (l : Content). length (bytes l)) same, end-length, root .written .after, whole-room .1)
-        where
-          same-content : (l : Content) {o : Option Content} → o ≡ some l → o ≡ some j → l ≡ j
-          same-content l f g = cc
+          omega (arith, document-length j, sought-length (made .was-read) (sym back ∙ e), end-length, root .written .after, whole-room .1)
 
       -- it is written
       pub whole-written : {out₂ : List ℕ} {at₂ : ℕ} → (at₁ ≡ length out₁ → ⊥) → Writes out₁ out₂ at₁ (0x3F ∷ []) at₂ → BringsTo old out₂ at₂ (readBack X k)
