@@ -1,16 +1,18 @@
 -- Children of content by their number, and where they stand in a document.
 use mathlib.Core.Path.{_≡_, refl, sym, ap, _∙_, subst}
 use mathlib.Core.List.{List, [], List·Memᴰ, List·Memᴰ·head, List·Memᴰ·tail}
-use Prim.Native.Nat.{ℕ, zero, suc, _+_, _<_}
+use Prim.Native.Nat.{ℕ, zero, suc, _+_, _-_, _<_}
 use native.Mathlib.Nat.{add-zero}
 use native.Mathlib.Omega.{arith}
-use lib.ListN.{length, getD, drop}
+use lib.ListN.{length, getD, drop, take}
 use lib.Seq.{drop-drop}
+use borrow.Rule.Slice.PartAt.{part-to-end}
 use Rattle.model.specs.Definitions.Table.{Kind, text, sequence, choice, Table, kindOf}
 use Rattle.model.specs.Definitions.Content.{Content, end, char, elem, bytes}
 use Rattle.model.specs.Definitions.Conformance.{Holds, no-character, one-character, nothing, no-member, one-member, chosen, no-item, one-item}
 use Rattle.model.specs.Definitions.Templates.{firstIn, atChild}
 use Rattle.scanning.specs.Scanning.{At}
+use Rattle.scanning.specs.Spanning.{Spans, spans-part}
 use Rattle.scanning.specs.Laws.{element-first, Opens, opens, opens-next}
 
 -- what is left of content behind its first i elements
@@ -46,13 +48,21 @@ element-next {tr} {o} {t} {l} {r} a = go (opens (elem t l r) a (element-first a)
         let after : w .next ≡ r = cc in
         subst (λ (x : Content). At tr (o + 2 + length (bytes x) + 1) r) inner (subst (At tr (o + 2 + length (bytes (w .inside)) + 1)) after (opens-next w))
 
--- a part of a document
-pub at-part : {tr part : List ℕ} (o : ℕ) {i : ℕ} {k : Content} → part ≡ drop o tr → At tr (o + i) k → At part i k
-at-part {tr} o {i} e a = record { rest = a .rest; stands = ap (drop i) e ∙ drop-drop i o tr ∙ a .stands }
+-- the part of a slice from offset o on, as it is handed on
+abbrev pub partFrom : List ℕ → ℕ → List ℕ
+partFrom s o = take (length s - o) (drop o s)
+
+-- what stands in it
+pub at-part : {tr : List ℕ} (o : ℕ) {i : ℕ} {k : Content} → At tr (o + i) k → At (partFrom tr o) i k
+at-part {tr} o {i} a = record { rest = a .rest; stands = ap (drop i) (part-to-end tr o) ∙ drop-drop i o tr ∙ a .stands }
 
 -- the part that begins with content
-pub inside-part : {tr part : List ℕ} (o : ℕ) {k : Content} → part ≡ drop (o + 2) tr → At tr (o + 2) k → At part 0 k
-inside-part {tr} o {k} e a = at-part (o + 2) e (subst (λ (n : ℕ). At tr n k) (sym (add-zero (o + 2))) a)
+pub inside-part : {tr : List ℕ} (o : ℕ) {k : Content} → At tr (o + 2) k → At (partFrom tr (o + 2)) 0 k
+inside-part {tr} o {k} a = at-part (o + 2) (subst (λ (n : ℕ). At tr n k) (sym (add-zero (o + 2))) a)
+
+-- the distances in it
+pub spans-from : {tr sp : List ℕ} (o : ℕ) → Spans tr sp → Spans (partFrom tr o) (partFrom sp o)
+spans-from {tr} {sp} o s = spans-part o s (part-to-end tr o) (part-to-end sp o)
 
 -- ---- children of conforming content
 

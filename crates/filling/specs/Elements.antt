@@ -4,7 +4,7 @@ use mathlib.Core.List.{List, [], _++_}
 use Prim.Native.Nat.{ℕ, _+_, _-_, _<_}
 use native.Mathlib.Nat.{add-zero}
 use native.Mathlib.Omega.{arith}
-use lib.ListN.{length, drop}
+use lib.ListN.{length}
 use Rattle.model.specs.Definitions.Table.{kindOf}
 use Rattle.model.specs.Definitions.Content.{Content, end, elem}
 use Rattle.model.specs.Definitions.Conformance.{Holds}
@@ -17,7 +17,7 @@ use Rattle.scanning.specs.Laws.{content-within}
 use Rattle.model.specs.Theorems.TemplateShapes.{HoleOfItem}
 use Rattle.model.specs.Theorems.Templates.{writes-again}
 use Rattle.filling.specs.Model.{item-symbols}
-use Rattle.filling.specs.Contents.{at-part, inside-part, ElementAt, ChildThere, FirstThere}
+use Rattle.filling.specs.Contents.{partFrom, at-part, inside-part, ElementAt, ChildThere, FirstThere}
 use Rattle.filling.specs.Asked.{Prepared, preparedSetting, ChildAsked, ListOf, itemBytes, own-row, item-row, RowAsked}
 use Rattle.filling.specs.RowNumbers.{first-chosen}
 use Rattle.filling.specs.Turns.{filled-same}
@@ -64,14 +64,14 @@ only-child X s t inner rest items ok = absurd ok
 
 -- the row of an item of the list, with which a part of the document begins
 pub item-asked : {source pool places : List ℕ} {r : ℕ} (l : ListOf source pool places r) {tr : List ℕ} {o : ℕ} {inner rest : Content}
-    → At tr o (elem (l .item) inner rest) → Holds (tableBy source) (kindOf (tableBy source) (l .item)) inner → {part : List ℕ} → part ≡ drop o tr
-    → RowAsked source pool places part r (oneItem l (l .item) inner)
-item-asked {source} {pool} {places} {r} l {tr} {o} {inner} {rest} there holds {part} is-part =
+    → At tr o (elem (l .item) inner rest) → Holds (tableBy source) (kindOf (tableBy source) (l .item)) inner
+    → RowAsked source pool places (partFrom tr o) r (oneItem l (l .item) inner)
+item-asked {source} {pool} {places} {r} l {tr} {o} {inner} {rest} there holds =
     record {
       prepared = l .prepared;
       type = l .type;
       inside = elem (l .item) inner rest;
-      there = at-part o is-part (subst (λ (n : ℕ). At tr n (elem (l .item) inner rest)) (sym (add-zero o)) there);
+      there = at-part o (subst (λ (n : ℕ). At tr n (elem (l .item) inner rest)) (sym (add-zero o)) there);
       is-type = l .is-type;
       row-of = item-row (l .is-list) refl holds (l .is-row);
       is = filled-same (λ h. writes X₁ (l .item) inner) (heldBy X₁ (l .type) (elem (l .item) inner rest)) (only-child X₁ (l .type) (l .item) inner rest)
@@ -101,8 +101,7 @@ child-within a found = omega (arith, content-within (found (child-sought a) .wit
 
 -- and its row is asked for
 pub child-row : {source pool places tr : List ℕ} {i : ℕ} {bs : List ℕ} (a : ChildAsked source pool places tr i bs) {o : ℕ} → ((c : ChildThere tr i) → ElementAt tr o (c .type) (c .inside))
-    → {part : List ℕ} → part ≡ drop (o + 2) tr → {r : ℕ} → ((c : FirstThere (tableBy source) tr o) → r ≡ sourceRow (tableBy source) (c .type) (firstIn (c .inside)))
-    → RowAsked source pool places part r bs
-child-row {source} {pool} {places} a {o} found {part} is-part {r} row-is =
-    subst (RowAsked source pool places part r) (sym (a .is))
-    (element-row (a .prepared) (a .is-type) (a .child .holds) (inside-part o is-part (found (child-sought a) .within)) (row-is (child-first a found)))
+    → {r : ℕ} → ((c : FirstThere (tableBy source) tr o) → r ≡ sourceRow (tableBy source) (c .type) (firstIn (c .inside))) → RowAsked source pool places (partFrom tr (o + 2)) r bs
+child-row {source} {pool} {places} {tr} a {o} found {r} row-is =
+    subst (RowAsked source pool places (partFrom tr (o + 2)) r) (sym (a .is))
+    (element-row (a .prepared) (a .is-type) (a .child .holds) (inside-part o (found (child-sought a) .within)) (row-is (child-first a found)))

@@ -3,14 +3,14 @@ use mathlib.Core.Path.{_≡_, refl, sym, ap, _∙_, subst}
 use mathlib.Core.List.{List, [], _++_}
 use Prim.Native.Nat.{ℕ, _+_, _<_}
 use native.Mathlib.Omega.{arith}
-use lib.ListN.{length, getD, drop}
+use lib.ListN.{length, getD}
 use Rattle.model.specs.Definitions.Table.{list, kindOf}
 use Rattle.model.specs.Definitions.Content.{Content, end, elem, bytes}
 use Rattle.model.specs.Definitions.Conformance.{Holds, no-item, one-item}
 use Rattle.loaded_table.specs.Loaded.{tableBy}
 use Rattle.scanning.specs.Scanning.{At}
 use Rattle.scanning.specs.Laws.{content-within, element-first, end-first}
-use Rattle.filling.specs.Contents.{element-at, element-next}
+use Rattle.filling.specs.Contents.{partFrom, element-at, element-next}
 use Rattle.filling.specs.Asked.{ItemsAsked, itemBytes, RowAsked}
 use Rattle.filling.specs.Elements.{oneItem, items-none, items-more, item-asked}
 
@@ -55,8 +55,8 @@ module _ {source pool places tr : List ℕ} {r : ℕ} {bs : List ℕ} {a : Items
   item-there one = element-at (one .there) .within
 
   -- its row is asked for
-  pub item-row-asked : {o : ℕ} {l : Remains a o} (one : OneItem l) {part : List ℕ} → part ≡ drop o tr → RowAsked source pool places part r (item-bytes one)
-  item-row-asked one is-part = item-asked (a .listed) (one .there) (one .holds) is-part
+  pub item-row-asked : {o : ℕ} {l : Remains a o} (one : OneItem l) → RowAsked source pool places (partFrom tr o) r (item-bytes one)
+  item-row-asked one = item-asked (a .listed) (one .there) (one .holds)
 
   -- what follows it
   abbrev pub remains-less : {o : ℕ} {l : Remains a o} (one : OneItem l) {close : ℕ} → ((k : Content) → At tr (o + 2) k → close ≡ o + 2 + length (bytes k)) → Remains a (close + 1)

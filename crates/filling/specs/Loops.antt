@@ -4,10 +4,11 @@ use mathlib.Core.Path.{_≡_, sym, ap, _∙_, subst}
 use mathlib.Core.List.{List, [], _∷_, _++_}
 use Prim.Native.Nat.{ℕ, _+_, _-_, _≤_, _<_}
 use native.Mathlib.Omega.{arith}
-use lib.ListN.{length, getD, drop}
+use lib.ListN.{length, getD}
 use Rattle.model.specs.Definitions.Content.{Content, bytes}
 use Rattle.rows.specs.Rows.{fromOf, toOf}
 use Rattle.scanning.specs.Scanning.{At}
+use Rattle.filling.specs.Contents.{partFrom}
 use Rattle.filling.specs.Asked.{SomeAsked, FillerAsked, PlainAsked, ChildAsked, ItemsAsked, itemBytes, RowAsked}
 use Rattle.filling.specs.FillerRows.{fillerLeft, filler-ends, filler-in, fillerSymbol, filler-inner, filler-more}
 use Rattle.filling.specs.Turns.{row-within, rowLeft, row-starts, row-ends, rowSymbol, row-more, row-plain, row-child, row-items}
@@ -176,21 +177,20 @@ module _ {source pool places tr : List ℕ} {r o : ℕ} {Known : List ℕ → Li
       pub item-passed : {close : ℕ} → ((k : Content) → At tr (o + 2) k → close ≡ o + 2 + length (bytes k)) → (o + 2 ≤ close) × (close + 1 < length tr)
       item-passed closes = (omega (arith, closes (one a .inside) (item-there (one a))), remains-within (remains-less (one a) closes))
 
-    module _ {part : List ℕ} (is-part : part ≡ drop o tr) where
-      -- its row is asked for
-      pub item-asks : {bs : List ℕ} (a : ItemsAsked source pool places tr r bs) {Room : List ℕ → Type 0} → Roomy (Known bs) Room → SomeAsked (RowAsked source pool places part r) Room
-      item-asks {bs} a s =
-          record {
-            bytes = item-bytes (one a);
-            asked = item-row-asked (one a) is-part;
-            room = s .room (g .lists bs a .known) (item-bytes (one a)) (itemBytes (a .listed) (one a .next)) (one a .more);
-          }
+    -- its row is asked for
+    pub item-asks : {bs : List ℕ} (a : ItemsAsked source pool places tr r bs) {Room : List ℕ → Type 0} → Roomy (Known bs) Room → SomeAsked (RowAsked source pool places (partFrom tr o) r) Room
+    item-asks {bs} a s =
+        record {
+          bytes = item-bytes (one a);
+          asked = item-row-asked (one a);
+          room = s .room (g .lists bs a .known) (item-bytes (one a)) (itemBytes (a .listed) (one a .next)) (one a .more);
+        }
 
-      module _ {After : List ℕ → List ℕ → Type 0} {Done : List ℕ → Type 0} (turn : Advance Known After Done) (w : (bs : List ℕ) → RowAsked source pool places part r bs → Done bs) where
-        -- and something is done with it
-        pub item-then : (bs : List ℕ) (a : ItemsAsked source pool places tr r bs) → After bs (itemBytes (a .listed) (one a .next))
-        item-then bs a =
-            turn .takes (g .lists bs a .known) (item-bytes (one a)) (itemBytes (a .listed) (one a .next)) (one a .more) (w (item-bytes (one a)) (item-row-asked (one a) is-part))
+    module _ {After : List ℕ → List ℕ → Type 0} {Done : List ℕ → Type 0} (turn : Advance Known After Done) (w : (bs : List ℕ) → RowAsked source pool places (partFrom tr o) r bs → Done bs) where
+      -- and something is done with it
+      pub item-then : (bs : List ℕ) (a : ItemsAsked source pool places tr r bs) → After bs (itemBytes (a .listed) (one a .next))
+      item-then bs a =
+          turn .takes (g .lists bs a .known) (item-bytes (one a)) (itemBytes (a .listed) (one a .next)) (one a .more) (w (item-bytes (one a)) (item-row-asked (one a)))
 
-        pub item-on : {close : ℕ} → ((k : Content) → At tr (o + 2) k → close ≡ o + 2 + length (bytes k)) → ListGoes source pool places tr r (close + 1) After
-        item-on closes = record { lists = λ bs a. record { remains = remains-less (one a) closes; known = item-then bs a } }
+      pub item-on : {close : ℕ} → ((k : Content) → At tr (o + 2) k → close ≡ o + 2 + length (bytes k)) → ListGoes source pool places tr r (close + 1) After
+      item-on closes = record { lists = λ bs a. record { remains = remains-less (one a) closes; known = item-then bs a } }

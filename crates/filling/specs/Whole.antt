@@ -3,7 +3,7 @@ use mathlib.Core.Path.{_≡_, refl, sym, ap, _∙_, subst}
 use mathlib.Core.List.{List, [], _∷_, _++_}
 use Prim.Native.Nat.{ℕ, _+_, _<_}
 use native.Mathlib.Omega.{arith}
-use lib.ListN.{length, getD, drop}
+use lib.ListN.{length, getD}
 use Rattle.model.specs.Definitions.Content.{Content, bytes, document}
 use Rattle.model.specs.Definitions.Image.{image}
 use Rattle.model.specs.Definitions.Templates.{writes, firstIn}
@@ -12,7 +12,7 @@ use Rattle.loaded_table.specs.Loaded.{tableBy}
 use Rattle.rows.specs.Rows.{sourceRow}
 use Rattle.scanning.specs.Scanning.{At}
 use Rattle.scanning.specs.Laws.{content-within, root-at}
-use Rattle.filling.specs.Contents.{FirstThere, inside-part}
+use Rattle.filling.specs.Contents.{partFrom, inside-part, FirstThere}
 use Rattle.filling.specs.Asked.{preparedSetting, ImageAsked, RowAsked}
 use Rattle.filling.specs.Elements.{element-row}
 
@@ -48,9 +48,8 @@ module _ {source pool places tr : List ℕ} {bs : List ℕ} (a : ImageAsked sour
   image-within = omega (arith, content-within root-there)
 
   -- its row is asked for
-  pub image-row : {part : List ℕ} → part ≡ drop 2 tr → {r : ℕ} → ((c : FirstThere (tableBy source) tr 0) → r ≡ sourceRow (tableBy source) (c .type) (firstIn (c .inside)))
-      → RowAsked source pool places part r held
-  image-row is-part row-is = element-row (a .prepared) (image-root .is-type) (a .holds) (inside-part 0 is-part root-there) (row-is image-root)
+  pub image-row : {r : ℕ} → ((c : FirstThere (tableBy source) tr 0) → r ≡ sourceRow (tableBy source) (c .type) (firstIn (c .inside))) → RowAsked source pool places (partFrom tr 2) r held
+  image-row row-is = element-row (a .prepared) (image-root .is-type) (a .holds) (inside-part 0 root-there) (row-is image-root)
 
   -- the bytes of the image
   pub image-bytes : bs ≡ (0x30 ∷ 0 ∷ []) ++ ((held ++ 0x32 ∷ []) ++ 0x3F ∷ [])

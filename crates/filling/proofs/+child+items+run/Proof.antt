@@ -4,10 +4,9 @@ use mathlib.Core.Logic.{⊎-elim}
 use Prim.Native.Nat.{_+_, _-_, _*_}
 use native.Mathlib.Omega.{arith}
 use lib.ListN.{length}
-use borrow.Rule.Slice.PartAt.{part-to-end}
 use Rattle.writing.specs.Laws.{writes-length}
 use Rattle.scanning.specs.Laws.{content-within}
-use Rattle.scanning.specs.Spanning.{spans-part}
+use Rattle.filling.specs.Contents.{spans-from}
 use Rattle.filling.specs.RowNumbers.{rank, rank-bounds, item-rank}
 use Rattle.filling.specs.Turns.{row-there, items-rank}
 use Rattle.filling.specs.Elements.{child-sought, child-first, child-within, child-row}
@@ -80,14 +79,12 @@ child-run-requires t c κs =
     let f = start .pre .1 .1 in
     let found = c .before .before .before .before .element-at .ensures in
     let row = c .before .before .before .row-of in
-    let o = c .before .before .before .before .element-at .result + 2 in
-    let is-part = part-to-end (start .args .tr .now) o in
-    (omega (arith, start .pre .0, child-within (f .asked) found, rank-bounds (row .result) .1, c .before .before .run-arg .given .2), (spans-part o (start .pre .1 .0) is-part (part-to-end (start .args .sp .now) o), record { bytes = f .bytes; asked = child-row (f .asked) found is-part (row .ensures); room = f .room }))
+    (omega (arith, start .pre .0, child-within (f .asked) found, rank-bounds (row .result) .1, c .before .before .run-arg .given .2), (spans-from _ (start .pre .1 .0), record { bytes = f .bytes; asked = child-row (f .asked) found (row .ensures); room = f .room }))
 
 child-returns : (t : ℕ) → child-lts.Need-returns (child-calls t) (child-at t) child.Post
 child-returns t c =
     let found = c .before .before .before .before .before .before .before .element-at in
-    λ bs a. c .before .before .run .ensures bs (child-row a (found .ensures) (part-to-end (c .before .before .before .before .before .before .before .before .before .before .before .before .before .args .tr .now) (found .result + 2)) (c .before .before .before .before .before .before .row-of .ensures))
+    λ bs a. c .before .before .run .ensures bs (child-row a (found .ensures) (c .before .before .before .before .before .before .row-of .ensures))
 
 abbrev items-Inv-loop : items-lts.InvT-loop
 items-Inv-loop source pool places tr sp r out₀ at o₀ next₀ out o next = ListGoes source pool places tr r o (ToWrite out₀ at out next)
@@ -100,13 +97,12 @@ items-run-requires t c κs =
     let start = c .before .before .before .before .before .before .before .before .before .before .before in
     let f = start .pre .1 .1 in
     let l = c .before .before .before .before .before .loop in
-    let is-part = part-to-end (start .args .tr .now) (l .o) in
-    (omega (arith, start .pre .0, item-rank (f .asked .listed .type) (start .args .r) (f .asked .listed .is-row), c .before .before .run-arg .given .2), (spans-part (l .o) (start .pre .1 .0) is-part (part-to-end (start .args .sp .now) (l .o)), item-asks (l .inv) (c .before .before .before .if1 .taken) is-part (f .asked) (write-room (f .room))))
+    (omega (arith, start .pre .0, item-rank (f .asked .listed .type) (start .args .r) (f .asked .listed .is-row), c .before .before .run-arg .given .2), (spans-from _ (start .pre .1 .0), item-asks (l .inv) (c .before .before .before .if1 .taken) (f .asked) (write-room (f .room))))
 
 items-loop-again : (t : ℕ) → items-lts.Need-loop-again (items-calls t) (items-at t) items.Post items-Inv-loop items-μ-loop
 items-loop-again t c =
     let l = c .before .before .before .before .before .before .before .before .before .loop in
-    item-on (l .inv) (c .before .before .before .before .before .before .before .if1 .taken) (part-to-end (c .before .before .before .before .before .before .before .before .before .before .before .before .before .before .before .args .tr .now) (l .o)) write-turn (c .before .before .before .run .ensures) (c .close-of .ensures)
+    item-on (l .inv) (c .before .before .before .before .before .before .before .if1 .taken) write-turn (c .before .before .before .run .ensures) (c .close-of .ensures)
 
 items-returns : (t : ℕ) → items-lts.Need-returns (items-calls t) (items-at t) items.Post items-Inv-loop items-μ-loop
 items-returns t c bs a = all-written (list-last (c .before .before .loop .inv) (c .if1 .left) bs a)

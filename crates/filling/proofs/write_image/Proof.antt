@@ -4,10 +4,9 @@ use mathlib.Core.List.{List, [], _∷_, _++_}
 use Prim.Native.Nat.{ℕ, _+_, _≤_}
 use native.Mathlib.Omega.{arith}
 use lib.ListN.{length, length-append}
-use borrow.Rule.Slice.PartAt.{part-to-end}
-use Rattle.scanning.specs.Spanning.{spans-part}
 use Rattle.writing.specs.Writing.{Writes}
 use Rattle.writing.specs.Laws.{writes-then, writes-length}
+use Rattle.filling.specs.Contents.{spans-from}
 use Rattle.filling.specs.Asked.{Fits, ImageAsked}
 use Rattle.filling.specs.Whole.{held, image-root, image-within, image-row, image-bytes}
 use Rattle.filling.proofs.write_image.Statement.{statement}
@@ -29,12 +28,11 @@ run-requires : tie.Need-run-requires
 run-requires c κs =
     let opened = c .before .before .before .before .before in
     let start = opened .before .before .before .before .before .before .before .before in
-    let f = start .pre .1 in
-    let is-part = part-to-end (start .args .tr .now) 2 in (
-      spans-part 2 (start .pre .0) is-part (part-to-end (start .args .sp .now) 2),
+    let f = start .pre .1 in (
+      spans-from _ (start .pre .0),
       record {
         bytes = held (f .asked);
-        asked = image-row (f .asked) is-part (opened .before .before .row-of .ensures);
+        asked = image-row (f .asked) (opened .before .before .row-of .ensures);
         room = omega (arith, whole-room f, opened .put-open .ensures .after, writes-length (opened .put-open .ensures));
       },
     )
@@ -44,7 +42,7 @@ put-close-requires c κs =
     let opened = c .before .before .before .before .before .before .before .before .before in
     let start = opened .before .before .before .before .before .before .before .before in
     let f = start .pre .1 in
-    let inner = c .before .before .before .run .ensures _ (image-row (f .asked) (part-to-end (start .args .tr .now) 2) (opened .before .before .row-of .ensures)) in
+    let inner = c .before .before .before .run .ensures _ (image-row (f .asked) (opened .before .before .row-of .ensures)) in
     omega (arith, inner-room f (opened .put-open .ensures) inner)
 
 put-end-requires : tie.Need-put-end-requires
@@ -52,7 +50,7 @@ put-end-requires c κs =
     let opened = c .before .before .before .before .before .before .before .before .before .before .before .before .before in
     let start = opened .before .before .before .before .before .before .before .before in
     let f = start .pre .1 in
-    let inner = c .before .before .before .before .before .before .before .run .ensures _ (image-row (f .asked) (part-to-end (start .args .tr .now) 2) (opened .before .before .row-of .ensures)) in
+    let inner = c .before .before .before .before .before .before .before .run .ensures _ (image-row (f .asked) (opened .before .before .row-of .ensures)) in
     let closed = c .before .before .before .put-close .ensures in
     omega (arith, inner-room f (opened .put-open .ensures) inner, closed .after, writes-length closed)
 
@@ -60,7 +58,7 @@ returns : tie.Need-returns
 returns c bs a =
     let earlier = c .before .before .before .before .before .before in
     let opened = earlier .before .before .before .before .before .before .before .before .before .before in
-    let inner = earlier .before .before .before .before .run .ensures _ (image-row a (part-to-end (opened .before .before .before .before .before .before .before .before .args .tr .now) 2) (opened .before .before .row-of .ensures)) in
+    let inner = earlier .before .before .before .before .run .ensures _ (image-row a (opened .before .before .row-of .ensures)) in
     rw (image-bytes a) (writes-then (opened .put-open .ensures) (writes-then (writes-then inner (earlier .put-close .ensures)) (c .before .before .put-end .ensures)))
 
 pub write-image-spec : {M : Type 1} → statement M

@@ -5,9 +5,8 @@ use mathlib.Core.List.{List}
 use Prim.Native.Nat.{_+_, _-_, _*_}
 use native.Mathlib.Omega.{arith}
 use lib.ListN.{length}
-use borrow.Rule.Slice.PartAt.{part-to-end}
 use Rattle.scanning.specs.Laws.{content-within}
-use Rattle.scanning.specs.Spanning.{spans-part}
+use Rattle.filling.specs.Contents.{spans-from}
 use Rattle.filling.specs.RowNumbers.{rank, rank-bounds, item-rank}
 use Rattle.filling.specs.Turns.{row-there, items-rank}
 use Rattle.filling.specs.Elements.{child-sought, child-first, child-within, child-row}
@@ -81,14 +80,12 @@ child-run-requires t c κs =
     let f = start .pre .1 .1 in
     let found = c .before .before .before .element-at .ensures in
     let row = c .before .before .row-of in
-    let o = c .before .before .before .element-at .result + 2 in
-    let is-part = part-to-end (start .args .tr .now) o in
-    (omega (arith, start .pre .0, child-within (f .asked) found, rank-bounds (row .result) .1, c .before .run-arg .given .2), (spans-part o (start .pre .1 .0) is-part (part-to-end (start .args .sp .now) o), record { bytes = f .bytes; asked = child-row (f .asked) found is-part (row .ensures); room = f .room }))
+    (omega (arith, start .pre .0, child-within (f .asked) found, rank-bounds (row .result) .1, c .before .run-arg .given .2), (spans-from _ (start .pre .1 .0), record { bytes = f .bytes; asked = child-row (f .asked) found (row .ensures); room = f .room }))
 
 child-returns : (t : ℕ) → child-lts.Need-returns (child-calls t) (child-at t) child.Post
 child-returns t c =
     let found = c .before .before .before .before .element-at in
-    λ bs a. c .run .ensures bs (child-row a (found .ensures) (part-to-end (c .before .before .before .before .before .before .before .before .before .before .args .tr .now) (found .result + 2)) (c .before .before .before .row-of .ensures))
+    λ bs a. c .run .ensures bs (child-row a (found .ensures) (c .before .before .before .row-of .ensures))
 
 abbrev items-Inv-loop : items-lts.InvT-loop
 items-Inv-loop source pool places tr sp r doc at o₀ next₀ o next = ListGoes source pool places tr r o (ToCompare doc at next)
@@ -101,18 +98,17 @@ items-run-requires t c κs =
     let start = c .before .before .before .before .before .before .before .before .before .before in
     let a = start .pre .1 .1 .asked in
     let l = c .before .before .before .before .loop in
-    let is-part = part-to-end (start .args .tr .now) (l .o) in
-    (omega (arith, start .pre .0, item-rank (a .listed .type) (start .args .r) (a .listed .is-row), c .before .run-arg .given .2), (spans-part (l .o) (start .pre .1 .0) is-part (part-to-end (start .args .sp .now) (l .o)), item-asks (l .inv) (c .before .before .if1 .taken) is-part a compare-room))
+    (omega (arith, start .pre .0, item-rank (a .listed .type) (start .args .r) (a .listed .is-row), c .before .run-arg .given .2), (spans-from _ (start .pre .1 .0), item-asks (l .inv) (c .before .before .if1 .taken) a compare-room))
 
 items-returns : (t : ℕ) → items-lts.Need-returns (items-calls t) (items-at t) items.Post items-Inv-loop items-μ-loop
 items-returns t c =
     let l = c .before .before .before .before .before .before .before .loop in
-    item-then (l .inv) (c .before .before .before .before .before .if1 .taken) (part-to-end (c .before .before .before .before .before .before .before .before .before .before .before .before .before .args .tr .now) (l .o)) (compare-stops (stays _ (c .if2 .taken))) (c .before .before .run .ensures)
+    item-then (l .inv) (c .before .before .before .before .before .if1 .taken) (compare-stops (stays _ (c .if2 .taken))) (c .before .before .run .ensures)
 
 items-loop-again : (t : ℕ) → items-lts.Need-loop-again (items-calls t) (items-at t) items.Post items-Inv-loop items-μ-loop
 items-loop-again t c =
     let l = c .before .before .before .before .before .before .before .before .loop in
-    item-on (l .inv) (c .before .before .before .before .before .before .if1 .taken) (part-to-end (c .before .before .before .before .before .before .before .before .before .before .before .before .before .before .args .tr .now) (l .o)) (compare-turn (goes _ (c .before .if2 .left))) (c .before .before .before .run .ensures) (c .close-of .ensures)
+    item-on (l .inv) (c .before .before .before .before .before .before .if1 .taken) (compare-turn (goes _ (c .before .if2 .left))) (c .before .before .before .run .ensures) (c .close-of .ensures)
 
 abbrev run-Inv-loop : run-lts.InvT-loop
 run-Inv-loop source pool places tr sp r doc at to i₀ next₀ i next = RowGoes source pool places tr r to i (ToCompare doc at next)

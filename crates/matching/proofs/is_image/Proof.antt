@@ -1,7 +1,6 @@
 -- `is_image` meets its contract: the root's row is compared between the commands of the root and the end of the document.
 use native.Mathlib.Omega.{arith}
-use borrow.Rule.Slice.PartAt.{part-to-end}
-use Rattle.scanning.specs.Spanning.{spans-part}
+use Rattle.filling.specs.Contents.{spans-from}
 use Rattle.filling.specs.Whole.{held, image-root, image-within, image-row}
 use Rattle.matching.specs.Same.{stays, goes}
 use Rattle.matching.proofs.Whole.{image-unopened, image-unlike, image-ends}
@@ -12,16 +11,15 @@ run-requires : tie.Need-run-requires
 run-requires c κs =
     let opened = c .before .before .before .before in
     let start = opened .before .before .before .before .before .before .before in
-    let a = start .pre .1 .1 in
-    let is-part = part-to-end (start .args .tr .now) 2 in (
-      spans-part 2 (start .pre .0) is-part (part-to-end (start .args .sp .now) 2),
-      record { bytes = held a; asked = image-row a is-part (opened .before .row-of .ensures); room = opened .same-open .ensures .within (goes _ (c .before .before .if1 .left)) },
+    let a = start .pre .1 .1 in (
+      spans-from _ (start .pre .0),
+      record { bytes = held a; asked = image-row a (opened .before .row-of .ensures); room = opened .same-open .ensures .within (goes _ (c .before .before .if1 .left)) },
     )
 
 returns-2 : tie.Need-returns-2
 returns-2 c bs a =
     let opened = c .before .before .before .before .before .before .before in
-    let inner = c .before .before .run .ensures (held a) (image-row a (part-to-end (opened .before .before .before .before .before .before .before .args .tr .now) 2) (opened .before .row-of .ensures)) in
+    let inner = c .before .before .run .ensures (held a) (image-row a (opened .before .row-of .ensures)) in
     image-unlike a (opened .same-open .ensures) (goes _ (c .before .before .before .before .before .if1 .left)) inner (stays _ (c .if2 .taken))
 
 ends-requires : tie.Need-ends-requires
@@ -29,12 +27,12 @@ ends-requires c κs =
     let opened = c .before .before .before .before .before .before .before in
     let start = opened .before .before .before .before .before .before .before in
     let a = start .pre .1 .1 in
-    c .before .before .run .ensures (held a) (image-row a (part-to-end (start .args .tr .now) 2) (opened .before .row-of .ensures)) .within (goes _ (c .if2 .left))
+    c .before .before .run .ensures (held a) (image-row a (opened .before .row-of .ensures)) .within (goes _ (c .if2 .left))
 
 returns-3 : tie.Need-returns-3
 returns-3 c bs a =
     let opened = c .before .before .before .before .before .before .before .before in
-    let inner = c .before .before .before .run .ensures (held a) (image-row a (part-to-end (opened .before .before .before .before .before .before .before .args .tr .now) 2) (opened .before .row-of .ensures)) in
+    let inner = c .before .before .before .run .ensures (held a) (image-row a (opened .before .row-of .ensures)) in
     image-ends a (opened .same-open .ensures) (goes _ (c .before .before .before .before .before .before .if1 .left)) inner (goes _ (c .before .if2 .left)) (c .ends .ensures)
 
 pub is-image-spec : {M : Type 1} → statement M
