@@ -11,6 +11,7 @@ use Rattle.model.specs.Definitions.Table.{Kind, text, sequence, choice, Table, 
 use Rattle.model.specs.Definitions.Content.{Content, end, char, elem, bytes}
 use Rattle.model.specs.Definitions.Conformance.{Holds, no-character, one-character, nothing, no-member, one-member, chosen, no-item, one-item}
 use Rattle.model.specs.Definitions.Templates.{firstIn, atChild}
+use Rattle.rows.specs.Rows.{sourceRow}
 use Rattle.scanning.specs.Scanning.{At}
 use Rattle.scanning.specs.Spanning.{Spans, spans-part}
 use Rattle.scanning.specs.Laws.{element-first, Opens, opens, opens-next}
@@ -141,6 +142,10 @@ pub record ChildThere (tr : List ℕ) (i : ℕ) : Type 0 where
   pub rest : Content
   pub is : afterFirst i around ≡ elem type inside rest
 
+-- it opens at offset o
+abbrev pub FoundAt : List ℕ → ℕ → ℕ → Type 0
+FoundAt tr i o = (c : ChildThere tr i) → ElementAt tr o (c .type) (c .inside)
+
 -- conforming content at an offset
 pub record Conforms (tr : List ℕ) (o : ℕ) : Type 0 where
   pub inside : Content
@@ -160,3 +165,7 @@ pub record FirstThere (S : Table) (tr : List ℕ) (o : ℕ) : Type 0 where
 -- what the element holds
 abbrev pub first-conforms : {S : Table} {tr : List ℕ} {o : ℕ} → FirstThere S tr o → Conforms tr (o + 2)
 first-conforms {S} f = record { inside = f .inside; there = f .element .within; table = S; kind = kindOf S (f .type); holds = f .holds }
+
+-- r is its row
+abbrev pub RowIs : Table → List ℕ → ℕ → ℕ → Type 0
+RowIs S tr o r = (f : FirstThere S tr o) → r ≡ sourceRow S (f .type) (firstIn (f .inside))

@@ -17,7 +17,7 @@ use Rattle.scanning.specs.Laws.{content-within}
 use Rattle.model.specs.Theorems.TemplateShapes.{HoleOfItem}
 use Rattle.model.specs.Theorems.Templates.{writes-again}
 use Rattle.filling.specs.Model.{item-symbols}
-use Rattle.filling.specs.Contents.{partFrom, at-part, inside-part, ElementAt, ChildThere, FirstThere}
+use Rattle.filling.specs.Contents.{partFrom, at-part, inside-part, ChildThere, FoundAt, FirstThere, RowIs}
 use Rattle.filling.specs.Asked.{Prepared, preparedSetting, ChildAsked, ListOf, itemBytes, own-row, item-row, RowAsked}
 use Rattle.filling.specs.RowNumbers.{first-chosen}
 use Rattle.filling.specs.Turns.{filled-same}
@@ -90,18 +90,16 @@ abbrev pub child-sought : {source pool places tr : List ℕ} {i : ℕ} {bs : Lis
 child-sought a = record { around = a .around; there = a .there; type = a .type; inside = a .inside; rest = a .child .rest; is = a .child .is }
 
 -- the child that was found, for `row_of`
-abbrev pub child-first : {source pool places tr : List ℕ} {i : ℕ} {bs : List ℕ} (a : ChildAsked source pool places tr i bs) {o : ℕ} → ((c : ChildThere tr i) → ElementAt tr o (c .type) (c .inside))
-    → FirstThere (tableBy source) tr o
+abbrev pub child-first : {source pool places tr : List ℕ} {i : ℕ} {bs : List ℕ} (a : ChildAsked source pool places tr i bs) {o : ℕ} → FoundAt tr i o → FirstThere (tableBy source) tr o
 child-first a found = record { type = a .type; inside = a .inside; element = found (child-sought a); is-type = a .is-type; holds = a .child .holds }
 
 -- what it holds begins within the document
-pub child-within : {source pool places tr : List ℕ} {i : ℕ} {bs : List ℕ} (a : ChildAsked source pool places tr i bs) {o : ℕ} → ((c : ChildThere tr i) → ElementAt tr o (c .type) (c .inside))
-    → o + 2 < length tr
+pub child-within : {source pool places tr : List ℕ} {i : ℕ} {bs : List ℕ} (a : ChildAsked source pool places tr i bs) {o : ℕ} → FoundAt tr i o → o + 2 < length tr
 child-within a found = omega (arith, content-within (found (child-sought a) .within))
 
 -- and its row is asked for
-pub child-row : {source pool places tr : List ℕ} {i : ℕ} {bs : List ℕ} (a : ChildAsked source pool places tr i bs) {o : ℕ} → ((c : ChildThere tr i) → ElementAt tr o (c .type) (c .inside))
-    → {r : ℕ} → ((c : FirstThere (tableBy source) tr o) → r ≡ sourceRow (tableBy source) (c .type) (firstIn (c .inside))) → RowAsked source pool places (partFrom tr (o + 2)) r bs
+pub child-row : {source pool places tr : List ℕ} {i : ℕ} {bs : List ℕ} (a : ChildAsked source pool places tr i bs) {o : ℕ} → FoundAt tr i o → {r : ℕ}
+    → RowIs (tableBy source) tr o r → RowAsked source pool places (partFrom tr (o + 2)) r bs
 child-row {source} {pool} {places} {tr} a {o} found {r} row-is =
     subst (RowAsked source pool places (partFrom tr (o + 2)) r) (sym (a .is))
     (element-row (a .prepared) (a .is-type) (a .child .holds) (inside-part o (found (child-sought a) .within)) (row-is (child-first a found)))

@@ -6,13 +6,12 @@ use native.Mathlib.Omega.{arith}
 use lib.ListN.{length, getD}
 use Rattle.model.specs.Definitions.Content.{Content, bytes, document}
 use Rattle.model.specs.Definitions.Image.{image}
-use Rattle.model.specs.Definitions.Templates.{writes, firstIn}
+use Rattle.model.specs.Definitions.Templates.{writes}
 use Rattle.model.specs.Theorems.Templates.{write-image}
 use Rattle.loaded_table.specs.Loaded.{tableBy}
-use Rattle.rows.specs.Rows.{sourceRow}
 use Rattle.scanning.specs.Scanning.{At}
 use Rattle.scanning.specs.Laws.{content-within, root-at}
-use Rattle.filling.specs.Contents.{partFrom, inside-part, FirstThere}
+use Rattle.filling.specs.Contents.{partFrom, inside-part, FirstThere, RowIs}
 use Rattle.filling.specs.Asked.{preparedSetting, ImageAsked, RowAsked}
 use Rattle.filling.specs.Elements.{element-row}
 
@@ -48,7 +47,7 @@ module _ {source pool places tr : List ℕ} {bs : List ℕ} (a : ImageAsked sour
   image-within = omega (arith, content-within root-there)
 
   -- its row is asked for
-  pub image-row : {r : ℕ} → ((c : FirstThere (tableBy source) tr 0) → r ≡ sourceRow (tableBy source) (c .type) (firstIn (c .inside))) → RowAsked source pool places (partFrom tr 2) r held
+  pub image-row : {r : ℕ} → RowIs (tableBy source) tr 0 r → RowAsked source pool places (partFrom tr 2) r held
   image-row row-is = element-row (a .prepared) (image-root .is-type) (a .holds) (inside-part 0 root-there) (row-is image-root)
 
   -- the bytes of the image

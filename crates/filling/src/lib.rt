@@ -5,10 +5,9 @@ ghost use Prim.Native.Nat.{ℕ, _-_, _≤_, _<_};
 ghost use lib.ListN.{length};
 ghost use Rattle.model.specs.Definitions.Templates.{firstIn};
 ghost use Rattle.loaded_table.specs.Loaded.{Bounded, tableBy};
-ghost use Rattle.rows.specs.Rows.{sourceRow};
 ghost use Rattle.scanning.specs.Spanning.{Spans};
 ghost use Rattle.writing.specs.Writing.{Writes};
-ghost use Rattle.filling.specs.Contents.{ElementAt, ChildThere, Conforms, FirstThere};
+ghost use Rattle.filling.specs.Contents.{ChildThere, FoundAt, Conforms, FirstThere, RowIs};
 ghost use Rattle.filling.specs.Asked.{Fits, FillerAsked, PlainAsked, ChildAsked, ItemsAsked, RowAsked, ImageAsked};
 use codes::MAX_MEMBERS;
 use codes::OPENS;
@@ -34,7 +33,7 @@ pub fn wide(x: u8) -> usize
 pub fn element_at<'a>(tr: &'a [u8], sp: &'a [u16], i: usize) -> usize
     requires spans { ⌜ Spans (now tr) (now sp) ⌝ }
     requires content { ⌜ ChildThere (now tr) i ⌝ }
-    ensures { λ r. ⌜ ((c : ChildThere (now (tr .entry)) i) → ElementAt (now (tr .entry)) r (c .type) (c .inside)) ⌝ }
+    ensures { λ r. ⌜ FoundAt (now (tr .entry)) i r ⌝ }
 {
     let mut o: usize = 0;
     let mut left = i;
@@ -62,7 +61,7 @@ fn first_type(tr: &[u8], o: usize) -> usize
 pub fn row_of<'a>(source: &'a [u16; TABLE], tr: &'a [u8], o: usize) -> usize
     requires bounded { ⌜ Bounded (now source) ⌝ }
     requires element { ⌜ FirstThere (tableBy (now source)) (now tr) o ⌝ }
-    ensures { λ r. ⌜ ((c : FirstThere (tableBy (now (source .entry))) (now (tr .entry)) o) → r ≡ sourceRow (tableBy (now (source .entry))) (c .type) (firstIn (c .inside))) ⌝ }
+    ensures { λ r. ⌜ RowIs (tableBy (now (source .entry))) (now (tr .entry)) o r ⌝ }
 {
     let second = o + 1;
     let s = wide(tr[second]);
