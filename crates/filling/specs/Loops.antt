@@ -14,8 +14,12 @@ use Rattle.filling.specs.FillerRows.{fillerLeft, filler-ends, filler-in,
 use Rattle.filling.specs.Turns.{row-within, rowLeft, row-starts, row-ends, rowSymbol, row-more, row-plain, row-child, row-items}
 use Rattle.filling.specs.Items.{Remains, remains-all, remains-within, remains-none, OneItem, one-item-left, item-bytes, item-there, item-row-asked, remains-less}
 
+-- what a loop knows of the whole and of the rest
+abbrev pub Knowing : Type 1
+Knowing = List ℕ → List ℕ → Type 0
+
 -- What is known before a turn and what was done with the bytes that it took give what is known after it.
-pub record Advance (Before After : List ℕ → List ℕ → Type 0) (Done : List ℕ → Type 0) : Type 0 where
+pub record Advance (Before After : Knowing) (Done : List ℕ → Type 0) : Type 0 where
   pub takes : {whole rest : List ℕ} → Before whole rest → (bs more : List ℕ) → rest ≡ bs ++ more → Done bs → After whole more
 
 -- What is known before a turn gives room for the bytes that it takes.
@@ -25,16 +29,17 @@ pub record Roomy (Before Room : List ℕ → Type 0) : Type 0 where
 -- ---- a filler element
 
 -- the loop over the row of a filler element has come to symbol i
-pub record FillerGoes (pool places : List ℕ) (t to i : ℕ) (Known : List ℕ → List ℕ → Type 0) : Type 0 where
+pub record FillerGoes (pool places : List ℕ) (t to i : ℕ) (Known : Knowing) : Type 0 where
   pub ends : to ≡ toOf places t
   pub low : fromOf places t ≤ i
   pub known : (bs : List ℕ) (a : FillerAsked pool places t bs) → Known (fillerLeft a (fromOf places t)) (fillerLeft a i)
 
-pub filler-goes : {pool places : List ℕ} {t to i : ℕ} {Known : List ℕ → List ℕ → Type 0} → to ≡ toOf places t → i ≡ fromOf places t → ((bs : List ℕ) → Known bs bs)
+-- at first all of it is left
+pub filler-goes : {pool places : List ℕ} {t to i : ℕ} {Known : Knowing} → to ≡ toOf places t → i ≡ fromOf places t → ((bs : List ℕ) → Known bs bs)
     → FillerGoes pool places t to i Known
 filler-goes ends starts all = record { ends = ends; low = omega arith; known = λ bs a. rw starts (all _) }
 
-module _ {pool places : List ℕ} {t to i : ℕ} {Known : List ℕ → List ℕ → Type 0} (g : FillerGoes pool places t to i Known) where
+module _ {pool places : List ℕ} {t to i : ℕ} {Known : Knowing} (g : FillerGoes pool places t to i Known) where
   -- the row is at its end
   pub filler-last : to ≤ i → (bs : List ℕ) (a : FillerAsked pool places t bs) → Known (fillerLeft a (fromOf places t)) (0x32 ∷ [])
   filler-last all bs a = subst (Known (fillerLeft a (fromOf places t))) (filler-ends a i (omega (arith, g .ends))) (g .known bs a)
@@ -59,8 +64,8 @@ module _ {pool places : List ℕ} {t to i : ℕ} {Known : List ℕ → List ℕ 
             room = s .room (g .known bs a) (fillerSymbol a i (g .low) less) (fillerLeft a (i + 1)) (filler-more a i (g .low) less);
           }
 
-    module _ {After : List ℕ → List ℕ → Type 0} {Done : List ℕ → Type 0} (turn : Advance Known After Done) (w : (bs : List ℕ) → FillerAsked pool places (getD pool i 0 - 64) bs → Done bs) where
-      -- and something is done with it
+    module _ {After : Knowing} {Done : List ℕ → Type 0} (turn : Advance Known After Done) (w : (bs : List ℕ) → FillerAsked pool places (getD pool i 0 - 64) bs → Done bs) where
+      -- something is done with it, and the loop goes on, or ends
       pub filler-then : (bs : List ℕ) (a : FillerAsked pool places t bs) → After (fillerLeft a (fromOf places t)) (fillerLeft a (i + 1))
       filler-then bs a =
           turn .takes (g .known bs a) (fillerSymbol a i (g .low) less) (fillerLeft a (i + 1)) (filler-more a i (g .low) less)
@@ -72,17 +77,18 @@ module _ {pool places : List ℕ} {t to i : ℕ} {Known : List ℕ → List ℕ 
 -- ---- a row
 
 -- the loop over row r has come to symbol i
-pub record RowGoes (source pool places tr : List ℕ) (r to i : ℕ) (Known : List ℕ → List ℕ → Type 0) : Type 0 where
+pub record RowGoes (source pool places tr : List ℕ) (r to i : ℕ) (Known : Knowing) : Type 0 where
   pub ends : to ≡ toOf places r
   pub low : fromOf places r ≤ i
   pub known : (bs : List ℕ) (a : RowAsked source pool places tr r bs) → Known bs (rowLeft a i)
 
-pub row-goes : {source pool places tr : List ℕ} {r to i : ℕ} {Known : List ℕ → List ℕ → Type 0} → to ≡ toOf places r → i ≡ fromOf places r → ((bs : List ℕ) → Known bs bs)
+-- at first all of it is left
+pub row-goes : {source pool places tr : List ℕ} {r to i : ℕ} {Known : Knowing} → to ≡ toOf places r → i ≡ fromOf places r → ((bs : List ℕ) → Known bs bs)
     → RowGoes source pool places tr r to i Known
 row-goes {Known = Known} ends starts all =
     record { ends = ends; low = omega arith; known = λ bs a. subst (Known bs) (row-starts a ∙ ap (rowLeft a) (sym starts)) (all bs) }
 
-module _ {source pool places tr : List ℕ} {r to i : ℕ} {Known : List ℕ → List ℕ → Type 0} (g : RowGoes source pool places tr r to i Known) where
+module _ {source pool places tr : List ℕ} {r to i : ℕ} {Known : Knowing} (g : RowGoes source pool places tr r to i Known) where
   -- the row is at its end
   pub row-last : to ≤ i → (bs : List ℕ) → RowAsked source pool places tr r bs → Known bs []
   row-last all bs a = subst (Known bs) (row-ends a i (omega (arith, g .ends))) (g .known bs a)
@@ -97,8 +103,8 @@ module _ {source pool places tr : List ℕ} {r to i : ℕ} {Known : List ℕ →
     abbrev x : ℕ
     x = getD pool i 0
 
-    child-there : {n : ℕ} → (n ≡ x - 128) × (128 ≤ x) × (x < 144) → {bs : List ℕ} (a : RowAsked source pool places tr r bs) → ChildAsked source pool places tr n (symbol a)
-    child-there w a = subst (λ (m : ℕ). ChildAsked source pool places tr m (symbol a)) (sym (w .0)) (row-child a i (g .low) row-less (w .1) (w .2))
+    symbol-child : {n : ℕ} → (n ≡ x - 128) × (128 ≤ x) × (x < 144) → {bs : List ℕ} (a : RowAsked source pool places tr r bs) → ChildAsked source pool places tr n (symbol a)
+    symbol-child w a = subst (λ (m : ℕ). ChildAsked source pool places tr m (symbol a)) (sym (w .0)) (row-child a i (g .low) row-less (w .1) (w .2))
 
     module _ {bs : List ℕ} (a : RowAsked source pool places tr r bs) where
       pub row-symbol-there : i < length pool
@@ -113,7 +119,7 @@ module _ {source pool places tr : List ℕ} {r to i : ℕ} {Known : List ℕ →
         asks-items e = record { bytes = symbol a; asked = row-items a i (g .low) row-less e; room = symbol-room }
 
         pub asks-child : {n : ℕ} → (n ≡ x - 128) × (128 ≤ x) × (x < 144) → SomeAsked (ChildAsked source pool places tr n) Room
-        asks-child w = record { bytes = symbol a; asked = child-there w a; room = symbol-room }
+        asks-child w = record { bytes = symbol a; asked = symbol-child w a; room = symbol-room }
 
         pub asks-plain : (128 ≤ x → x < 144 → ⊥) → (x ≡ 145 → ⊥) → SomeAsked (PlainAsked pool places tr x) Room
         asks-plain no-child no-items = record { bytes = symbol a; asked = row-plain a i (g .low) row-less no-child no-items; room = symbol-room }
@@ -129,13 +135,14 @@ module _ {source pool places tr : List ℕ} {r to i : ℕ} {Known : List ℕ →
 
       pub child-done : {n : ℕ} → (n ≡ x - 128) × (128 ≤ x) × (x < 144) → ((bs : List ℕ) → ChildAsked source pool places tr n bs → Done bs) → SymbolDone Done
       unfolding SymbolDone
-      child-done e w bs a = w (symbol a) (child-there e a)
+      child-done e w bs a = w (symbol a) (symbol-child e a)
 
       pub plain-done : (128 ≤ x → x < 144 → ⊥) → (x ≡ 145 → ⊥) → ((bs : List ℕ) → PlainAsked pool places tr x bs → Done bs) → SymbolDone Done
       unfolding SymbolDone
       plain-done no-child no-items w bs a = w (symbol a) (row-plain a i (g .low) row-less no-child no-items)
 
-      module _ {After : List ℕ → List ℕ → Type 0} (turn : Advance Known After Done) (w : SymbolDone Done) where
+      module _ {After : Knowing} (turn : Advance Known After Done) (w : SymbolDone Done) where
+        -- and the loop goes on, or ends
         pub row-then : (bs : List ℕ) (a : RowAsked source pool places tr r bs) → After bs (rowLeft a (i + 1))
         unfolding SymbolDone
         row-then bs a = turn .takes (g .known bs a) (symbol a) (rowLeft a (i + 1)) (row-more a i (g .low) row-less) (w bs a)
@@ -146,17 +153,18 @@ module _ {source pool places tr : List ℕ} {r to i : ℕ} {Known : List ℕ →
 -- ---- the items of a list
 
 -- the loop over the items has come to offset o
-pub record ListLeft {source pool places tr : List ℕ} {r : ℕ} {bs : List ℕ} (a : ItemsAsked source pool places tr r bs) (o : ℕ) (Known : List ℕ → List ℕ → Type 0) : Type 0 where
+pub record ListLeft {source pool places tr : List ℕ} {r : ℕ} {bs : List ℕ} (a : ItemsAsked source pool places tr r bs) (o : ℕ) (Known : Knowing) : Type 0 where
   pub remains : Remains a o
   pub known : Known bs (itemBytes (a .listed) (remains .rest))
 
-pub record ListGoes (source pool places tr : List ℕ) (r o : ℕ) (Known : List ℕ → List ℕ → Type 0) : Type 0 where
+pub record ListGoes (source pool places tr : List ℕ) (r o : ℕ) (Known : Knowing) : Type 0 where
   pub lists : (bs : List ℕ) (a : ItemsAsked source pool places tr r bs) → ListLeft a o Known
 
-pub list-goes : {source pool places tr : List ℕ} {r : ℕ} {Known : List ℕ → List ℕ → Type 0} → ((bs : List ℕ) → Known bs bs) → ListGoes source pool places tr r 0 Known
+-- at first all of them are left
+pub list-goes : {source pool places tr : List ℕ} {r : ℕ} {Known : Knowing} → ((bs : List ℕ) → Known bs bs) → ListGoes source pool places tr r 0 Known
 list-goes {Known = Known} all = record { lists = λ bs a. record { remains = remains-all a; known = subst (Known bs) (a .is) (all bs) } }
 
-module _ {source pool places tr : List ℕ} {r o : ℕ} {Known : List ℕ → List ℕ → Type 0} (g : ListGoes source pool places tr r o Known) where
+module _ {source pool places tr : List ℕ} {r o : ℕ} {Known : Knowing} (g : ListGoes source pool places tr r o Known) where
   pub list-within : {bs : List ℕ} → ItemsAsked source pool places tr r bs → o < length tr
   list-within {bs} a = remains-within (g .lists bs a .remains)
 
@@ -186,8 +194,8 @@ module _ {source pool places tr : List ℕ} {r o : ℕ} {Known : List ℕ → Li
           room = s .room (g .lists bs a .known) (item-bytes (one a)) (itemBytes (a .listed) (one a .next)) (one a .more);
         }
 
-    module _ {After : List ℕ → List ℕ → Type 0} {Done : List ℕ → Type 0} (turn : Advance Known After Done) (w : (bs : List ℕ) → RowAsked source pool places (partFrom tr o) r bs → Done bs) where
-      -- and something is done with it
+    module _ {After : Knowing} {Done : List ℕ → Type 0} (turn : Advance Known After Done) (w : (bs : List ℕ) → RowAsked source pool places (partFrom tr o) r bs → Done bs) where
+      -- something is done with it, and the loop goes on, or ends
       pub item-then : (bs : List ℕ) (a : ItemsAsked source pool places tr r bs) → After bs (itemBytes (a .listed) (one a .next))
       item-then bs a =
           turn .takes (g .lists bs a .known) (item-bytes (one a)) (itemBytes (a .listed) (one a .next)) (one a .more) (w (item-bytes (one a)) (item-row-asked (one a)))
