@@ -1,16 +1,19 @@
 -- From the rows of filler to those of all source types.
-use mathlib.Core.Path.{_≡_, sym, _∙_}
+use mathlib.Core.Path.{_≡_, sym, _∙_, refl}
 use mathlib.Core.List.{List}
-use Prim.Native.Nat.{ℕ, _+_, _-_, _*_, _≤_}
+use Prim.Native.Nat.{ℕ, _+_, _-_, _*_, _≤_, _<_}
 use native.Mathlib.Omega.{arith}
 use lib.ListN.{length}
-use Rattle.loaded_table.specs.Loaded.{typesIn}
+use Rattle.model.specs.Definitions.Table.{kindOf}
+use Rattle.model.specs.Definitions.Templates.{Symbol}
+use Rattle.loaded_table.specs.Loaded.{typesIn, tableBy, length-of}
 use Rattle.loaded_setting.specs.Ready.{settingIn, Ready}
-use Rattle.rows.specs.Rows.{Rows}
-use Rattle.filler_rows.specs.Storing.{Sound, FillersStored}
+use Rattle.rows.specs.Rows.{Rows, sourceRow, itemRow, Chosen}
+use Rattle.row_sizes.specs.Sizes.{source-row-small}
+use Rattle.filler_rows.specs.Storing.{Sound, FillersStored, Stored, Whole}
+use Rattle.own_rows.specs.Wanted.{Wanted, of-filler, of-type, of-item, Done}
+use Rattle.own_rows.specs.Progress.{Progress}
 use Rattle.preparing.specs.Preparing.{roomOf}
-use Rattle.preparing.specs.Wanted.{done-fillers, done-all}
-use Rattle.preparing.specs.Progress.{Progress}
 
 pub target-sound : {source target map em : List ℕ} → Ready source target map em → Sound target
 target-sound ready = record { bounded = ready .target-bounded; sound = ready .valid .target-sound; kept = ready .kept }
@@ -18,6 +21,35 @@ target-sound ready = record { bounded = ready .target-bounded; sound = ready .va
 pub filler-room : (source target map : List ℕ) {n : ℕ} → roomOf source target map ≤ n → 16 * typesIn target ≤ n
 unfolding roomOf
 filler-room source target map room = omega (arith, room)
+
+-- rows of filler are the first
+done-fillers : {source target map em pool₀ places₀ pool places : List ℕ} {at : ℕ} → Ready source target map em
+    → FillersStored target pool₀ places₀ (typesIn target) pool places at → Done (settingIn source target map em) 64 pool places at
+unfolding sourceRow itemRow
+done-fillers {source} {target} {map} {em} {pool₀} {places₀} {pool} {places} {at} ready fillers = record { stored = λ r row d wanted less. go r row d wanted less }
+  where
+    go : (r : ℕ) (row : List Symbol) (d : ℕ) → Wanted (settingIn source target map em) r row d → r < 64 → Stored pool places at r row d
+    go r row d (of-filler τ exists is what depth) less = rw (is, what, depth) (fillers .stored τ (omega (arith, exists, length-of target)))
+    go r row d (of-type s t exists chosen is what depth) less = absurd (omega (arith, is))
+    go r row d (of-item s m exists kind is what depth) less = absurd (omega (arith, is))
+
+-- all rows are done
+done-all : {source target map em pool₀ places₀ pool places : List ℕ} {at : ℕ} → Ready source target map em → 3 * (64 + typesIn source * 17) ≤ length places₀
+    → Whole pool₀ places₀ pool places at → Done (settingIn source target map em) (64 + typesIn source * 17) pool places at → Rows (settingIn source target map em) pool places
+unfolding itemRow
+done-all {source} {target} {map} {em} {pool₀} {places₀} {pool} {places} {at} ready long whole done =
+    record {
+      long = omega (arith, long, whole .places-length, length-of source);
+      within = λ r. omega (arith, whole .within r, whole .pool-length);
+      filler-at = λ τ exists. done .stored τ _ 0 (of-filler τ exists refl refl refl) (omega (arith, exists, length-of target, ready .target-bounded .few-types)) .holds;
+      template-at = λ s t exists chosen. done .stored _ _ 0 (of-type s t exists chosen refl refl refl) (own-small s t exists chosen) .holds;
+      item-at = λ s m exists kind. done .stored _ _ _ (of-item s m exists kind refl refl refl) (omega (arith, exists, length-of source)) .holds;
+      own-depth = λ s t exists chosen. done .stored _ _ 0 (of-type s t exists chosen refl refl refl) (own-small s t exists chosen) .depth;
+      item-depth = λ s m exists kind. done .stored _ _ _ (of-item s m exists kind refl refl refl) (omega (arith, exists, length-of source)) .depth;
+    }
+  where
+    own-small : (s t : ℕ) → s < length (tableBy source) → Chosen t (kindOf (tableBy source) s) → sourceRow (tableBy source) s t < 64 + typesIn source * 17
+    own-small s t exists chosen = source-row-small (ready .source-bounded) s t (omega (arith, exists, length-of source)) chosen
 
 module _ {source target map em : List ℕ} where
   -- of the pool and the places that there were, only the lengths matter

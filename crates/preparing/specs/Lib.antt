@@ -1,9 +1,2 @@
 pub mod Preparing
-pub mod Laws
-pub mod Bounds
-pub mod Wanted
-pub mod Holes
-pub mod Short
-pub mod Progress
 pub mod Most
-pub mod Lists

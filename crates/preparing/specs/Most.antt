@@ -5,7 +5,8 @@ use native.Mathlib.Omega.{arith}
 use lib.ListN.{getD}
 use Rattle.loaded_table.specs.Loaded.{Bounded, typesIn}
 use Rattle.loaded_embedding.specs.Loaded.{lengthsOf}
-use Rattle.preparing.specs.Preparing.{edgeRoom, roomOf}
+use Rattle.own_rows.specs.Making.{edgeRoom}
+use Rattle.preparing.specs.Preparing.{roomOf}
 
 -- an edge has at most 12 steps
 edges-most : (map : List ℕ) → ((i : ℕ) → getD (lengthsOf map) i 0 ≤ 12) → (i n : ℕ) → edgeRoom map i n ≤ 220 * n

@@ -1,54 +1,9 @@
--- Edges of a source type as paths with holes, and rows that are made.
-use mathlib.Core.Path.{_≡_}
-use mathlib.Core.List.{List, [], _∷_}
-use Prim.Native.Nat.{ℕ, zero, suc, _+_, _*_, _≤_}
-use lib.ListN.{getD}
-use Rattle.model.specs.Definitions.Filler.{fillers}
-use Rattle.model.specs.Definitions.Image.{Placement, place}
-use Rattle.model.specs.Definitions.Templates.{Shape, shaped, Symbol, rowOf}
-use Rattle.loaded_table.specs.Loaded.{tableBy, typesIn, kindsOf, countsOf}
-use Rattle.loaded_embedding.specs.Loaded.{startsOf, lengthsOf, Bounded}
-use Rattle.growing.specs.declared.Edges.{Edges}
-use Rattle.growing.specs.Growing.{placementOf, placementsOf, Readable, Puts}
-use Rattle.rows.specs.Rows.{rowIn}
-use Rattle.filler_rows.specs.Storing.{PlacedRow}
+-- Room for the rows of a setting.
+use mathlib.Core.List.{List}
+use Prim.Native.Nat.{ℕ, _+_, _*_}
+use Rattle.loaded_table.specs.Loaded.{typesIn}
+use Rattle.own_rows.specs.Making.{edgeRoom}
 
--- what stands along the paths of n edges from a place on, the holes having the numbers from h on
-unfoldable pub edgePlacements : List ℕ → List ℕ → ℕ → ℕ → ℕ → List (Placement Shape)
-edgePlacements em map i h zero = []
-edgePlacements em map i h (suc n) = placementOf em (getD (startsOf map) i 0 + 2) (getD (lengthsOf map) i 0) h ∷ edgePlacements em map (suc i) (suc h) n
-
--- these are the paths, in every document within which they stand
-pub record EdgesFrom (map : List ℕ) (first hole count : ℕ) (r : Edges) : Type 0 where
-  pub many : r .count ≡ count
-  pub readable : (em : List ℕ) → Bounded em map → Readable em r
-  pub placements : (em : List ℕ) → Bounded em map → placementsOf em r ≡ edgePlacements em map first hole count
-
--- the paths of a source type that is a text, empty or a sequence
-pub record OwnEdges (source map : List ℕ) (s : ℕ) (r : Edges) : Type 0 where
-  pub of-text : getD (kindsOf source) s 0 ≡ 0 → EdgesFrom map (s * 16) 144 1 r
-  pub of-empty : getD (kindsOf source) s 0 ≡ 1 → EdgesFrom map (s * 16) 128 0 r
-  pub of-sequence : getD (kindsOf source) s 0 ≡ 2 → EdgesFrom map (s * 16) 128 (getD (countsOf source) s 0) r
-
--- the row of what an element of type t holds
-unfoldable pub heldRow : List ℕ → List ℕ → Edges → ℕ → List Symbol
-heldRow target em e t = rowOf (place shaped (tableBy target) (fillers shaped (tableBy target)) t (placementsOf em e))
-
--- a row is written behind the others, or stands among them, and is placed
-pub record RowMade (pool places : List ℕ) (at row : ℕ) (content : List Symbol) (depth : ℕ) (pool′ places′ : List ℕ) (end : ℕ) : Type 0 where
-  pub written : List Symbol
-  pub puts : Puts pool pool′ at written end
-  pub from : ℕ
-  pub to : ℕ
-  pub placed : PlacedRow places places′ row from to depth
-  pub ends : to ≤ end
-  pub holds : rowIn pool′ from to ≡ content
-
--- room for the rows of n edges from a place on: 18 times the steps of each and 4
-unfoldable pub edgeRoom : List ℕ → ℕ → ℕ → ℕ
-edgeRoom map i zero = 0
-edgeRoom map i (suc n) = 18 * getD (lengthsOf map) i 0 + 4 + edgeRoom map (suc i) n
-
--- room for all rows of a setting
+-- 16 places for each target type, and the room of all places of edges
 unfoldable pub roomOf : List ℕ → List ℕ → List ℕ → ℕ
 roomOf source target map = typesIn target * 16 + edgeRoom map 0 (typesIn source * 16)

@@ -3,7 +3,7 @@ use mathlib.Core.Path.{_∙_}
 use Prim.Native.Nat.{_-_, _≤_}
 use native.Mathlib.Omega.{arith}
 use borrow.Author.Needs.{needs}
-use Rattle.preparing.specs.Progress.{Progress}
+use Rattle.own_rows.specs.Progress.{Progress}
 use Rattle.preparing.proofs.Going.{target-sound, progress-here, progress-on, filler-room, progress-fillers, progress-all}
 use Rattle.preparing.proofs.prepare.Statement.{statement}
 use Rattle.preparing.proofs.prepare.Tie as tie

@@ -3,7 +3,8 @@ use mathlib.Core.Path.{ap₂, _∙_}
 use Prim.Native.Nat.{ℕ, _+_, _-_, _*_}
 use native.Mathlib.Omega.{arith}
 use borrow.Author.Needs.{needs}
-use Rattle.preparing.specs.Preparing.{edgeRoom, roomOf}
+use Rattle.own_rows.specs.Making.{edgeRoom}
+use Rattle.preparing.specs.Preparing.{roomOf}
 use Rattle.preparing.proofs.Adding.{Adds, adds-none, adds-more, adds-all}
 use Rattle.preparing.proofs.room.Statement.{statement}
 use Rattle.preparing.proofs.room.Tie as tie

@@ -1,0 +1,82 @@
+-- `before_row` meets its contract.
+use Prim.Native.Nat.{_*_}
+use native.Mathlib.Omega.{arith}
+use Rattle.growing.specs.Laws.{puts-length}
+use Rattle.filler_rows.specs.Laws.{placed-length}
+use Rattle.paths.specs.Edges.{small}
+use Rattle.list_rows.specs.Lists.{depth-less}
+use Rattle.list_rows.proofs.Listing.{own-task, own-short, own-end, own-made}
+use borrow.Author.Needs.{needs}
+use Rattle.list_rows.proofs.before_row.Statement.{statement}
+use Rattle.list_rows.proofs.before_row.Tie as tie
+
+list-cut-requires : tie.Need-list-cut-requires
+list-cut-requires c κs = search needs
+
+before-path-requires : tie.Need-before-path-requires
+before-path-requires c κs =
+    let pre = c .before .before .before .before .pre in
+    (small (pre .0) (pre .1 .0 .0), omega (arith, depth-less (pre .0) (pre .1 .0 .0) (pre .1 .0 .1) (c .list-cut .ensures), pre .0 .paths-bounded .short (c .before .before .before .before .args .s * 16)))
+
+target-requires : tie.Need-target-requires
+target-requires c κs = small (c .before .before .before .before .before .pre .0) (c .before .before .before .before .before .pre .1 .0 .0)
+
+add-element : tie.Need-add-element
+add-element c = search needs
+
+element-requires : tie.Need-element-requires
+element-requires c κs =
+    let pre = c .before .before .before .before .before .before .before .pre in
+    let cuts = c .before .before .before .list-cut .ensures in
+    (own-task (pre .0) (pre .1 .0 .0) (pre .1 .0 .1) cuts (c .before .before .before-path .ensures) (c .before .target .ensures .0), omega (arith, own-short (pre .0) (pre .1 .0 .0) (pre .1 .0 .1) cuts (c .before .before .before-path .ensures) (c .before .target .ensures .0), pre .1 .1 .0))
+
+mul-place : tie.Need-mul-place
+mul-place c = search needs
+
+add-place : tie.Need-add-place
+add-place c = search needs
+
+add-place-2 : tie.Need-add-place-2
+add-place-2 c = search needs
+
+sub-place : tie.Need-sub-place
+sub-place c =
+    let pre = c .before .before .before .before .before .before .before .before .before .before .before .pre in
+    omega (arith, own-end (pre .0) (pre .1 .0 .0) (pre .1 .0 .1) (c .before .before .before .before .before .before .before .list-cut .ensures) (c .before .before .before .before .before .before .before-path .ensures) (c .before .before .before .before .before .target .ensures .0) (c .before .before .before .element .ensures) (pre .1 .1 .0))
+
+place-requires : tie.Need-place-requires
+place-requires c κs =
+    let pre = c .before .before .before .before .before .before .before .before .before .before .before .pre in
+    let ends = own-end (pre .0) (pre .1 .0 .0) (pre .1 .0 .1) (c .before .before .before .before .before .before .before .list-cut .ensures) (c .before .before .before .before .before .before .before-path .ensures) (c .before .before .before .before .before .target .ensures .0) (c .before .before .before .element .ensures) (pre .1 .1 .0) in
+    (omega (arith, pre .1 .0 .0, pre .1 .1 .2), omega (arith, ends, pre .1 .1 .1), omega (arith, ends, pre .1 .1 .1), omega arith)
+
+same-length : tie.Need-same-length
+same-length c = puts-length (c .before .before .before .before .before .before .element .ensures)
+
+same-length-2 : tie.Need-same-length-2
+same-length-2 c = placed-length (c .before .before .place .ensures)
+
+returns : tie.Need-returns
+returns c =
+    let pre = c .before .before .before .before .before .before .before .before .before .before .before .before .before .before .pre in
+    let cuts = c .before .before .before .before .before .before .before .before .before .before .list-cut .ensures in
+    let puts = c .before .before .before .before .before .before .element .ensures in
+    (own-made (pre .0) (pre .1 .0 .0) (pre .1 .0 .1) cuts (c .before .before .before .before .before .before .before .before .before .before-path .ensures) (c .before .before .before .before .before .before .before .before .target .ensures .0) puts (pre .1 .1 .0) (c .before .before .place .ensures), own-end (pre .0) (pre .1 .0 .0) (pre .1 .0 .1) cuts (c .before .before .before .before .before .before .before .before .before .before-path .ensures) (c .before .before .before .before .before .before .before .before .target .ensures .0) puts (pre .1 .1 .0) .2)
+
+pub before-row-spec : {M : Type 1} → statement M
+before-row-spec =
+    tie.close
+    (tie.spec
+    list-cut-requires
+    before-path-requires
+    target-requires
+    add-element
+    element-requires
+    mul-place
+    add-place
+    add-place-2
+    sub-place
+    place-requires
+    same-length
+    same-length-2
+    returns)

@@ -1,0 +1,27 @@
+-- `one_path` meets its contract.
+use mathlib.Core.Path.{ap, _∙_}
+use native.Mathlib.Omega.{arith}
+use Rattle.growing.specs.declared.Edges.{Edges}
+use Rattle.growing.specs.Growing.{noEdges, push}
+use Rattle.list_rows.specs.Lists.{onePath}
+use borrow.Author.Needs.{needs}
+use Rattle.list_rows.proofs.one_path.Statement.{statement}
+use Rattle.list_rows.proofs.one_path.Tie as tie
+
+no-edges-requires : tie.Need-no-edges-requires
+no-edges-requires c κs = search needs
+
+cast-pushed : tie.Need-cast-pushed
+cast-pushed c = search needs
+
+pushed-requires : tie.Need-pushed-requires
+pushed-requires c κs = rw (c .no-edges .ensures) (unfold noEdges in omega arith)
+
+returns : tie.Need-returns
+unfolding onePath
+returns c =
+    let start = c .before .before .args in
+    c .pushed .ensures ∙ ap (λ (e : Edges). push e (start .next) (start .steps) (start .hole)) (c .before .no-edges .ensures)
+
+pub one-path-spec : {M : Type 1} → statement M
+one-path-spec = tie.close (tie.spec no-edges-requires cast-pushed pushed-requires returns)

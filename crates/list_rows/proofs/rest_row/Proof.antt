@@ -1,0 +1,73 @@
+-- `rest_row` meets its contract.
+use Prim.Native.Nat.{_*_}
+use native.Mathlib.Omega.{arith}
+use Rattle.growing.specs.Laws.{puts-length}
+use Rattle.filler_rows.specs.Laws.{placed-length}
+use Rattle.paths.specs.Edges.{small}
+use Rattle.list_rows.specs.Lists.{depth-less}
+use Rattle.list_rows.proofs.Listing.{item-task, item-short, item-end, item-made}
+use borrow.Author.Needs.{needs}
+use Rattle.list_rows.proofs.rest_row.Statement.{statement}
+use Rattle.list_rows.proofs.rest_row.Tie as tie
+
+list-cut-requires : tie.Need-list-cut-requires
+list-cut-requires c κs = search needs
+
+rest-path-requires : tie.Need-rest-path-requires
+rest-path-requires c κs =
+    let pre = c .before .before .before .before .pre in
+    (small (pre .0) (pre .1 .0 .0), depth-less (pre .0) (pre .1 .0 .0) (pre .1 .0 .1) (c .list-cut .ensures), omega (arith, pre .0 .paths-bounded .short (c .before .before .before .before .args .s * 16)))
+
+add-element : tie.Need-add-element
+add-element c = search needs
+
+element-requires : tie.Need-element-requires
+element-requires c κs =
+    let pre = c .before .before .before .before .before .before .pre in
+    let cuts = c .before .before .list-cut .ensures in
+    (item-task (pre .0) (pre .1 .0 .0) (pre .1 .0 .1) cuts (c .before .rest-path .ensures), omega (arith, item-short (pre .0) (pre .1 .0 .0) (pre .1 .0 .1) cuts (c .before .rest-path .ensures), pre .1 .1 .0))
+
+mul-place : tie.Need-mul-place
+mul-place c = search needs
+
+add-place : tie.Need-add-place
+add-place c = search needs
+
+add-place-2 : tie.Need-add-place-2
+add-place-2 c = search needs
+
+place-requires : tie.Need-place-requires
+place-requires c κs =
+    let pre = c .before .before .before .before .before .before .before .before .before .before .pre in
+    let cuts = c .before .before .before .before .before .before .list-cut .ensures in
+    let ends = item-end (pre .0) (pre .1 .0 .0) (pre .1 .0 .1) cuts (c .before .before .before .before .before .rest-path .ensures) (c .before .before .before .element .ensures) (pre .1 .1 .0) in
+    (omega (arith, pre .1 .0 .0, pre .1 .1 .2), omega (arith, ends, pre .1 .1 .1), omega (arith, ends, pre .1 .1 .1), omega (arith, depth-less (pre .0) (pre .1 .0 .0) (pre .1 .0 .1) cuts, pre .0 .paths-bounded .short (c .before .before .before .before .before .before .before .before .before .before .args .s * 16)))
+
+same-length : tie.Need-same-length
+same-length c = puts-length (c .before .before .before .before .before .before .element .ensures)
+
+same-length-2 : tie.Need-same-length-2
+same-length-2 c = placed-length (c .before .before .place .ensures)
+
+returns : tie.Need-returns
+returns c =
+    let pre = c .before .before .before .before .before .before .before .before .before .before .before .before .before .pre in
+    let cuts = c .before .before .before .before .before .before .before .before .before .list-cut .ensures in
+    let puts = c .before .before .before .before .before .before .element .ensures in
+    (item-made (pre .0) (pre .1 .0 .0) (pre .1 .0 .1) cuts (c .before .before .before .before .before .before .before .before .rest-path .ensures) puts (pre .1 .1 .0) (c .before .before .place .ensures), item-end (pre .0) (pre .1 .0 .0) (pre .1 .0 .1) cuts (c .before .before .before .before .before .before .before .before .rest-path .ensures) puts (pre .1 .1 .0) .2)
+
+pub rest-row-spec : {M : Type 1} → statement M
+rest-row-spec =
+    tie.close
+    (tie.spec
+    list-cut-requires
+    rest-path-requires
+    add-element
+    element-requires
+    mul-place
+    add-place
+    add-place-2
+    place-requires
+    same-length
+    same-length-2
+    returns)

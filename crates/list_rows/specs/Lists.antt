@@ -1,0 +1,276 @@
+-- The two rows of a source list: its own, up to the first list on its path, and that of an item.
+use mathlib.Core.Path.{_≡_, refl, sym, ap, ap₂, subst, _∙_}
+use mathlib.Core.Bool.{Bool, true, false}
+use mathlib.Core.List.{List, [], _∷_, _++_}
+use Prim.Native.Nat.{ℕ, suc, _+_, _-_, _*_, _≤_, _<_}
+use native.Mathlib.Omega.{arith}
+use lib.ListN.{length, getD}
+use lib.Dec.{ltb}
+use borrow.Author.Tests.{ltb-true, ltb-false}
+use Rattle.model.specs.Definitions.Table.{Table, kindOf, list, edgesOf}
+use Rattle.model.specs.Definitions.Embedding.{targetOf, pathsOf, Divided, divide}
+use Rattle.model.specs.Definitions.EmbeddingChecks.{maxSteps}
+use Rattle.model.specs.Definitions.Filler.{fillers}
+use Rattle.model.specs.Definitions.Image.{Setting, Placement, placed, place, onlyPath, isPlaced}
+use Rattle.model.specs.Definitions.Templates.{child, Hole, Shape, gap, framed, shaped, Symbol, rowOf, holesOf, template, templateBy, itemTemplate, itemBy, dividedOf, items}
+use Rattle.model.specs.Theorems.Facts.{All, all-none, all-more, Fits}
+use Rattle.model.specs.Theorems.TemplateShapes.{Regular, regular-built, item-regular, holes-fit}
+use Rattle.model.specs.Theorems.NeverLonger.{rest-always-fits}
+use Rattle.model.specs.Definitions.Basics.{pick}
+use Rattle.loaded_table.specs.Loaded.{tableBy, typesIn, kindsOf, membersIn, length-of}
+use Rattle.loaded_embedding.specs.Loaded.{startsOf, lengthsOf, targetsOf}
+use Rattle.loaded_setting.specs.Ready.{settingIn, Ready}
+use Rattle.paths.specs.declared.Cut.{Cut}
+use Rattle.paths.specs.Following.{pathAt, pathsFrom, Cuts}
+use Rattle.paths.specs.Edges.{target-is, paths-are, is-list, list-edge-one, list-less}
+use Rattle.rows.specs.Rows.{rowIndex, sourceRow, itemRow}
+use Rattle.growing.specs.declared.Edges.{Edges}
+use Rattle.growing.specs.Growing.{placementOf, placementsOf, noEdges, push, Readable, IsHole, Task, elementRow, holeOf}
+use Rattle.growing.specs.Laws.{push-placements, push-readable, none-readable, none-placed}
+use Rattle.row_sizes.specs.Sizes.{source-index-small}
+use Rattle.filler_rows.specs.Laws.{puts-on}
+use Rattle.own_rows.specs.Making.{heldRow, edgeRoom, RowMade}
+use Rattle.own_rows.specs.Progress.{Progress}
+use Rattle.own_rows.specs.Wanted.{Wanted, Done, done-more, done-past, whole-more, wanted-type, of-filler, of-type, of-item}
+use Rattle.own_rows.specs.Bounds.{weight, IsGap}
+use Rattle.own_rows.specs.Holes.{child-hole}
+use Rattle.own_rows.specs.Short.{steps-long, element-short}
+use Rattle.own_rows.specs.Laws.{room-split}
+
+-- ---- what the model places for it
+
+list-holes : (em map : List ℕ) (T : Table) (τ i t m : ℕ) {r : Cut} → Cuts em (getD (startsOf map) i 0) (getD (lengthsOf map) i 0) (divide T τ (pathAt em map i)) r
+    → placementOf em (getD (startsOf map) i 0 + 2) (r .depth) 145 ∷ [] ≡ holesOf gap T (list m) τ (pathsFrom em map i 1) t
+unfolding holesOf onlyPath pathsFrom placementOf holeOf pick
+list-holes em map T τ i t m cuts = ap (λ (path : List ℕ). placed path (gap items) ∷ []) (cuts .before)
+
+item-row : {source target map em : List ℕ} → Ready source target map em → (s : ℕ) → s < typesIn source → edgesOf (kindOf (tableBy source) s) ≡ 1 → {r : Cut}
+    → Cuts em (getD (startsOf map) (s * 16) 0) (getD (lengthsOf map) (s * 16) 0) (divide (tableBy target) (getD (targetsOf map) s 0) (pathAt em map (s * 16))) r
+    → (e : Edges) → placementsOf em e ≡ placementOf em (getD (startsOf map) (s * 16) 0 + 2 * suc (r .depth) + 2) (getD (lengthsOf map) (s * 16) 0 - suc (r .depth)) 128 ∷ []
+    → elementRow target em e 13 (r .item) ≡ itemTemplate (settingIn source target map em) s
+unfolding elementRow itemTemplate itemBy dividedOf place maxSteps shaped isPlaced placementOf onlyPath pathsFrom
+item-row {source} {target} {map} {em} ready s exists one {r} cuts e is =
+    let d : Divided = divide (tableBy target) (getD (targetsOf map) s 0) (pathAt em map (s * 16)) in
+    let same : dividedOf (settingIn source target map em) s ≡ d = rw (target-is ready exists, paths-are ready exists, one) refl in
+    let below : placementsOf em e ≡ placed (d .rest) (gap (child 0)) ∷ [] =
+    is ∙ ap₂ (λ (path : List ℕ) (h : Hole). placed path (gap h) ∷ []) (cuts .rest) (child-hole 0 (omega arith)) in
+    rw (below, cuts .item, same) refl
+
+-- ---- one path
+
+-- one path alone, to a hole
+unfoldable pub onePath : ℕ → ℕ → ℕ → Edges
+onePath next left hole = push noEdges next left hole
+
+-- the path of a source list up to the first list on it, and the path from an item on
+abbrev pub beforePath : List ℕ → ℕ → Cut → Edges
+beforePath map s r = onePath (getD (startsOf map) (s * 16) 0 + 2) (r .depth) 145
+
+abbrev pub restPath : List ℕ → ℕ → Cut → Edges
+restPath map s r = onePath (getD (startsOf map) (s * 16) 0 + 2 * suc (r .depth) + 2) (getD (lengthsOf map) (s * 16) 0 - suc (r .depth)) 128
+
+module _ (em : List ℕ) (next left hole : ℕ) where
+  one-placed : placementsOf em (onePath next left hole) ≡ placementOf em next left hole ∷ []
+  unfolding onePath noEdges
+  one-placed =
+      push-placements (none-readable em) (omega arith) next left hole
+      ∙ ap (λ (l : List (Placement Shape)). l ++ (placementOf em next left hole ∷ [])) (none-placed em)
+
+  one-readable : next + 2 * left ≤ length em + 1 → IsHole hole → Readable em (onePath next left hole)
+  unfolding onePath noEdges
+  one-readable within is-hole = push-readable (none-readable em) (omega arith) next left hole within is-hole
+
+  pub one-some : onePath next left hole .count ≡ 0 → ⊥
+  unfolding onePath noEdges push
+  one-some e = omega (arith, e)
+
+  one-gap : All IsGap (placementsOf em (onePath next left hole))
+  unfolding placementOf rowOf
+  one-gap =
+      let one : IsGap (placementOf em next left hole) = omega arith in
+      subst (All IsGap) (sym one-placed) (all-more one all-none)
+
+  one-weight : weight (placementsOf em (onePath next left hole)) ≡ 18 * left + 1
+  unfolding weight placementOf
+  one-weight = ap weight one-placed ∙ rw (steps-long em next left) (omega arith)
+
+  -- its element is short
+  one-short : {target : List ℕ} {t : ℕ} → Task target em (onePath next left hole) 13 t → length (elementRow target em (onePath next left hole) 13 t) ≤ 18 * left + 3
+  one-short task = omega (arith, element-short task one-some one-gap, one-weight)
+
+-- ---- room
+
+-- a type leaves room for 18 times the steps of its first edge
+room-type : (map : List ℕ) (s types : ℕ) → s < types → 18 * getD (lengthsOf map) (s * 16) 0 + edgeRoom map (suc s * 16) ((types - suc s) * 16) ≤ edgeRoom map (s * 16) ((types - s) * 16)
+unfolding edgeRoom
+room-type map s types less =
+    let a : (types - s) * 16 ≡ suc (15 + (types - suc s) * 16) = omega arith in
+    let b : suc s * 16 ≡ suc (s * 16) + 15 = omega arith in
+    rw (a, b) (omega (arith, room-split map (suc (s * 16)) 15 ((types - suc s) * 16)))
+
+-- ---- a source list
+
+-- what is known where its path is divided
+abbrev pub CutAt : List ℕ → List ℕ → List ℕ → ℕ → Cut → Type 0
+CutAt target map em s r = Cuts em (getD (startsOf map) (s * 16) 0) (getD (lengthsOf map) (s * 16) 0) (divide (tableBy target) (getD (targetsOf map) s 0) (pathAt em map (s * 16))) r
+
+-- symbols of its own row, and of the row of its items, at most
+unfoldable pub beforeRoom : Setting → ℕ → ℕ
+beforeRoom X s = 18 * length (dividedOf X s .before) + 3
+
+unfoldable pub restRoom : List ℕ → Setting → ℕ → ℕ
+restRoom map X s = 18 * (getD (lengthsOf map) (s * 16) 0 - suc (length (dividedOf X s .before))) + 3
+
+-- the type of an element that is built exists
+built-exists : {T : Table} {Ok : Hole → Type 0} {t : ℕ} {k r : Shape} → Regular T Ok (framed true t k r) → t < length T
+built-exists (regular-built exists below after) = exists
+
+module _ {source target map em : List ℕ} (ready : Ready source target map em) {s : ℕ} (exists : s < typesIn source) (code : 4 ≤ getD (kindsOf source) s 0) where
+  abbrev X : Setting
+  X = settingIn source target map em
+
+  in-source : s < length (X .source)
+  in-source = omega (arith, length-of source)
+
+  abbrev cutPath : Divided
+  cutPath = divide (tableBy target) (getD (targetsOf map) s 0) (pathAt em map (s * 16))
+
+  -- the model divides the same path
+  divided-is : dividedOf X s ≡ cutPath
+  unfolding dividedOf onlyPath pathsFrom
+  divided-is = rw (target-is ready exists, paths-are ready exists, list-edge-one ready exists code) refl
+
+  pub before-less : length (dividedOf X s .before) < getD (lengthsOf map) (s * 16) 0
+  before-less = rw divided-is (list-less ready exists code)
+
+  -- the two rows take room for the steps of the one edge
+  pub both-room : beforeRoom X s + restRoom map X s ≤ 18 * getD (lengthsOf map) (s * 16) 0
+  unfolding beforeRoom restRoom
+  both-room = omega (arith, before-less)
+
+  -- all templates of a list are one
+  pub template-same : (t : ℕ) → template X s 0 ≡ template X s t
+  unfolding template templateBy holesOf
+  template-same t = rw (is-list ready exists code) refl
+
+  module _ {r : Cut} (cuts : CutAt target map em s r) where
+    pub depth-is : r .depth ≡ length (dividedOf X s .before)
+    depth-is = cuts .depth ∙ ap (λ (x : Divided). length (x .before)) (sym divided-is)
+
+    pub depth-less : r .depth < getD (lengthsOf map) (s * 16) 0
+    depth-less = omega (arith, depth-is, before-less)
+
+    -- its own row: the path before the list, to the hole of the items
+    before-placed : (t : ℕ) → placementsOf em (beforePath map s r) ≡ holesOf gap (X .target) (kindOf (X .source) s) (targetOf (X .embedding) s) (pathsOf (X .embedding) s) t
+    before-placed t =
+        rw (target-is ready exists, paths-are ready exists, list-edge-one ready exists code, is-list ready exists code)
+        (one-placed em _ _ 145 ∙ list-holes em map (tableBy target) (getD (targetsOf map) s 0) (s * 16) t (getD (membersIn source) (s * 16) 0) cuts)
+
+    pub before-task : Task target em (beforePath map s r) 13 (getD (targetsOf map) s 0)
+    unfolding maxSteps
+    before-task =
+        let fits : Fits (X .target) 13 (targetOf (X .embedding) s) (holesOf gap (X .target) (kindOf (X .source) s) (targetOf (X .embedding) s) (pathsOf (X .embedding) s) 0) =
+        holes-fit shaped X (targetOf (X .embedding) s) 0 gap (ready .valid .edges s in-source) in
+        record {
+          bounded = ready .target-bounded;
+          well-formed = ready .valid .target-sound .well-formed;
+          is-type = omega (arith, ready .valid .target-exists s in-source, target-is ready exists, length-of target);
+          paths = one-readable em _ _ 145 (omega (arith, ready .paths-bounded .within (s * 16), depth-less)) (omega arith, omega arith);
+          fits = subst (λ (τ : ℕ). Fits (X .target) 13 τ (placementsOf em (beforePath map s r))) (target-is ready exists) (subst (Fits (X .target) 13 (targetOf (X .embedding) s)) (sym (before-placed 0)) fits);
+        }
+
+    pub before-row : heldRow target em (beforePath map s r) (getD (targetsOf map) s 0) ≡ template X s 0
+    unfolding heldRow template templateBy
+    before-row = ap₂ (λ (τ : ℕ) (ps : List (Placement Shape)). rowOf (place shaped (X .target) (fillers shaped (X .target)) τ ps)) (sym (target-is ready exists)) (before-placed 0)
+
+    pub before-short : length (elementRow target em (beforePath map s r) 13 (getD (targetsOf map) s 0)) ≤ beforeRoom X s
+    unfolding beforeRoom
+    before-short = omega (arith, one-short em _ _ 145 before-task, depth-is)
+
+    -- the row of an item: the path behind the list, to the hole of a child
+    item-there : r .item < typesIn target
+    unfolding itemBy shaped
+    item-there =
+        let there : dividedOf X s .item < length (X .target) = built-exists (item-regular X (ready .valid) s _ in-source (is-list ready exists code)) in
+        omega (arith, there, cuts .item, ap (λ (x : Divided). x .item) divided-is, length-of target)
+
+    rest-placed : placementsOf em (restPath map s r) ≡ placed (dividedOf X s .rest) (gap (child 0)) ∷ []
+    unfolding placementOf
+    rest-placed =
+        one-placed em _ _ 128
+        ∙ ap₂ (λ (path : List ℕ) (h : Hole). placed path (gap h) ∷ []) (cuts .rest ∙ ap (λ (x : Divided). x .rest) (sym divided-is)) (child-hole 0 (omega arith))
+
+    pub rest-task : Task target em (restPath map s r) 13 (r .item)
+    unfolding maxSteps dividedOf
+    rest-task =
+        let fits : Fits (X .target) 13 (dividedOf X s .item) (placed (dividedOf X s .rest) (gap (child 0)) ∷ []) =
+        rest-always-fits X (ready .valid) s _ in-source (is-list ready exists code) (gap (child 0)) in
+        let item : dividedOf X s .item ≡ r .item = ap (λ (x : Divided). x .item) divided-is ∙ sym (cuts .item) in
+        record {
+          bounded = ready .target-bounded;
+          well-formed = ready .valid .target-sound .well-formed;
+          is-type = item-there;
+          paths = one-readable em _ _ 128 (omega (arith, ready .paths-bounded .within (s * 16), depth-less)) (omega arith, omega arith);
+          fits = subst (λ (τ : ℕ). Fits (X .target) 13 τ (placementsOf em (restPath map s r))) item (subst (Fits (X .target) 13 (dividedOf X s .item)) (sym rest-placed) fits);
+        }
+
+    pub rest-row : elementRow target em (restPath map s r) 13 (r .item) ≡ itemTemplate X s
+    rest-row = item-row ready s exists (list-edge-one ready exists code) cuts (restPath map s r) (one-placed em _ _ 128)
+
+    pub rest-short : length (elementRow target em (restPath map s r) 13 (r .item)) ≤ restRoom map X s
+    unfolding restRoom
+    rest-short = omega (arith, one-short em _ _ 128 rest-task, depth-is)
+
+  -- ---- one type more
+
+  -- it has no other templates than its first
+  index-none : (t j : ℕ) → rowIndex (kindOf (X .source) s) t ≡ j → j ≡ 0
+  unfolding rowIndex
+  index-none t j e = sym (rw (is-list ready exists code) at e)
+
+  -- the last row of the source list is the row of its items
+  wanted-item : {row : List Symbol} {d : ℕ} → Wanted X (64 + (s * 17 + 16)) row d → (row ≡ itemTemplate X s) × (d ≡ length (dividedOf X s .before))
+  unfolding itemRow sourceRow
+  wanted-item (of-filler τ exists is what depth) = absurd (omega (arith, exists, length-of target, ready .target-bounded .few-types))
+  wanted-item (of-type s′ t exists chosen is what depth) =
+      absurd (omega (arith, is, source-index-small (ready .source-bounded) s′ t (omega (arith, exists, length-of source)) chosen))
+  wanted-item (of-item s′ m exists kind is what depth) = let same : s′ ≡ s = omega arith in (rw same at what, rw same at depth)
+
+  -- nobody wants the rows between the two of a list
+  between : (r : ℕ) (row : List Symbol) (depth : ℕ) → Wanted X r row depth → r < 64 + (s * 17 + 16) → r < 64 + s * 17 + 1
+  between r row depth wanted less = go (ltb r (64 + s * 17 + 1)) refl
+    where
+      go : (b : Bool) → ltb r (64 + s * 17 + 1) ≡ b → r < 64 + s * 17 + 1
+      go true e = ltb-true r _ e
+      go false e =
+          let high = ltb-false r _ e in
+          let j : ℕ = r - (64 + s * 17) in
+          let is : r ≡ 64 + (s * 17 + j) = omega (arith, high) in
+          let found = wanted-type ready s j (omega (arith, high)) (subst (λ (k : ℕ). Wanted X k row depth) is wanted) in
+          absurd (omega (arith, high, index-none (found .0) j (found .2)))
+
+  -- there is room for both
+  pub list-room : {pool₀ places₀ pool places : List ℕ} {at : ℕ} → Progress source target map em pool₀ places₀ s pool places at → at + (beforeRoom X s + restRoom map X s) ≤ length pool
+  list-room now = omega (arith, room-type map s (typesIn source) exists, now .room, now .whole .pool-length, both-room)
+
+  -- its two rows are one type more
+  pub list-progress : {pool₀ places₀ pool places : List ℕ} {at : ℕ} {pool₁ places₁ : List ℕ} {end : ℕ} {pool₂ places₂ : List ℕ} {last : ℕ} → Progress source target map em pool₀ places₀ s pool places at
+      → RowMade pool places at (64 + s * 17) (template X s 0) 0 pool₁ places₁ end
+      → RowMade pool₁ places₁ end (64 + (s * 17 + 16)) (itemTemplate X s) (length (dividedOf X s .before)) pool₂ places₂ last
+      → end ≤ at + beforeRoom X s → last ≤ end + restRoom map X s
+      → Progress source target map em pool₀ places₀ (suc s) pool₂ places₂ last
+  list-progress {pool₀} {places₀} {pool} {places} {at} {pool₁} {places₁} {end} {pool₂} {places₂} {last} now own item own-short item-short =
+      let short : last ≤ at + 18 * getD (lengthsOf map) (s * 16) 0 = omega (arith, own-short, item-short, both-room) in
+      let room = room-type map s (typesIn source) exists in
+      let one = done-more (now .done) own
+      (λ row d wanted. let zero-is : 64 + s * 17 ≡ 64 + (s * 17 + 0) = omega arith in
+      let found = wanted-type ready s 0 (omega arith) (subst (λ (k : ℕ). Wanted X k row d) zero-is wanted) in
+      (template-same (found .0) ∙ sym (found .3), sym (found .4))) in
+      let two = done-more (done-past (64 + (s * 17 + 16)) one between) item
+      (λ row d wanted. let found = wanted-item wanted in (sym (found .0), sym (found .1))) in
+      let all : 64 + (s * 17 + 16) + 1 ≡ 64 + suc s * 17 = omega arith in
+      record {
+        whole = whole-more (whole-more (now .whole) own (omega (arith, short, room, now .room, puts-on (item .puts)))) item (omega (arith, short, room, now .room));
+        done = subst (λ (k : ℕ). Done X k pool₂ places₂ last) all two;
+        room = omega (arith, short, room, now .room);
+      }

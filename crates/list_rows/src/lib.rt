@@ -1,0 +1,153 @@
+// The rows of a source list: its own, up to the first list on its path, and that of an item.
+ghost use mathlib.Core.Path.{_≡_};
+ghost use mathlib.Core.List.{List};
+ghost use Prim.Native.Nat.{ℕ, suc, _+_, _-_, _*_, _≤_, _<_};
+ghost use lib.ListN.{length, getD};
+ghost use Rattle.model.specs.Definitions.Templates.{template, itemTemplate, dividedOf};
+ghost use Rattle.loaded_table.specs.Loaded.{typesIn, kindsOf};
+ghost use Rattle.loaded_embedding.specs.Loaded.{lengthsOf};
+ghost use Rattle.loaded_setting.specs.Ready.{settingIn, Ready};
+ghost use Rattle.own_rows.specs.Making.{RowMade};
+ghost use Rattle.own_rows.specs.Progress.{Progress};
+ghost use Rattle.list_rows.specs.Lists.{onePath, beforePath, restPath, CutAt, beforeRoom, restRoom};
+use codes::MAX_MEMBERS;
+use codes::MAX_STEPS;
+use codes::MAX_TYPES;
+use filler_rows::place;
+use growing::Edges;
+use growing::element;
+use growing::no_edges;
+use growing::pushed;
+use loaded_embedding::MAP;
+use loaded_table::TABLE;
+use paths::Cut;
+use paths::list_depth;
+use rows::CHILD;
+use rows::ITEMS;
+use rows::TYPE_ROWS;
+
+// Where the path of the source list s is divided.
+fn list_cut(
+    source: &[u16; TABLE],
+    target: &[u16; TABLE],
+    map: &[u16; MAP],
+    em: &[u8],
+    s: usize,
+) -> Cut
+    requires ready { ⌜ Ready (now source) (now target) (now map) (now em) ⌝ }
+    requires list { ⌜ (s < typesIn (now source)) × (4 ≤ getD (kindsOf (now source)) s 0) ⌝ }
+    ensures { λ r. ⌜ CutAt (now (target .entry)) (now (map .entry)) (now (em .entry)) s r ⌝ }
+{
+    let start = loaded_embedding::start(map, s * MAX_MEMBERS);
+    let steps = loaded_embedding::steps(map, s * MAX_MEMBERS);
+    let t = loaded_embedding::target(map, s);
+    list_depth(target, em, start, steps, t)
+}
+
+// The one path of some steps from an offset on, to a hole.
+fn one_path(next: usize, steps: usize, hole: u8) -> Edges
+    requires { ⌜ steps < 256 ⌝ }
+    ensures { λ r. ⌜ r ≡ onePath next steps hole ⌝ }
+{
+    let none = no_edges();
+    pushed(none, next, steps as u8, hole)
+}
+
+// The path of the source list s up to the first list on it, to the hole of the items.
+fn before_path(map: &[u16; MAP], s: usize, cut: Cut) -> Edges
+    requires { ⌜ (s < 64) × (cut .depth < 256) ⌝ }
+    ensures { λ r. ⌜ r ≡ beforePath (now (map .entry)) s cut ⌝ }
+{
+    let start = loaded_embedding::start(map, s * MAX_MEMBERS);
+    let depth = cut.depth;
+    one_path(start + 2, depth, ITEMS)
+}
+
+// The path from an item on, to the hole of its child.
+fn rest_path(map: &[u16; MAP], s: usize, cut: Cut) -> Edges
+    requires { ⌜ (s < 64) × (cut .depth < getD (lengthsOf (now map)) (s * 16) 0) × (getD (lengthsOf (now map)) (s * 16) 0 < 256) ⌝ }
+    ensures { λ r. ⌜ r ≡ restPath (now (map .entry)) s cut ⌝ }
+{
+    let start = loaded_embedding::start(map, s * MAX_MEMBERS);
+    let steps = loaded_embedding::steps(map, s * MAX_MEMBERS);
+    let taken = cut.depth + 1;
+    one_path(start + 2 * taken + 2, steps - taken, CHILD)
+}
+
+// Writes and places the own row of the source list s.
+fn before_row(
+    source: &[u16; TABLE],
+    target: &[u16; TABLE],
+    map: &[u16; MAP],
+    em: &[u8],
+    s: usize,
+    pool: &mut [u8],
+    places: &mut [u32],
+    at: usize,
+) -> usize
+    requires ready { ⌜ Ready (now source) (now target) (now map) (now em) ⌝ }
+    requires list { ⌜ (s < typesIn (now source)) × (4 ≤ getD (kindsOf (now source)) s 0) ⌝ }
+    requires room { ⌜ (at + beforeRoom (settingIn (now source) (now target) (now map) (now em)) s ≤ length (now pool)) × (length (now pool) < 4294967296) × (3 * (64 + typesIn (now source) * 17) ≤ length (now places)) ⌝ }
+    ensures made { λ r. ⌜ RowMade (now (pool .entry)) (now (places .entry)) at (64 + s * 17) (template (settingIn (now (source .entry)) (now (target .entry)) (now (map .entry)) (now (em .entry))) s 0) 0 (now (pool .exit)) (now (places .exit)) r ⌝ }
+    ensures short { λ r. ⌜ r ≤ at + beforeRoom (settingIn (now (source .entry)) (now (target .entry)) (now (map .entry)) (now (em .entry))) s ⌝ }
+{
+    let cut = list_cut(source, target, map, em, s);
+    let path = before_path(map, s, cut);
+    let t = loaded_embedding::target(map, s);
+    let end = element(target, em, path, MAX_STEPS + 1, t, pool, at);
+    place(places, MAX_TYPES + s * TYPE_ROWS, at + 1, end - 1, 0);
+    end
+}
+
+// Writes and places the row of an item of the source list s.
+fn rest_row(
+    source: &[u16; TABLE],
+    target: &[u16; TABLE],
+    map: &[u16; MAP],
+    em: &[u8],
+    s: usize,
+    pool: &mut [u8],
+    places: &mut [u32],
+    at: usize,
+) -> usize
+    requires ready { ⌜ Ready (now source) (now target) (now map) (now em) ⌝ }
+    requires list { ⌜ (s < typesIn (now source)) × (4 ≤ getD (kindsOf (now source)) s 0) ⌝ }
+    requires room { ⌜ (at + restRoom (now map) (settingIn (now source) (now target) (now map) (now em)) s ≤ length (now pool)) × (length (now pool) < 4294967296) × (3 * (64 + typesIn (now source) * 17) ≤ length (now places)) ⌝ }
+    ensures made { λ r. ⌜ RowMade (now (pool .entry)) (now (places .entry)) at (64 + (s * 17 + 16)) (itemTemplate (settingIn (now (source .entry)) (now (target .entry)) (now (map .entry)) (now (em .entry))) s) (length (dividedOf (settingIn (now (source .entry)) (now (target .entry)) (now (map .entry)) (now (em .entry))) s .before)) (now (pool .exit)) (now (places .exit)) r ⌝ }
+    ensures short { λ r. ⌜ r ≤ at + restRoom (now (map .entry)) (settingIn (now (source .entry)) (now (target .entry)) (now (map .entry)) (now (em .entry))) s ⌝ }
+{
+    let cut = list_cut(source, target, map, em, s);
+    let path = rest_path(map, s, cut);
+    let depth = cut.depth;
+    let item = cut.item;
+    let end = element(target, em, path, MAX_STEPS + 1, item, pool, at);
+    place(
+        places,
+        MAX_TYPES + (s * TYPE_ROWS + MAX_MEMBERS),
+        at,
+        end,
+        depth,
+    );
+    end
+}
+
+// Writes and places both rows of the source list s, and returns the place after them.
+pub fn list_rows(
+    source: &[u16; TABLE],
+    target: &[u16; TABLE],
+    map: &[u16; MAP],
+    em: &[u8],
+    s: usize,
+    pool: &mut [u8],
+    places: &mut [u32],
+    at: usize,
+) -> usize
+    requires ready { ⌜ Ready (now source) (now target) (now map) (now em) ⌝ }
+    requires list { ⌜ (s < typesIn (now source)) × (4 ≤ getD (kindsOf (now source)) s 0) ⌝ }
+    requires progress { ⌜ ((pool₀ places₀ : List ℕ) × Progress (now source) (now target) (now map) (now em) pool₀ places₀ s (now pool) (now places) at) ⌝ }
+    requires room { ⌜ (length (now pool) < 4294967296) × (3 * (64 + typesIn (now source) * 17) ≤ length (now places)) ⌝ }
+    ensures { λ r. ⌜ ((pool₀ places₀ : List ℕ) → Progress (now (source .entry)) (now (target .entry)) (now (map .entry)) (now (em .entry)) pool₀ places₀ s (now (pool .entry)) (now (places .entry)) at → Progress (now (source .entry)) (now (target .entry)) (now (map .entry)) (now (em .entry)) pool₀ places₀ (suc s) (now (pool .exit)) (now (places .exit)) r) ⌝ }
+{
+    let end = before_row(source, target, map, em, s, pool, places, at);
+    rest_row(source, target, map, em, s, pool, places, end)
+}

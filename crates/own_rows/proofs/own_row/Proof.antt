@@ -1,0 +1,77 @@
+-- `own_row` meets its contract.
+use Prim.Native.Nat.{_+_, _*_}
+use native.Mathlib.Omega.{arith}
+use Rattle.growing.specs.Laws.{puts-length, puts-after}
+use Rattle.filler_rows.specs.Laws.{placed-length}
+use Rattle.own_rows.specs.Made.{made-again, made-end, made-new}
+use borrow.Author.Needs.{needs}
+use Rattle.own_rows.proofs.own_row.Statement.{statement}
+use Rattle.own_rows.proofs.own_row.Tie as tie
+
+from-requires : tie.Need-from-requires
+from-requires c κs = search needs
+
+to-requires : tie.Need-to-requires
+to-requires c κs = search needs
+
+place-requires : tie.Need-place-requires
+place-requires c κs =
+    let start = c .before .before .before .before .before .before .before .before .before in
+    (start .pre .1 .1 .2, omega (arith, c .before .before .before .from .ensures, c .before .before .before .before .before .before .slice-known2 .given (3 * start .args .t)), omega (arith, c .before .to .ensures, c .before .before .before .before .before .before .slice-known2 .given (3 * start .args .t + 1)), omega arith)
+
+same-length : tie.Need-same-length
+same-length c = placed-length (c .before .before .place .ensures)
+
+returns : tie.Need-returns
+returns c =
+    let start = c .before .before .before .before .before .before .before .before .before .before .before .before in
+    (made-again (start .pre .0) (c .before .before .before .before .before .before .before .before .if1 .taken) (start .pre .1 .0) (c .before .before .before .before .before .before .from .ensures) (c .before .before .before .before .to .ensures) (c .before .before .place .ensures), omega arith)
+
+add-element : tie.Need-add-element
+add-element c = search needs
+
+element-requires : tie.Need-element-requires
+element-requires c κs = search needs
+
+add-place : tie.Need-add-place
+add-place c = search needs
+
+sub-place : tie.Need-sub-place
+sub-place c =
+    let start = c .before .before .before .before .before .before .before .before .before in
+    omega (arith, made-end (start .pre .0) (c .before .before .before .before .before .if1 .left) (start .pre .1 .1 .0) (c .before .before .before .element .ensures) .0)
+
+place-requires-2 : tie.Need-place-requires-2
+place-requires-2 c κs =
+    let start = c .before .before .before .before .before .before .before .before .before in
+    let end = made-end (start .pre .0) (c .before .before .before .before .before .if1 .left) (start .pre .1 .1 .0) (c .before .before .before .element .ensures) in
+    (start .pre .1 .1 .2, omega (arith, end .0, end .1, start .pre .1 .1 .1), omega (arith, end .1, start .pre .1 .1 .1), omega arith)
+
+same-length-2 : tie.Need-same-length-2
+same-length-2 c = puts-length (c .before .before .before .before .before .before .element .ensures)
+
+same-length-3 : tie.Need-same-length-3
+same-length-3 c = placed-length (c .before .before .place2 .ensures)
+
+returns-2 : tie.Need-returns-2
+returns-2 c =
+    let start = c .before .before .before .before .before .before .before .before .before .before .before .before in
+    (made-new (start .pre .0) (c .before .before .before .before .before .before .before .before .if1 .left) (start .pre .1 .1 .0) (c .before .before .before .before .before .before .element .ensures) (c .before .before .place2 .ensures), omega (arith, puts-after (c .before .before .before .before .before .before .element .ensures)))
+
+pub own-row-spec : {M : Type 1} → statement M
+own-row-spec =
+    tie.close
+    (tie.spec
+    from-requires
+    to-requires
+    place-requires
+    same-length
+    returns
+    add-element
+    element-requires
+    add-place
+    sub-place
+    place-requires-2
+    same-length-2
+    same-length-3
+    returns-2)

@@ -1,0 +1,8 @@
+pub mod Making
+pub mod Laws
+pub mod Made
+pub mod Bounds
+pub mod Wanted
+pub mod Holes
+pub mod Short
+pub mod Progress

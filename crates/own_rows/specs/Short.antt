@@ -1,0 +1,80 @@
+-- The row of an element is short: by the steps of the edges below it.
+use mathlib.Core.Path.{_≡_, refl, sym, ap, _∙_}
+use mathlib.Core.Bool.{true}
+use mathlib.Core.List.{List, [], _∷_}
+use Prim.Native.Nat.{ℕ, zero, suc, _+_, _*_, _≤_}
+use native.Mathlib.Omega.{arith}
+use lib.ListN.{length, take, drop, getD, length-append, length-take, List·getD-eq-default}
+use lib.Dec.{ltb}
+use borrow.Author.Tests.{ltb-true, ltb-false}
+use mathlib.Core.Bool.{Bool, false}
+use Rattle.model.specs.Definitions.Table.{empty, sequence, Table, kindOf}
+use Rattle.model.specs.Definitions.Image.{isPlaced}
+use Rattle.model.specs.Definitions.Templates.{closing, rowOf}
+use Rattle.model.specs.Theorems.Facts.{All, all-none, all-more}
+use Rattle.loaded_table.specs.Loaded.{Bounded, kindFrom, tableBy, typesIn, kindsOf, countsOf, membersIn, length-of, kind-of}
+use Rattle.loaded_embedding.specs.Loaded.{startsOf, lengthsOf, stepsFrom}
+use Rattle.growing.specs.declared.Edges.{Edges}
+use Rattle.growing.specs.Growing.{placementOf, placementsOf, Task, elementRow}
+use Rattle.growing.specs.Parts.{held, first-path, row-built}
+use Rattle.own_rows.specs.Making.{edgePlacements}
+use Rattle.own_rows.specs.Bounds.{weight, IsGap, grow-bound}
+
+-- the symbols that the paths of n edges from a place on can add
+unfoldable pub edgeWeight : List ℕ → ℕ → ℕ → ℕ
+edgeWeight map i zero = 0
+edgeWeight map i (suc n) = 18 * getD (lengthsOf map) i 0 + 1 + edgeWeight map (suc i) n
+
+pub steps-long : (em : List ℕ) (o n : ℕ) → length (stepsFrom em o n) ≡ n
+unfolding stepsFrom
+steps-long em o zero = refl
+steps-long em o (suc n) = ap suc (steps-long em (o + 2) n)
+
+pub edges-weight : (em map : List ℕ) (i h n : ℕ) → weight (edgePlacements em map i h n) ≡ edgeWeight map i n
+unfolding weight edgePlacements edgeWeight placementOf
+edges-weight em map i h zero = refl
+edges-weight em map i h (suc n) = rw (steps-long em (getD (startsOf map) i 0 + 2) (getD (lengthsOf map) i 0), edges-weight em map (suc i) (suc h) n) refl
+
+pub edges-gaps : (em map : List ℕ) (i h n : ℕ) → All IsGap (edgePlacements em map i h n)
+unfolding edgePlacements placementOf rowOf
+edges-gaps em map i h zero = all-none
+edges-gaps em map i h (suc n) =
+    let one : IsGap (placementOf em (getD (startsOf map) i 0 + 2) (getD (lengthsOf map) i 0) h) = omega arith in
+    all-more one (edges-gaps em map (suc i) (suc h) n)
+
+-- a sequence has at most 16 members
+few-members : (code count : ℕ) (row ms : List ℕ) → count ≤ 16 → kindFrom code count row ≡ sequence ms → length ms ≤ 16
+few-members zero count row ms few e = let z : _≡_ {A = ℕ} 0 1 = cc in absurd (omega arith)
+few-members (suc zero) count row ms few e = let z : _≡_ {A = ℕ} 0 1 = cc in absurd (omega arith)
+few-members (suc (suc zero)) count row ms few e =
+    let same : take count row ≡ ms = cc in
+    omega (arith, ap length same, length-take count row)
+few-members (suc (suc (suc zero))) count row ms few e = let z : _≡_ {A = ℕ} 0 1 = cc in absurd (omega arith)
+few-members (suc (suc (suc (suc code)))) count row ms few e = let z : _≡_ {A = ℕ} 0 1 = cc in absurd (omega arith)
+
+few-of : {target : List ℕ} → Bounded target → (τ : ℕ) (ms : List ℕ) → kindOf (tableBy target) τ ≡ sequence ms → length ms ≤ 16
+few-of {target} bounded τ ms kind = go (ltb τ (typesIn target)) refl
+  where
+    beyond : (T : Table) (t : ℕ) → length T ≤ t → kindOf T t ≡ sequence ms → length ms ≤ 16
+    beyond T t over e = differ (sym (no-type T t over) ∙ e)
+      where
+        no-type : (T : Table) (t : ℕ) → length T ≤ t → kindOf T t ≡ empty
+        no-type T t over = unfold kindOf in List·getD-eq-default T empty over
+
+        differ : empty ≡ sequence ms → length ms ≤ 16
+        differ e = let z : _≡_ {A = ℕ} 0 1 = cc in absurd (omega arith)
+
+    go : (b : Bool) → ltb τ (typesIn target) ≡ b → length ms ≤ 16
+    go true e =
+        few-members (getD (kindsOf target) τ 0) (getD (countsOf target) τ 0) (drop (τ * 16) (membersIn target)) ms (bounded .few-members τ)
+        (sym (kind-of target τ (ltb-true τ (typesIn target) e)) ∙ kind)
+    go false e = beyond (tableBy target) τ (omega (arith, ltb-false τ (typesIn target) e, length-of target)) kind
+
+-- an element with paths below it
+pub element-short : {target em : List ℕ} {e : Edges} {n t : ℕ} → Task target em e n t → (e .count ≡ 0 → ⊥) → All IsGap (placementsOf em e)
+    → length (elementRow target em e n t) ≤ 2 + weight (placementsOf em e)
+unfolding isPlaced
+element-short {target} {em} {e} {n} {t} task some gaps =
+    let there : isPlaced (placementsOf em e) ≡ true = rw (first-path target em e n t some) refl in
+    let content = grow-bound (tableBy target) (few-of (task .bounded)) n t (task .fits) gaps there in
+    omega (arith, content, ap length (row-built target em e n t some), length-append (held target em e n t) (closing ∷ []))

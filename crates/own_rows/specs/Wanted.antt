@@ -1,0 +1,79 @@
+-- The rows that a setting wants, by number; rows are made in the order of their numbers.
+use mathlib.Core.Path.{_≡_, refl, _∙_}
+use mathlib.Core.Bool.{Bool, true, false}
+use mathlib.Core.List.{List}
+use Prim.Native.Nat.{ℕ, _+_, _*_, _≤_, _<_}
+use native.Mathlib.Omega.{arith}
+use lib.ListN.{length}
+use lib.Dec.{eqb}
+use borrow.Author.Tests.{eqb-true, eqb-false}
+use Rattle.model.specs.Definitions.Table.{kindOf, list}
+use Rattle.model.specs.Definitions.Image.{Setting}
+use Rattle.model.specs.Definitions.Templates.{Symbol, template, itemTemplate, fillerRow, dividedOf}
+use Rattle.loaded_table.specs.Loaded.{length-of}
+use Rattle.loaded_setting.specs.Ready.{settingIn, Ready}
+use Rattle.rows.specs.Rows.{rowIndex, sourceRow, itemRow, Chosen}
+use Rattle.growing.specs.Laws.{puts-length}
+use Rattle.row_sizes.specs.Sizes.{source-index-small}
+use Rattle.filler_rows.specs.Storing.{Stored, Whole}
+use Rattle.filler_rows.specs.Laws.{stored-kept, stored-beside, stored-placed, placed-length, placed-within}
+use Rattle.own_rows.specs.Making.{RowMade}
+
+-- row r is to be `row`, with d elements open around it
+pub data Wanted (X : Setting) (r : ℕ) (row : List Symbol) (d : ℕ) : Type 0 where
+  of-filler : (τ : ℕ) → τ < length (X .target) → r ≡ τ → row ≡ fillerRow (X .target) τ → d ≡ 0 → Wanted X r row d
+  of-type : (s t : ℕ) → s < length (X .source) → Chosen t (kindOf (X .source) s) → r ≡ sourceRow (X .source) s t → row ≡ template X s t → d ≡ 0 → Wanted X r row d
+  of-item : (s m : ℕ) → s < length (X .source) → kindOf (X .source) s ≡ list m → r ≡ itemRow s → row ≡ itemTemplate X s → d ≡ length (dividedOf X s .before) → Wanted X r row d
+
+-- the rows before number k stand before place `at`
+pub record Done (X : Setting) (k : ℕ) (pool places : List ℕ) (at : ℕ) : Type 0 where
+  pub stored : (r : ℕ) (row : List Symbol) (d : ℕ) → Wanted X r row d → r < k → Stored pool places at r row d
+
+-- one row more, where it is what is wanted
+pub done-more : {X : Setting} {k : ℕ} {pool places : List ℕ} {at : ℕ} {content : List Symbol} {depth : ℕ} {pool′ places′ : List ℕ} {end : ℕ} → Done X k pool places at
+    → RowMade pool places at k content depth pool′ places′ end → ((row : List Symbol) (d : ℕ) → Wanted X k row d → (content ≡ row) × (depth ≡ d)) → Done X (k + 1) pool′ places′ end
+done-more {X} {k} {pool} {places} {at} {content} {depth} {pool′} {places′} {end} now made is =
+    record { stored = λ r row d wanted less. go r row d wanted less (eqb r k) refl }
+  where
+    go : (r : ℕ) (row : List Symbol) (d : ℕ) → Wanted X r row d → r < k + 1 → (b : Bool) → eqb r k ≡ b → Stored pool′ places′ end r row d
+    go r row d wanted less true e =
+        let here : r ≡ k = eqb-true r k e in
+        let what = is row d (rw here at wanted) in
+        rw (here, ← what .0, ← what .1) (stored-placed (made .placed) (made .ends) (made .holds))
+    go r row d wanted less false e =
+        stored-beside (made .placed) (eqb-false r k e) (stored-kept (made .puts) (now .stored r row d wanted (omega (arith, eqb-false r k e))))
+
+-- rows that nobody wants are passed
+pub done-past : {X : Setting} {k : ℕ} {pool places : List ℕ} {at : ℕ} (k′ : ℕ) → Done X k pool places at → ((r : ℕ) (row : List Symbol) (d : ℕ) → Wanted X r row d → r < k′ → r < k) → Done X k′ pool places at
+done-past k′ now none = record { stored = λ r row d wanted less. now .stored r row d wanted (none r row d wanted less) }
+
+-- the pool and the places stay whole
+pub whole-more : {pool₀ places₀ pool places : List ℕ} {at k : ℕ} {content : List Symbol} {depth : ℕ} {pool′ places′ : List ℕ} {end : ℕ} → Whole pool₀ places₀ pool places at
+    → RowMade pool places at k content depth pool′ places′ end → end ≤ length pool₀ → Whole pool₀ places₀ pool′ places′ end
+whole-more now made fits =
+    record {
+      pool-length = puts-length (made .puts) ∙ now .pool-length;
+      places-length = placed-length (made .placed) ∙ now .places-length;
+      fits = fits;
+      within = placed-within (made .placed) (omega (arith, made .ends)) (now .within);
+    }
+
+-- ---- what is wanted of a number
+
+module _ {source target map em : List ℕ} (ready : Ready source target map em) where
+  abbrev X : Setting
+  X = settingIn source target map em
+
+  -- row j of source type s is a template of s
+  pub wanted-type : (s j : ℕ) → j < 16 → {row : List Symbol} {d : ℕ} → Wanted X (64 + (s * 17 + j)) row d
+      → (t : ℕ) × (Chosen t (kindOf (X .source) s)) × (rowIndex (kindOf (X .source) s) t ≡ j) × (row ≡ template X s t) × (d ≡ 0)
+  unfolding itemRow sourceRow
+  wanted-type s j less (of-filler τ exists is what depth) = absurd (omega (arith, exists, length-of target, ready .target-bounded .few-types))
+  wanted-type s j less (of-type s′ t exists chosen is what depth) =
+      let small = source-index-small (ready .source-bounded) s′ t (omega (arith, exists, length-of source)) chosen in
+      let same : s′ ≡ s = omega (arith, small, is) in
+      let index-is : rowIndex (kindOf (X .source) s′) t ≡ j = omega (arith, small, is) in
+      let chosen′ : Chosen t (kindOf (X .source) s) = rw same at chosen in
+      let index : rowIndex (kindOf (X .source) s) t ≡ j = rw same at index-is in
+      (t, chosen′, index, rw same at what, depth)
+  wanted-type s j less (of-item s′ m exists kind is what depth) = absurd (omega arith)
