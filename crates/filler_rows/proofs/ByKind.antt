@@ -16,8 +16,9 @@ use Rattle.loaded_table.specs.Loaded.{tableBy, typesIn, kindsOf, countsOf, heig
 use Rattle.table_heights.specs.Sections.{membersAt, members-long, member-is, kind-sequence, kind-choice, kind-other}
 use Rattle.table_heights.specs.Heights.{least-same}
 use Rattle.rows.specs.Rows.{symbolOf}
+use Rattle.rows.specs.Symbols.{filler-of}
 use Rattle.growing.specs.Growing.{Puts}
-use Rattle.growing.specs.Laws.{symbol-filler, puts-none, puts-then, puts-after}
+use Rattle.growing.specs.Laws.{puts-none, puts-then, puts-after}
 use Rattle.filler_rows.specs.Storing.{Sound}
 
 nth-member : (ms : List ℕ) (i : ℕ) → i < length ms → List·Memᴰ (getD ms i 0) ms
@@ -71,7 +72,7 @@ module _ {target : List ℕ} (sound : Sound target) {t : ℕ} (exists : t < type
     pub hollow-choice : symbolOf (64 + m) ∷ [] ≡ fillerRow T t
     unfolding filled
     hollow-choice =
-        ap (λ (s : Symbol). s ∷ []) (symbol-filler m least-small ∙ ap filler is-least)
+        ap (λ (s : Symbol). s ∷ []) (filler-of m least-small ∙ ap filler is-least)
         ∙ sym (row ∙ ap (λ (κ : Kind). map filler (filled (heights T) κ)) (kind-choice target t exists is choosing))
 
   -- the first members are written
@@ -104,7 +105,7 @@ module _ {target : List ℕ} (sound : Sound target) {t : ℕ} (exists : t < type
             high = omega arith;
             puts =
                 subst (λ (r : List Symbol). Puts old pool′ at r place′)
-                (ap (λ (s : Symbol). map filler (take i ms) ++ (s ∷ [])) (symbol-filler m nth-small ∙ ap filler is-nth)
+                (ap (λ (s : Symbol). map filler (take i ms) ++ (s ∷ [])) (filler-of m nth-small ∙ ap filler is-nth)
                 ∙ sym (map-append filler (take i ms) (getD ms i 0 ∷ []))
                 ∙ ap (map filler) (sym (take-suc ms i 0 (omega (arith, long))) ∙ ap (λ (k : ℕ). take k ms) (sym (add-one i))))
                 (puts-then (now .puts) put);

@@ -11,8 +11,8 @@ use lib.Dec.{eqb}
 use borrow.Author.Tests.{eqb-true, eqb-false}
 use Rattle.model.specs.Definitions.Templates.{Symbol}
 use Rattle.rows.specs.Rows.{symbolOf, fromOf, toOf, depthIn, rowIn}
+use Rattle.rows.specs.Laws.{three-length, three-other, three-first, three-second, three-third}
 use Rattle.growing.specs.Growing.{Puts}
-use Rattle.row_sizes.specs.Laws.{three-length, three-other, three-first, three-second, three-third}
 use Rattle.filler_rows.specs.Storing.{Stored, PlacedRow}
 
 -- ---- rows in the pool

@@ -17,31 +17,9 @@ use Rattle.model.specs.Theorems.Facts.{WellFormed, Fits, nothing-placed, right-
 use Rattle.model.specs.Theorems.Tools.{some-none, entry-member}
 use Rattle.model.specs.Theorems.Placing.{under-same}
 use Rattle.loaded_table.specs.Loaded.{Bounded, kindFrom, tableBy, typesIn, kindsOf, countsOf, membersIn, length-of, kind-of}
+use Rattle.rows.specs.Laws.{code-sequence, code-choice, code-list, entry-there}
 use Rattle.growing.specs.declared.Span.{Span}
 use Rattle.growing.specs.Growing.{Spans}
-
--- ---- kinds by their codes
-
-code-sequence : (code count : ℕ) (row ms : List ℕ) → kindFrom code count row ≡ sequence ms → (code ≡ 2) × (take count row ≡ ms)
-code-sequence zero count row ms e = let z : _≡_ {A = ℕ} 0 1 = cc in absurd (omega arith)
-code-sequence (suc zero) count row ms e = let z : _≡_ {A = ℕ} 0 1 = cc in absurd (omega arith)
-code-sequence (suc (suc zero)) count row ms e = (refl, cc)
-code-sequence (suc (suc (suc zero))) count row ms e = let z : _≡_ {A = ℕ} 0 1 = cc in absurd (omega arith)
-code-sequence (suc (suc (suc (suc code)))) count row ms e = let z : _≡_ {A = ℕ} 0 1 = cc in absurd (omega arith)
-
-code-choice : (code count : ℕ) (row ms : List ℕ) → kindFrom code count row ≡ choice ms → (code ≡ 3) × (take count row ≡ ms)
-code-choice zero count row ms e = let z : _≡_ {A = ℕ} 0 1 = cc in absurd (omega arith)
-code-choice (suc zero) count row ms e = let z : _≡_ {A = ℕ} 0 1 = cc in absurd (omega arith)
-code-choice (suc (suc zero)) count row ms e = let z : _≡_ {A = ℕ} 0 1 = cc in absurd (omega arith)
-code-choice (suc (suc (suc zero))) count row ms e = (refl, cc)
-code-choice (suc (suc (suc (suc code)))) count row ms e = let z : _≡_ {A = ℕ} 0 1 = cc in absurd (omega arith)
-
-code-list : (code count : ℕ) (row : List ℕ) (m : ℕ) → kindFrom code count row ≡ list m → (4 ≤ code) × (getD row 0 0 ≡ m)
-code-list zero count row m e = let z : _≡_ {A = ℕ} 0 1 = cc in absurd (omega arith)
-code-list (suc zero) count row m e = let z : _≡_ {A = ℕ} 0 1 = cc in absurd (omega arith)
-code-list (suc (suc zero)) count row m e = let z : _≡_ {A = ℕ} 0 1 = cc in absurd (omega arith)
-code-list (suc (suc (suc zero))) count row m e = let z : _≡_ {A = ℕ} 0 1 = cc in absurd (omega arith)
-code-list (suc (suc (suc (suc code)))) count row m e = (omega arith, cc)
 
 -- ---- entries of a list
 
@@ -58,15 +36,9 @@ entry-at (suc (suc p)) (x ∷ xs) m e =
     (omega arith, omega (arith, later .1), rw less same)
 
 entry-of : (p : ℕ) (xs : List ℕ) → 1 ≤ p → p ≤ length xs → entry p xs ≡ some (getD xs (p - 1) 0)
-unfolding entry
-entry-of zero xs low high = absurd (omega arith)
-entry-of (suc p) [] low high = absurd (omega arith)
-entry-of (suc zero) (x ∷ xs) low high = refl
-entry-of (suc (suc p)) (x ∷ xs) low high =
-    let less : suc (suc p) - 1 ≡ suc p = omega arith in
-    let less′ : suc p - 1 ≡ p = omega arith in
-    let later : entry (suc p) xs ≡ some (getD xs p 0) = rw less′ at (entry-of (suc p) xs (omega arith) (omega arith)) in
-    rw less later
+entry-of p xs low high =
+    let on : suc (p - 1) ≡ p = omega arith in
+    subst (λ (q : ℕ). entry q xs ≡ some (getD xs (p - 1) 0)) on (entry-there xs (p - 1) (omega arith))
 
 -- ---- the members that are built
 

@@ -7,17 +7,19 @@ use native.Mathlib.Numerals.{add-one}
 use native.Mathlib.Omega.{arith}
 use lib.ListN.{length, drop, getD, length-append, length-take, length-drop}
 use lib.Seq.{drop-cons}
+use native.Mathlib.Nat.{zero-add, add-zero}
 use Rattle.model.specs.Definitions.Table.{Table}
 use Rattle.model.specs.Definitions.Filler.{fillers}
 use Rattle.model.specs.Definitions.Image.{Placement, placed, under, isPlaced, grow, growMembers}
 use Rattle.model.specs.Definitions.Templates.{Shape, bare, gap, framed, shaped, Symbol, opening, closing, hole, rowOf}
 use Rattle.loaded_table.specs.Loaded.{tableBy, membersIn}
 use Rattle.loaded_embedding.specs.Loaded.{stepsFrom}
-use Rattle.rows.specs.Rows.{symbolOf}
+use Rattle.rows.specs.Rows.{symbolOf, holeOf}
+use Rattle.rows.specs.Symbols.{filler-of, is-opening, is-hole, is-closing}
 use Rattle.growing.specs.declared.Edges.{Edges}
 use Rattle.growing.specs.declared.Span.{Span}
-use Rattle.growing.specs.Growing.{firstOf, holeOf, placementOf, placementsFrom, placementsOf, Readable, Puts, Spans, Task, elementRow}
-use Rattle.growing.specs.Laws.{symbol-opening, symbol-filler, symbol-hole, symbol-closing, puts-none, puts-then, puts-length, puts-after}
+use Rattle.growing.specs.Growing.{firstOf, placementOf, placementsFrom, placementsOf, Readable, Puts, Spans, Task, elementRow}
+use Rattle.growing.specs.Laws.{puts-none, puts-then, puts-length, puts-after}
 use Rattle.growing.specs.Parts.{held, first-path, row-none, row-built}
 use Rattle.growing.proofs.ByKind.{membersFrom, memberAt, Grows, grows, fits-positive}
 
@@ -187,7 +189,7 @@ module _ {target em : List ℕ} {e : Edges} {n t : ℕ} (task : Task target em e
 
   pub filler-written : {old new : List ℕ} {at r : ℕ} → e .count ≡ 0 → Puts old new at (symbolOf (64 + t) ∷ []) r → Puts old new at (elementRow target em e n t) r
   filler-written {old} {new} {at} {r} none written =
-      subst (λ (row : List Symbol). Puts old new at row r) (ap (λ (s : Symbol). s ∷ []) (symbol-filler t small) ∙ sym (row-none target em e n t none)) written
+      subst (λ (row : List Symbol). Puts old new at row r) (ap (λ (s : Symbol). s ∷ []) (filler-of t small) ∙ sym (row-none target em e n t none)) written
 
   module _ (some : e .count ≡ 0 → ⊥) where
     -- there is room for the opening, what the element holds, and the closing
@@ -210,7 +212,7 @@ module _ {target em : List ℕ} {e : Edges} {n t : ℕ} (task : Task target em e
           → Puts old new at (elementRow target em e n t) r
       element-written {pool′} {new} {end} {r} inner closed =
           subst (λ (row : List Symbol). Puts old new at row r)
-          (ap₂ (λ (s c : Symbol). s ∷ (held target em e n t ++ c ∷ [])) (symbol-opening t small) symbol-closing ∙ sym (row-built target em e n t some))
+          (ap₂ (λ (s c : Symbol). s ∷ (held target em e n t ++ c ∷ [])) (ap symbolOf (zero-add t) ∙ is-opening t small) (is-closing (146 + 0) (omega arith)) ∙ sym (row-built target em e n t some))
           (puts-then (puts-then opened inner) closed)
 
       -- a path that ends here: what it holds is a hole
@@ -225,7 +227,7 @@ module _ {target em : List ℕ} {e : Edges} {n t : ℕ} (task : Task target em e
           pub hole-written : Puts pool pool′ inside (held target em e n t) end
           hole-written =
               subst (λ (row : List Symbol). Puts pool pool′ inside row end)
-              (ap (λ (s : Symbol). s ∷ []) (symbol-hole (getD (e .hole) 0 0) (task .paths .is-hole 0 (omega arith))) ∙ sym holds) put
+              (ap (λ (s : Symbol). s ∷ []) (ap symbolOf (add-zero (getD (e .hole) 0 0)) ∙ is-hole (getD (e .hole) 0 0) (task .paths .is-hole 0 (omega arith))) ∙ sym holds) put
 
           pub end-fits : end < length pool′
           end-fits = omega (arith, puts-after hole-written, puts-length hole-written, inside-fits room)

@@ -4,15 +4,13 @@ use mathlib.Core.List.{List, [], _∷_, map}
 use Prim.Native.Nat.{ℕ, zero, suc, _+_, _-_, _*_, _≤_, _<_}
 use lib.ListN.{length, getD, set, replicate}
 use lib.Seq.{sets}
-use lib.Dec.{eqb, ltb}
-use Rattle.model.specs.Definitions.Basics.{pick}
 use Rattle.model.specs.Definitions.Filler.{fillers}
 use Rattle.model.specs.Definitions.Image.{Placement, placed, isPlaced, grow}
-use Rattle.model.specs.Definitions.Templates.{Hole, characters, child, items, Shape, bare, gap, framed, shaped, Symbol, rowOf}
+use Rattle.model.specs.Definitions.Templates.{Shape, bare, gap, framed, shaped, Symbol, rowOf}
 use Rattle.model.specs.Theorems.Facts.{WellFormed, Fits}
 use Rattle.loaded_table.specs.Loaded.{Bounded, tableBy, typesIn, kindsOf, countsOf}
 use Rattle.loaded_embedding.specs.Loaded.{stepsFrom}
-use Rattle.rows.specs.Rows.{symbolOf}
+use Rattle.rows.specs.Rows.{symbolOf, holeOf, IsHole}
 use Rattle.growing.specs.declared.Edges.{Edges}
 use Rattle.growing.specs.declared.Span.{Span}
 
@@ -22,13 +20,6 @@ use Rattle.growing.specs.declared.Span.{Span}
 unfoldable pub firstOf : List ℕ → ℕ
 firstOf [] = 0
 firstOf (p ∷ ps) = p
-
--- the hole that a symbol's number stands for, and the numbers of holes
-unfoldable pub holeOf : ℕ → Hole
-holeOf n = pick (ltb n 144) (child (n - 128)) (pick (eqb n 144) characters items)
-
-abbrev pub IsHole : ℕ → Type 0
-IsHole n = (128 ≤ n) × (n ≤ 145)
 
 -- what stands along one path
 unfoldable pub placementOf : List ℕ → ℕ → ℕ → ℕ → Placement Shape

@@ -1,4 +1,4 @@
--- Laws of symbols, of rows that are written, and of paths in arrays.
+-- Laws of rows that are written, and of paths in arrays.
 use mathlib.Core.Path.{_≡_, refl, sym, ap, ap₂, _∙_}
 use mathlib.Core.Bool.{Bool, true, false}
 use mathlib.Core.List.{List, [], _∷_, _++_, map-append}
@@ -8,51 +8,18 @@ use native.Mathlib.Numerals.{add-one}
 use native.Mathlib.Omega.{arith}
 use lib.ListN.{length, getD, set, length-append, length-map, length-set}
 use lib.Seq.{sets, length-sets, getD-set-same, getD-set-other}
-use lib.Dec.{eqb, ltb}
-use borrow.Author.Tests.{lt-ltb, le-ltb, eq-eqb, ne-eqb, ltb-false, eqb-true, eqb-false}
+use lib.Dec.{eqb}
+use borrow.Author.Tests.{eq-eqb, ne-eqb, eqb-true, eqb-false}
 use Rattle.model.specs.Definitions.Basics.{pick}
 use Rattle.model.specs.Definitions.Image.{Placement, under, beyond}
-use Rattle.model.specs.Definitions.Templates.{characters, child, items, Shape, Symbol, opening, closing, filler, hole}
+use Rattle.model.specs.Definitions.Templates.{Shape, Symbol, hole}
 use Rattle.loaded_embedding.specs.Loaded.{stepsFrom}
-use Rattle.rows.specs.Rows.{symbolOf}
+use Rattle.writing.specs.Laws.{sets-join}
+use Rattle.rows.specs.Rows.{symbolOf, IsHole}
 use Rattle.growing.specs.declared.Edges.{Edges}
-use Rattle.growing.specs.Growing.{firstOf, holeOf, IsHole, placementOf, placementsFrom, placementsOf, noEdges, push, Readable, Puts}
-
--- ---- numbers of symbols
-
-pub symbol-opening : (t : ℕ) → t < 64 → symbolOf (0 + t) ≡ opening t
-unfolding symbolOf pick
-symbol-opening t h = rw (zero-add t, lt-ltb t 64 h) refl
-
-pub symbol-filler : (t : ℕ) → t < 64 → symbolOf (64 + t) ≡ filler t
-unfolding symbolOf pick
-symbol-filler t h =
-    let less : 64 + t - 64 ≡ t = omega arith in
-    rw (le-ltb (64 + t) 64 (omega arith), lt-ltb (64 + t) 128 (omega arith), less) refl
-
-pub symbol-hole : (n : ℕ) → IsHole n → symbolOf (n + 0) ≡ hole (holeOf n)
-unfolding symbolOf holeOf pick
-symbol-hole n h = rw (add-zero n, le-ltb n 64 (omega arith), le-ltb n 128 (omega arith)) (go (ltb n 144) (eqb n 144) (eqb n 145) refl refl refl)
-  where
-    go : (a b c : Bool) → ltb n 144 ≡ a → eqb n 144 ≡ b → eqb n 145 ≡ c
-        → pick a (hole (child (n - 128))) (pick b (hole characters) (pick c (hole items) closing)) ≡ hole (pick a (child (n - 128)) (pick b characters items))
-    go true b c e f g = refl
-    go false true c e f g = refl
-    go false false true e f g = refl
-    go false false false e f g = absurd (omega (arith, ltb-false n 144 e, eqb-false n 144 f, eqb-false n 145 g))
-
-pub symbol-closing : symbolOf (146 + 0) ≡ closing
-unfolding symbolOf pick
-symbol-closing = refl
+use Rattle.growing.specs.Growing.{firstOf, placementOf, placementsFrom, placementsOf, noEdges, push, Readable, Puts}
 
 -- ---- rows that are written
-
--- two runs of stores, the second where the first ends, are one
-sets-join : (v w l : List ℕ) (i : ℕ) → sets (sets l i v) (i + length v) w ≡ sets l i (v ++ w)
-sets-join [] w l i = rw (add-zero i)
-sets-join (a ∷ v) w l i =
-    let e : i + suc (length v) ≡ suc i + length v = omega arith in
-    rw e (sets-join v w (set l i a) (suc i))
 
 -- nothing is written
 pub puts-none : (old : List ℕ) (at : ℕ) → Puts old old at [] at

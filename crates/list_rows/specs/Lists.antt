@@ -23,9 +23,9 @@ use Rattle.loaded_setting.specs.Ready.{settingIn, Ready}
 use Rattle.paths.specs.declared.Cut.{Cut}
 use Rattle.paths.specs.Following.{pathAt, pathsFrom, Cuts}
 use Rattle.paths.specs.Edges.{target-is, paths-are, is-list, list-edge-one, list-less}
-use Rattle.rows.specs.Rows.{rowIndex, sourceRow, itemRow}
+use Rattle.rows.specs.Rows.{rowIndex, sourceRow, itemRow, IsHole, holeOf}
 use Rattle.growing.specs.declared.Edges.{Edges}
-use Rattle.growing.specs.Growing.{placementOf, placementsOf, noEdges, push, Readable, IsHole, Task, elementRow, holeOf}
+use Rattle.growing.specs.Growing.{placementOf, placementsOf, noEdges, push, Readable, Task, elementRow}
 use Rattle.growing.specs.Laws.{push-placements, push-readable, none-readable, none-placed}
 use Rattle.row_sizes.specs.Sizes.{source-index-small}
 use Rattle.filler_rows.specs.Laws.{puts-on}

@@ -12,16 +12,16 @@ use Rattle.model.specs.Definitions.Basics.{pick, entry}
 use Rattle.model.specs.Definitions.Table.{Kind, text, empty, choice, list, kindOf, edgesOf}
 use Rattle.model.specs.Definitions.Image.{isPlaced}
 use Rattle.model.specs.Definitions.Templates.{Symbol, gap, rowOf, fillerRow, holesOf}
-use Rattle.loaded_table.specs.Loaded.{kindFrom, tableBy, typesIn, kindsOf, countsOf, membersIn, length-of}
+use Rattle.loaded_table.specs.Loaded.{tableBy, typesIn, kindsOf, countsOf, membersIn, length-of}
 use Rattle.loaded_embedding.specs.Loaded.{Bounded, targetsOf}
 use Rattle.loaded_setting.specs.Ready.{settingIn, Ready}
 use Rattle.paths.specs.Following.{pathsFrom}
 use Rattle.paths.specs.Edges.{target-is, kind-is, is-sequence, row-edges, is-choice, row-length, few}
 use Rattle.rows.specs.Rows.{indexIn, rowIndex, sourceRow, itemRow, Chosen, of-choice}
-use Rattle.rows.specs.Laws.{row-of-other}
-use Rattle.row_sizes.specs.Sizes.{source-index-small}
+use Rattle.rows.specs.Laws.{row-of-other, code-list, entry-there}
 use Rattle.growing.specs.declared.Edges.{Edges}
 use Rattle.growing.specs.Growing.{placementsFrom, placementsOf, Task, elementRow}
+use Rattle.row_sizes.specs.Sizes.{source-index-small}
 use Rattle.filler_rows.specs.Storing.{Stored, Whole}
 use Rattle.own_rows.specs.Making.{edgePlacements, EdgesFrom, OwnEdges, heldRow, RowMade, edgeRoom}
 use Rattle.own_rows.specs.Bounds.{weight}
@@ -76,12 +76,6 @@ index-within (m ∷ ms) (suc j) less = go (eqb (getD ms j 0) m) (index-within ms
     go true h = omega arith
     go false h = omega (arith, h)
 
-entry-at : (ms : List ℕ) (j : ℕ) → j < length ms → entry (suc j) ms ≡ some (getD ms j 0)
-unfolding entry
-entry-at [] j less = absurd (omega arith)
-entry-at (m ∷ ms) zero less = refl
-entry-at (m ∷ ms) (suc j) less = entry-at ms j (omega arith)
-
 index-entry : (t : ℕ) (ms : List ℕ) → indexIn t ms < length ms → entry (suc (indexIn t ms)) ms ≡ some t
 unfolding indexIn pick entry
 index-entry t [] less = absurd (omega arith)
@@ -97,7 +91,7 @@ index-entry t (m ∷ ms) less = go (eqb t m) refl (index-entry t ms)
 index-is : (ms : List ℕ) → ((p q m : ℕ) → entry p ms ≡ some m → entry q ms ≡ some m → p ≡ q) → (j : ℕ) → j < length ms → indexIn (getD ms j 0) ms ≡ j
 index-is ms distinct j less =
     let low = index-within ms j less in
-    omega (arith, distinct (suc (indexIn (getD ms j 0) ms)) (suc j) (getD ms j 0) (index-entry (getD ms j 0) ms (omega (arith, low))) (entry-at ms j less))
+    omega (arith, distinct (suc (indexIn (getD ms j 0) ms)) (suc j) (getD ms j 0) (index-entry (getD ms j 0) ms (omega (arith, low))) (entry-there ms j less))
 
 chosen-less : {t : ℕ} {ms : List ℕ} → Chosen t (choice ms) → indexIn t ms < length ms
 chosen-less (of-choice less) = less
@@ -267,13 +261,6 @@ module _ {source target map em : List ℕ} (ready : Ready source target map em) 
             room = rw on (omega (arith, now .room));
           }
         where
-          no-list : (m c count : ℕ) (row : List ℕ) → c < 4 → kindFrom c count row ≡ list m → ⊥
-          no-list m zero count row h e = let z : _≡_ {A = ℕ} 0 1 = cc in omega arith
-          no-list m (suc zero) count row h e = let z : _≡_ {A = ℕ} 0 1 = cc in omega arith
-          no-list m (suc (suc zero)) count row h e = let z : _≡_ {A = ℕ} 0 1 = cc in omega arith
-          no-list m (suc (suc (suc zero))) count row h e = let z : _≡_ {A = ℕ} 0 1 = cc in omega arith
-          no-list m (suc (suc (suc (suc c)))) count row h e = omega arith
-
           past : (r : ℕ) (row : List Symbol) (d : ℕ) → Wanted (settingIn source target map em) r row d → r < 64 + (s + 1) * 17 → r < 64 + (s * 17 + j)
           past r row d (of-filler t is-type is what depth) less = omega (arith, is-type, length-of target, ready .target-bounded .few-types)
           past r row d (of-type s′ t is-type chosen is what depth) less = go (eqb s′ s) refl
@@ -292,5 +279,5 @@ module _ {source target map em : List ℕ} (ready : Ready source target map em) 
               go true q =
                   let same : s′ ≡ s = eqb-true s′ s q in
                   let here : κ ≡ list m = rw same at kind in
-                  absurd (no-list m (getD (kindsOf source) s 0) (getD (countsOf source) s 0) (drop (s * 16) (membersIn source)) own (sym (kind-is ready exists) ∙ here))
+                  absurd (omega (arith, own, code-list (getD (kindsOf source) s 0) (getD (countsOf source) s 0) (drop (s * 16) (membersIn source)) m (sym (kind-is ready exists) ∙ here) .0))
               go false q = omega (arith, eqb-false s′ s q, is)

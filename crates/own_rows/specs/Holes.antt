@@ -22,9 +22,9 @@ use Rattle.loaded_embedding.specs.Loaded.{targetsOf}
 use Rattle.loaded_setting.specs.Ready.{settingIn, Ready}
 use Rattle.paths.specs.Following.{pathAt, pathsFrom}
 use Rattle.paths.specs.Edges.{target-is, paths-are}
-use Rattle.rows.specs.Rows.{indexIn}
+use Rattle.rows.specs.Rows.{indexIn, holeOf}
 use Rattle.growing.specs.declared.Edges.{Edges}
-use Rattle.growing.specs.Growing.{holeOf, placementOf, placementsOf, Task}
+use Rattle.growing.specs.Growing.{placementOf, placementsOf, Task}
 use Rattle.own_rows.specs.Making.{edgePlacements, EdgesFrom, heldRow}
 
 -- ---- holes

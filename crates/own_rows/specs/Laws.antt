@@ -10,11 +10,11 @@ use lib.Seq.{take-at, take-suc, getD-drop}
 use Rattle.model.specs.Definitions.Image.{Placement}
 use Rattle.model.specs.Definitions.Templates.{Shape, Symbol}
 use Rattle.loaded_embedding.specs.Loaded.{startsOf, lengthsOf}
+use Rattle.rows.specs.Rows.{symbolOf, rowIn}
+use Rattle.rows.specs.Symbols.{row-cons}
 use Rattle.growing.specs.declared.Edges.{Edges}
 use Rattle.growing.specs.Growing.{placementOf, noEdges, push, Puts}
 use Rattle.growing.specs.Laws.{push-placements, push-readable, none-readable, none-placed, puts-after}
-use Rattle.rows.specs.Rows.{symbolOf, rowIn}
-use Rattle.row_sizes.specs.Laws.{row-cons}
 use Rattle.filler_rows.specs.Laws.{row-there}
 use Rattle.own_rows.specs.Making.{edgePlacements, EdgesFrom, edgeRoom}
 

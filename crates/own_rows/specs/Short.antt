@@ -4,7 +4,7 @@ use mathlib.Core.Bool.{true}
 use mathlib.Core.List.{List, [], _∷_}
 use Prim.Native.Nat.{ℕ, zero, suc, _+_, _*_, _≤_}
 use native.Mathlib.Omega.{arith}
-use lib.ListN.{length, take, drop, getD, length-append, length-take, List·getD-eq-default}
+use lib.ListN.{length, drop, getD, length-append, length-take, List·getD-eq-default}
 use lib.Dec.{ltb}
 use borrow.Author.Tests.{ltb-true, ltb-false}
 use mathlib.Core.Bool.{Bool, false}
@@ -12,8 +12,9 @@ use Rattle.model.specs.Definitions.Table.{empty, sequence, Table, kindOf}
 use Rattle.model.specs.Definitions.Image.{isPlaced}
 use Rattle.model.specs.Definitions.Templates.{closing, rowOf}
 use Rattle.model.specs.Theorems.Facts.{All, all-none, all-more}
-use Rattle.loaded_table.specs.Loaded.{Bounded, kindFrom, tableBy, typesIn, kindsOf, countsOf, membersIn, length-of, kind-of}
+use Rattle.loaded_table.specs.Loaded.{Bounded, tableBy, typesIn, kindsOf, countsOf, membersIn, length-of, kind-of}
 use Rattle.loaded_embedding.specs.Loaded.{startsOf, lengthsOf, stepsFrom}
+use Rattle.rows.specs.Laws.{code-sequence}
 use Rattle.growing.specs.declared.Edges.{Edges}
 use Rattle.growing.specs.Growing.{placementOf, placementsOf, Task, elementRow}
 use Rattle.growing.specs.Parts.{held, first-path, row-built}
@@ -43,15 +44,6 @@ edges-gaps em map i h (suc n) =
     all-more one (edges-gaps em map (suc i) (suc h) n)
 
 -- a sequence has at most 16 members
-few-members : (code count : ℕ) (row ms : List ℕ) → count ≤ 16 → kindFrom code count row ≡ sequence ms → length ms ≤ 16
-few-members zero count row ms few e = let z : _≡_ {A = ℕ} 0 1 = cc in absurd (omega arith)
-few-members (suc zero) count row ms few e = let z : _≡_ {A = ℕ} 0 1 = cc in absurd (omega arith)
-few-members (suc (suc zero)) count row ms few e =
-    let same : take count row ≡ ms = cc in
-    omega (arith, ap length same, length-take count row)
-few-members (suc (suc (suc zero))) count row ms few e = let z : _≡_ {A = ℕ} 0 1 = cc in absurd (omega arith)
-few-members (suc (suc (suc (suc code)))) count row ms few e = let z : _≡_ {A = ℕ} 0 1 = cc in absurd (omega arith)
-
 few-of : {target : List ℕ} → Bounded target → (τ : ℕ) (ms : List ℕ) → kindOf (tableBy target) τ ≡ sequence ms → length ms ≤ 16
 few-of {target} bounded τ ms kind = go (ltb τ (typesIn target)) refl
   where
@@ -66,8 +58,9 @@ few-of {target} bounded τ ms kind = go (ltb τ (typesIn target)) refl
 
     go : (b : Bool) → ltb τ (typesIn target) ≡ b → length ms ≤ 16
     go true e =
-        few-members (getD (kindsOf target) τ 0) (getD (countsOf target) τ 0) (drop (τ * 16) (membersIn target)) ms (bounded .few-members τ)
-        (sym (kind-of target τ (ltb-true τ (typesIn target) e)) ∙ kind)
+        let row = drop (τ * 16) (membersIn target) in
+        let found = code-sequence (getD (kindsOf target) τ 0) (getD (countsOf target) τ 0) row ms (sym (kind-of target τ (ltb-true τ (typesIn target) e)) ∙ kind) in
+        omega (arith, ap length (found .1), length-take (getD (countsOf target) τ 0) row, bounded .few-members τ)
     go false e = beyond (tableBy target) τ (omega (arith, ltb-false τ (typesIn target) e, length-of target)) kind
 
 -- an element with paths below it

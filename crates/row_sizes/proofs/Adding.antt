@@ -7,9 +7,9 @@ use native.Mathlib.Omega.{arith}
 use lib.ListN.{length, getD}
 use Rattle.model.specs.Definitions.Templates.{filler, rowLength, rowLevels, rowFiller}
 use Rattle.rows.specs.Rows.{symbolOf, rowIn}
+use Rattle.rows.specs.Symbols.{is-opening, is-filler, is-hole, is-closing, row-none, row-cons}
 use Rattle.row_sizes.specs.declared.Sums.{Sums}
 use Rattle.row_sizes.specs.Sizing.{heightAt, fillAt, Small, Adds, Measures}
-use Rattle.row_sizes.specs.Laws.{is-opening, is-filler, is-hole, is-closing, row-none, row-cons}
 
 -- holding a part of a greatest number changes nothing in the whole that is held
 held-max : (l x y : ℕ) → min 60001 (max (min 60001 (max l x)) y) ≡ min 60001 (max l (max x y))
@@ -66,13 +66,13 @@ module _ {target : List ℕ} {n : ℕ} {s r : Sums} (small : Small s) where
 pub adds-hole : {target : List ℕ} {n : ℕ} {s : Sums} → Small s → 128 ≤ n → n ≤ 145 → Adds target n s s
 unfolding rowLevels rowLength rowFiller
 adds-hole {n = n} small low high =
-    let is = is-hole n low high in
+    let is = is-hole n (low, high) in
     record {
       depth = omega arith;
       high = (small .levels, small .bytes, small .filler);
-      levels = λ rest. rw (is .1) refl;
-      bytes = λ rest. rw (is .1) refl;
-      filler = λ rest. rw (is .1) refl;
+      levels = λ rest. rw is refl;
+      bytes = λ rest. rw is refl;
+      filler = λ rest. rw is refl;
     }
 
 -- the sums of the symbols before place i come with those behind it to the sums of all

@@ -10,8 +10,8 @@ use borrow.Author.Tests.{eqb-true, eqb-false}
 use Rattle.model.specs.Definitions.Templates.{rowLength, rowLevels, rowFiller}
 use Rattle.rows.specs.declared.Size.{Size}
 use Rattle.rows.specs.Rows.{fromOf, toOf, depthIn, rowIn, rowAt, SizeAt}
+use Rattle.rows.specs.Laws.{three-length, stored-other, stored-here}
 use Rattle.row_sizes.specs.Sizing.{heightAt, fillAt, Measures, Sized}
-use Rattle.row_sizes.specs.Laws.{three-length, stored-other, stored-here}
 
 module _ {target pool places sizes : List ℕ} {n : ℕ} (long : 3 * n + 2 < length sizes) (before : Sized target pool places n sizes)
     {from to depth : ℕ} (is-from : from ≡ fromOf places n) (is-to : to ≡ toOf places n) (is-depth : depth ≡ depthIn places n)

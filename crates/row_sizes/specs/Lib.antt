@@ -1,3 +1,2 @@
 pub mod Sizing
-pub mod Laws
 pub mod Sizes

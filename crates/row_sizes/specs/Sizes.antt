@@ -1,9 +1,9 @@
 -- Sizes from the numbers that the loaded target table keeps are those of the model, held at 60,001.
 use mathlib.Core.Path.{_≡_, refl, sym, ap, _∙_}
 use mathlib.Core.List.{List, [], _∷_}
-use Prim.Native.Nat.{ℕ, zero, suc, _+_, _-_, _*_, _≤_, _<_, min, max}
+use Prim.Native.Nat.{ℕ, suc, _+_, _-_, _*_, _≤_, _<_, min, max}
 use native.Mathlib.Omega.{arith}
-use lib.ListN.{length, take, drop, getD, length-take}
+use lib.ListN.{length, drop, getD, length-take}
 use Rattle.model.specs.Definitions.Table.{Kind, text, empty, sequence, choice, list, Table, kindOf}
 use Rattle.model.specs.Definitions.Image.{Setting}
 use Rattle.model.specs.Definitions.Heights.{heightOf}
@@ -11,9 +11,10 @@ use Rattle.model.specs.Definitions.Filler.{fillerLength}
 use Rattle.model.specs.Definitions.Templates.{Symbol, opening, closing, filler, hole, rowLength, rowLevels, rowFiller, template, itemTemplate, dividedOf, ownLength, ownFiller, ownLevels, itemLength, itemFiller, itemLevels}
 use Rattle.model.specs.Theorems.Facts.{All, all-none, all-more}
 use Rattle.model.specs.Theorems.Templates.{TypeBelow, template-types, item-types}
-use Rattle.loaded_table.specs.Loaded.{Bounded, Kept, kindFrom, tableBy, typesIn, kindsOf, countsOf, membersIn, length-of, kind-of}
+use Rattle.loaded_table.specs.Loaded.{Bounded, Kept, tableBy, typesIn, kindsOf, countsOf, membersIn, length-of, kind-of}
 use Rattle.loaded_setting.specs.Ready.{settingIn, Ready}
 use Rattle.rows.specs.Rows.{rowIndex, sourceRow, itemRow, Chosen, of-text, of-empty, of-sequence, of-choice, of-list, Rows, SizeAt, Sizes}
+use Rattle.rows.specs.Laws.{code-choice}
 use Rattle.row_sizes.specs.Sizing.{heightAt, fillAt, Sized}
 
 module _ {target : List ℕ} {T : Table} (kept : Kept target T) where
@@ -55,16 +56,6 @@ module _ {target : List ℕ} {T : Table} (kept : Kept target T) where
         filler-is = at .filler-is ∙ filler-same row types;
       }
 
--- a choice has at most 16 members
-few-choices : (code count : ℕ) (row ms : List ℕ) → count ≤ 16 → kindFrom code count row ≡ choice ms → length ms ≤ 16
-few-choices zero count row ms few e = let z : _≡_ {A = ℕ} 0 1 = cc in absurd (omega arith)
-few-choices (suc zero) count row ms few e = let z : _≡_ {A = ℕ} 0 1 = cc in absurd (omega arith)
-few-choices (suc (suc zero)) count row ms few e = let z : _≡_ {A = ℕ} 0 1 = cc in absurd (omega arith)
-few-choices (suc (suc (suc zero))) count row ms few e =
-    let same : take count row ≡ ms = cc in
-    omega (arith, ap length same, length-take count row)
-few-choices (suc (suc (suc (suc code)))) count row ms few e = let z : _≡_ {A = ℕ} 0 1 = cc in absurd (omega arith)
-
 index-small : (κ : Kind) (t : ℕ) → ((ms : List ℕ) → κ ≡ choice ms → length ms ≤ 16) → Chosen t κ → rowIndex κ t < 16
 unfolding rowIndex
 index-small text t few of-text = omega arith
@@ -77,7 +68,10 @@ index-small (list m) t few of-list = omega arith
 pub source-index-small : {source : List ℕ} → Bounded source → (s t : ℕ) → s < typesIn source → Chosen t (kindOf (tableBy source) s) → rowIndex (kindOf (tableBy source) s) t < 16
 source-index-small {source} bounded s t exists chosen =
     let few : (ms : List ℕ) → kindOf (tableBy source) s ≡ choice ms → length ms ≤ 16 =
-    λ ms e. few-choices (getD (kindsOf source) s 0) (getD (countsOf source) s 0) (drop (s * 16) (membersIn source)) ms (bounded .few-members s) (sym (kind-of source s exists) ∙ e) in
+    λ ms e.
+    let row = drop (s * 16) (membersIn source) in
+    let found = code-choice (getD (kindsOf source) s 0) (getD (countsOf source) s 0) row ms (sym (kind-of source s exists) ∙ e) in
+    omega (arith, ap length (found .1), length-take (getD (countsOf source) s 0) row, bounded .few-members s) in
     index-small (kindOf (tableBy source) s) t few chosen
 
 -- the row of a source type is one of the rows

@@ -7,7 +7,7 @@ use lib.Dec.{eqb, ltb}
 use Rattle.model.specs.Definitions.Basics.{pick}
 use Rattle.model.specs.Definitions.Table.{Table, Kind, text, empty, sequence, choice, list, kindOf}
 use Rattle.model.specs.Definitions.Image.{Setting}
-use Rattle.model.specs.Definitions.Templates.{Symbol, opening, closing, filler, hole, characters, child, items, template, itemTemplate, fillerRow, dividedOf, ownLength, ownFiller, ownLevels, itemLength, itemFiller, itemLevels}
+use Rattle.model.specs.Definitions.Templates.{Hole, Symbol, opening, closing, filler, hole, characters, child, items, template, itemTemplate, fillerRow, dividedOf, ownLength, ownFiller, ownLevels, itemLength, itemFiller, itemLevels}
 
 -- ---- symbols as numbers
 
@@ -21,6 +21,13 @@ symbolOf n =
     (pick (eqb n 144) (hole characters)
     (pick (eqb n 145) (hole items)
     closing))))
+
+-- the hole that a symbol's number stands for, and the numbers of holes
+unfoldable pub holeOf : ℕ → Hole
+holeOf n = pick (ltb n 144) (child (n - 128)) (pick (eqb n 144) characters items)
+
+abbrev pub IsHole : ℕ → Type 0
+IsHole n = (128 ≤ n) × (n ≤ 145)
 
 -- the row that stands in a pool from one place up to another
 unfoldable pub rowIn : List ℕ → ℕ → ℕ → List Symbol

@@ -15,9 +15,6 @@ Inv-loop target pool₀ places₀ types at₀ t₀ pool places at t = (t ≤ typ
 abbrev μ-loop : tie.MeasureT-loop
 μ-loop target pool₀ places₀ types at₀ t₀ pool places at t = types - t
 
-types-requires : tie.Need-types-requires Inv-loop μ-loop
-types-requires c κs = search needs
-
 loop-holds : tie.Need-loop-holds Inv-loop μ-loop
 loop-holds c = (omega arith, fillers-none _ _ _ (c .before .before .before .pre .1 .1))
 
@@ -72,7 +69,7 @@ filler-rows-spec =
     (tie.spec
     Inv-loop
     μ-loop
-    types-requires
+    (λ c κs. search needs)
     loop-holds
     hollow-requires
     place-requires

@@ -70,12 +70,6 @@ element-put-requires-2 t c κs =
     let start = c .before .before .before .before .before .before .before in
     opening-fits (start .pre .1 .0) (c .before .before .before .before .if1 .left) (start .pre .1 .1)
 
-element-array-read-if2 : (t : ℕ) → element-lts.Need-array-read-if2 (calls t) (element-at t) element.Post element-Inv-loop element-μ-loop
-element-array-read-if2 t c = search needs
-
-element-array-read-put : (t : ℕ) → element-lts.Need-array-read-put (calls t) (element-at t) element.Post element-Inv-loop element-μ-loop
-element-array-read-put t c = search needs
-
 element-put-requires-3 : (t : ℕ) → element-lts.Need-put-requires-3 (calls t) (element-at t) element.Post element-Inv-loop element-μ-loop
 element-put-requires-3 t c κs =
     let start = c .before .before .before .before .before .before .before .before .before .before .before .before in
@@ -94,12 +88,6 @@ element-returns-2 t c =
     let start = c .before .before .before .before .before .before .before .before .before .before .before .before .before .before .before .before .before .before .before in
     let opened = c .before .before .before .before .before .before .before .before .before .before .before .put2 .ensures in
     element-written (start .pre .1 .0) (c .before .before .before .before .before .before .before .before .before .before .before .before .before .before .before .before .if1 .left) opened (hole-written (start .pre .1 .0) (c .before .before .before .before .before .before .before .before .before .before .before .before .before .before .before .before .if1 .left) opened (c .before .before .before .before .before .before .before .before .if2 .taken) (start .pre .1 .1) (c .before .before .before .before .before .before .put3 .ensures)) (c .before .before .put4 .ensures)
-
-element-array-read-first-step : (t : ℕ) → element-lts.Need-array-read-first-step (calls t) (element-at t) element.Post element-Inv-loop element-μ-loop
-element-array-read-first-step t c = search needs
-
-element-array-read-first-step-2 : (t : ℕ) → element-lts.Need-array-read-first-step-2 (calls t) (element-at t) element.Post element-Inv-loop element-μ-loop
-element-array-read-first-step-2 t c = search needs
 
 element-first-step-requires : (t : ℕ) → element-lts.Need-first-step-requires (calls t) (element-at t) element.Post element-Inv-loop element-μ-loop
 element-first-step-requires t c κs =
@@ -171,14 +159,14 @@ pub +element-spec : {M : Type 1} → statement M
     (element-same-length t)
     (element-returns t)
     (element-put-requires-2 t)
-    (element-array-read-if2 t)
-    (element-array-read-put t)
+    (λ c. search needs)
+    (λ c. search needs)
     (element-put-requires-3 t)
     (element-put-requires-4 t)
     (element-same-length-2 t)
     (element-returns-2 t)
-    (element-array-read-first-step t)
-    (element-array-read-first-step-2 t)
+    (λ c. search needs)
+    (λ c. search needs)
     (element-first-step-requires t)
     (element-members-below-requires t)
     (element-loop-holds t)

@@ -17,9 +17,6 @@ returns c = search (needs, c .if1 .taken)
 shared-slice-read-wide : tie.Need-shared-slice-read-wide
 shared-slice-read-wide c = c .before .before .before .pre (omega (arith, c .before .if1 .left))
 
-wide-requires : tie.Need-wide-requires
-wide-requires c κs = search needs
-
 -- some step is left
 first-is : (em : List ℕ) (o left : ℕ) → (left ≡ 0 → ⊥) → firstOf (stepsFrom em o left) ≡ getD em o 0
 unfolding firstOf stepsFrom
@@ -30,4 +27,4 @@ returns-2 : tie.Need-returns-2
 returns-2 c = (c .wide .ensures .0 ∙ sym (first-is _ _ _ (c .before .before .if1 .left)), c .wide .ensures .1)
 
 pub first-step-spec : {M : Type 1} → statement M
-first-step-spec = tie.close (tie.spec returns shared-slice-read-wide wide-requires returns-2)
+first-step-spec = tie.close (tie.spec returns shared-slice-read-wide (λ c κs. search needs) returns-2)

@@ -6,22 +6,10 @@ use borrow.Author.Needs.{needs}
 use Rattle.list_rows.proofs.before_path.Statement.{statement}
 use Rattle.list_rows.proofs.before_path.Tie as tie
 
-mul-start : tie.Need-mul-start
-mul-start c = search needs
-
-start-requires : tie.Need-start-requires
-start-requires c κs = search needs
-
-add-one-path : tie.Need-add-one-path
-add-one-path c = search needs
-
-one-path-requires : tie.Need-one-path-requires
-one-path-requires c κs = search needs
-
 returns : tie.Need-returns
 returns c =
     c .one-path .ensures ∙ ap (λ (start : ℕ). onePath (start + 2) (c .before .before .args .cut .depth) 145) (c .before .start .ensures .0)
 
 pub before-path-spec : {M : Type 1} → statement M
 before-path-spec =
-    tie.close (tie.spec mul-start start-requires add-one-path one-path-requires returns)
+    tie.close (tie.spec (λ c. search needs) (λ c κs. search needs) (λ c. search needs) (λ c κs. search needs) returns)

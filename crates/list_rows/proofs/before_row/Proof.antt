@@ -10,9 +10,6 @@ use borrow.Author.Needs.{needs}
 use Rattle.list_rows.proofs.before_row.Statement.{statement}
 use Rattle.list_rows.proofs.before_row.Tie as tie
 
-list-cut-requires : tie.Need-list-cut-requires
-list-cut-requires c κs = search needs
-
 before-path-requires : tie.Need-before-path-requires
 before-path-requires c κs =
     let pre = c .before .before .before .before .pre in
@@ -21,23 +18,11 @@ before-path-requires c κs =
 target-requires : tie.Need-target-requires
 target-requires c κs = small (c .before .before .before .before .before .pre .0) (c .before .before .before .before .before .pre .1 .0 .0)
 
-add-element : tie.Need-add-element
-add-element c = search needs
-
 element-requires : tie.Need-element-requires
 element-requires c κs =
     let pre = c .before .before .before .before .before .before .before .pre in
     let cuts = c .before .before .before .list-cut .ensures in
     (own-task (pre .0) (pre .1 .0 .0) (pre .1 .0 .1) cuts (c .before .before .before-path .ensures) (c .before .target .ensures .0), omega (arith, own-short (pre .0) (pre .1 .0 .0) (pre .1 .0 .1) cuts (c .before .before .before-path .ensures) (c .before .target .ensures .0), pre .1 .1 .0))
-
-mul-place : tie.Need-mul-place
-mul-place c = search needs
-
-add-place : tie.Need-add-place
-add-place c = search needs
-
-add-place-2 : tie.Need-add-place-2
-add-place-2 c = search needs
 
 sub-place : tie.Need-sub-place
 sub-place c =
@@ -67,14 +52,14 @@ pub before-row-spec : {M : Type 1} → statement M
 before-row-spec =
     tie.close
     (tie.spec
-    list-cut-requires
+    (λ c κs. search needs)
     before-path-requires
     target-requires
-    add-element
+    (λ c. search needs)
     element-requires
-    mul-place
-    add-place
-    add-place-2
+    (λ c. search needs)
+    (λ c. search needs)
+    (λ c. search needs)
     sub-place
     place-requires
     same-length

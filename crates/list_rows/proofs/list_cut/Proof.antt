@@ -4,21 +4,6 @@ use borrow.Author.Needs.{needs}
 use Rattle.list_rows.proofs.list_cut.Statement.{statement}
 use Rattle.list_rows.proofs.list_cut.Tie as tie
 
-mul-start : tie.Need-mul-start
-mul-start c = search needs
-
-start-requires : tie.Need-start-requires
-start-requires c κs = search needs
-
-mul-steps : tie.Need-mul-steps
-mul-steps c = search needs
-
-steps-requires : tie.Need-steps-requires
-steps-requires c κs = search needs
-
-target-requires : tie.Need-target-requires
-target-requires c κs = search needs
-
 list-depth-requires : tie.Need-list-depth-requires
 list-depth-requires c κs =
     let pre = c .before .before .before .before .pre in
@@ -33,10 +18,10 @@ pub list-cut-spec : {M : Type 1} → statement M
 list-cut-spec =
     tie.close
     (tie.spec
-    mul-start
-    start-requires
-    mul-steps
-    steps-requires
-    target-requires
+    (λ c. search needs)
+    (λ c κs. search needs)
+    (λ c. search needs)
+    (λ c κs. search needs)
+    (λ c κs. search needs)
     list-depth-requires
     returns)

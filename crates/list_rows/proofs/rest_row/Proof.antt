@@ -10,31 +10,16 @@ use borrow.Author.Needs.{needs}
 use Rattle.list_rows.proofs.rest_row.Statement.{statement}
 use Rattle.list_rows.proofs.rest_row.Tie as tie
 
-list-cut-requires : tie.Need-list-cut-requires
-list-cut-requires c κs = search needs
-
 rest-path-requires : tie.Need-rest-path-requires
 rest-path-requires c κs =
     let pre = c .before .before .before .before .pre in
     (small (pre .0) (pre .1 .0 .0), depth-less (pre .0) (pre .1 .0 .0) (pre .1 .0 .1) (c .list-cut .ensures), omega (arith, pre .0 .paths-bounded .short (c .before .before .before .before .args .s * 16)))
-
-add-element : tie.Need-add-element
-add-element c = search needs
 
 element-requires : tie.Need-element-requires
 element-requires c κs =
     let pre = c .before .before .before .before .before .before .pre in
     let cuts = c .before .before .list-cut .ensures in
     (item-task (pre .0) (pre .1 .0 .0) (pre .1 .0 .1) cuts (c .before .rest-path .ensures), omega (arith, item-short (pre .0) (pre .1 .0 .0) (pre .1 .0 .1) cuts (c .before .rest-path .ensures), pre .1 .1 .0))
-
-mul-place : tie.Need-mul-place
-mul-place c = search needs
-
-add-place : tie.Need-add-place
-add-place c = search needs
-
-add-place-2 : tie.Need-add-place-2
-add-place-2 c = search needs
 
 place-requires : tie.Need-place-requires
 place-requires c κs =
@@ -60,13 +45,13 @@ pub rest-row-spec : {M : Type 1} → statement M
 rest-row-spec =
     tie.close
     (tie.spec
-    list-cut-requires
+    (λ c κs. search needs)
     rest-path-requires
-    add-element
+    (λ c. search needs)
     element-requires
-    mul-place
-    add-place
-    add-place-2
+    (λ c. search needs)
+    (λ c. search needs)
+    (λ c. search needs)
     place-requires
     same-length
     same-length-2

@@ -15,9 +15,6 @@ Inv-loop map first hole count e₀ i₀ e i = (i ≤ count) × EdgesFrom map fir
 abbrev μ-loop : tie.MeasureT-loop
 μ-loop map first hole count e₀ i₀ e i = count - i
 
-no-edges-requires : tie.Need-no-edges-requires Inv-loop μ-loop
-no-edges-requires c κs = search needs
-
 loop-holds : tie.Need-loop-holds Inv-loop μ-loop
 loop-holds c =
     let start = c .before in
@@ -59,7 +56,7 @@ edges-spec =
     (tie.spec
     Inv-loop
     μ-loop
-    no-edges-requires
+    (λ c κs. search needs)
     loop-holds
     add-with-edge
     cast-with-edge

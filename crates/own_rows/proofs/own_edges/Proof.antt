@@ -7,30 +7,12 @@ use Rattle.own_rows.specs.Making.{EdgesFrom}
 use Rattle.own_rows.proofs.own_edges.Statement.{statement}
 use Rattle.own_rows.proofs.own_edges.Tie as tie
 
-mul-first : tie.Need-mul-first
-mul-first c = search needs
-
-kind-requires : tie.Need-kind-requires
-kind-requires c κs = search needs
-
-edges-requires : tie.Need-edges-requires
-edges-requires c κs = search needs
-
 returns : tie.Need-returns
 returns c = record { of-text = λ code. c .edges .ensures; of-empty = λ code. absurd (omega (arith, code, c .before .if1 .taken, c .before .before .kind .ensures .0)); of-sequence = λ code. absurd (omega (arith, code, c .before .if1 .taken, c .before .before .kind .ensures .0)) }
-
-edges-requires-2 : tie.Need-edges-requires-2
-edges-requires-2 c κs = search needs
 
 returns-2 : tie.Need-returns-2
 returns-2 c =
     record { of-text = λ code. absurd (omega (arith, code, c .before .if2 .taken, c .before .before .before .kind .ensures .0)); of-empty = λ code. c .edges2 .ensures; of-sequence = λ code. absurd (omega (arith, code, c .before .if2 .taken, c .before .before .before .kind .ensures .0)) }
-
-count-requires : tie.Need-count-requires
-count-requires c κs = search needs
-
-edges-requires-3 : tie.Need-edges-requires-3
-edges-requires-3 c κs = search needs
 
 returns-3 : tie.Need-returns-3
 returns-3 c =
@@ -45,12 +27,12 @@ pub own-edges-spec : {M : Type 1} → statement M
 own-edges-spec =
     tie.close
     (tie.spec
-    mul-first
-    kind-requires
-    edges-requires
+    (λ c. search needs)
+    (λ c κs. search needs)
+    (λ c κs. search needs)
     returns
-    edges-requires-2
+    (λ c κs. search needs)
     returns-2
-    count-requires
-    edges-requires-3
+    (λ c κs. search needs)
+    (λ c κs. search needs)
     returns-3)

@@ -8,12 +8,6 @@ use borrow.Author.Needs.{needs}
 use Rattle.own_rows.proofs.own_row.Statement.{statement}
 use Rattle.own_rows.proofs.own_row.Tie as tie
 
-from-requires : tie.Need-from-requires
-from-requires c κs = search needs
-
-to-requires : tie.Need-to-requires
-to-requires c κs = search needs
-
 place-requires : tie.Need-place-requires
 place-requires c κs =
     let start = c .before .before .before .before .before .before .before .before .before in
@@ -26,15 +20,6 @@ returns : tie.Need-returns
 returns c =
     let start = c .before .before .before .before .before .before .before .before .before .before .before .before in
     (made-again (start .pre .0) (c .before .before .before .before .before .before .before .before .if1 .taken) (start .pre .1 .0) (c .before .before .before .before .before .before .from .ensures) (c .before .before .before .before .to .ensures) (c .before .before .place .ensures), omega arith)
-
-add-element : tie.Need-add-element
-add-element c = search needs
-
-element-requires : tie.Need-element-requires
-element-requires c κs = search needs
-
-add-place : tie.Need-add-place
-add-place c = search needs
 
 sub-place : tie.Need-sub-place
 sub-place c =
@@ -62,14 +47,14 @@ pub own-row-spec : {M : Type 1} → statement M
 own-row-spec =
     tie.close
     (tie.spec
-    from-requires
-    to-requires
+    (λ c κs. search needs)
+    (λ c κs. search needs)
     place-requires
     same-length
     returns
-    add-element
-    element-requires
-    add-place
+    (λ c. search needs)
+    (λ c κs. search needs)
+    (λ c. search needs)
     sub-place
     place-requires-2
     same-length-2

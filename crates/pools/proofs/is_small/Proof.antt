@@ -8,8 +8,5 @@ use Rattle.pools.proofs.is_small.Tie as tie
 returns : tie.Need-returns
 returns c e = true-false e refl
 
-returns-2 : tie.Need-returns-2
-returns-2 c = search needs
-
 pub is-small-spec : {M : Type 1} → statement M
-is-small-spec = tie.close (tie.spec returns returns-2)
+is-small-spec = tie.close (tie.spec returns (λ c. search needs))

@@ -14,9 +14,6 @@ Inv-loop source target map em pool₀ places₀ types at₀ s₀ pool places at 
 abbrev μ-loop : tie.MeasureT-loop
 μ-loop source target map em pool₀ places₀ types at₀ s₀ pool places at s = types - s
 
-types-requires : tie.Need-types-requires Inv-loop μ-loop
-types-requires c κs = search needs
-
 filler-rows-requires : tie.Need-filler-rows-requires Inv-loop μ-loop
 filler-rows-requires c κs =
     let start = c .before .before .before .before .before .before in
@@ -61,7 +58,7 @@ prepare-spec =
     (tie.spec
     Inv-loop
     μ-loop
-    types-requires
+    (λ c κs. search needs)
     filler-rows-requires
     loop-holds
     type-rows-requires

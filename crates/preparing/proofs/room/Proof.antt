@@ -15,14 +15,8 @@ Inv-loop source target map all total₀ i₀ total i = Adds map total₀ all tot
 abbrev μ-loop : tie.MeasureT-loop
 μ-loop source target map all total₀ i₀ total i = all - i
 
-types-requires : tie.Need-types-requires Inv-loop μ-loop
-types-requires c κs = search needs
-
 mul-all : tie.Need-mul-all Inv-loop μ-loop
 mul-all c = omega (arith, c .types .ensures .1)
-
-types-requires-2 : tie.Need-types-requires-2 Inv-loop μ-loop
-types-requires-2 c κs = search needs
 
 mul-total : tie.Need-mul-total Inv-loop μ-loop
 mul-total c = omega (arith, c .types2 .ensures .1)
@@ -63,9 +57,9 @@ room-spec =
     (tie.spec
     Inv-loop
     μ-loop
-    types-requires
+    (λ c κs. search needs)
     mul-all
-    types-requires-2
+    (λ c κs. search needs)
     mul-total
     loop-holds
     steps-requires

@@ -18,9 +18,6 @@ loop-holds c = along-none _ _ _ _ _
 shared-slice-read-wide : tie.Need-shared-slice-read-wide Inv-loop μ-loop
 shared-slice-read-wide c = omega (arith, c .before .loop-test .taken, c .before .before .before .before .pre .0)
 
-wide-requires : tie.Need-wide-requires Inv-loop μ-loop
-wide-requires c κs = search needs
-
 with-symbol-requires : tie.Need-with-symbol-requires Inv-loop μ-loop
 with-symbol-requires c κs =
     let start = c .before .before .before .before .before in
@@ -47,7 +44,7 @@ row-size-spec =
     μ-loop
     loop-holds
     shared-slice-read-wide
-    wide-requires
+    (λ c κs. search needs)
     with-symbol-requires
     add-i
     loop-less

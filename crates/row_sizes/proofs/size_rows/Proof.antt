@@ -17,9 +17,6 @@ Inv-loop source target pool places sizes₀ types rows row₀ sizes row = (lengt
 abbrev μ-loop : tie.MeasureT-loop
 μ-loop source target pool places sizes₀ types rows row₀ sizes row = rows - row
 
-types-requires : tie.Need-types-requires Inv-loop μ-loop
-types-requires c κs = search needs
-
 mul-rows : tie.Need-mul-rows Inv-loop μ-loop
 mul-rows c = omega (arith, c .types .ensures .1)
 
@@ -83,7 +80,7 @@ size-rows-spec =
     (tie.spec
     Inv-loop
     μ-loop
-    types-requires
+    (λ c κs. search needs)
     mul-rows
     add-rows
     loop-holds

@@ -27,12 +27,6 @@ other-row source s t less is-other =
     let row = ap (λ κ. rowIndex κ t) (kind-of source s less) ∙ row-of-other t _ _ _ is-other in
     (omega (arith, row), omega arith)
 
-mul-base : tie.Need-mul-base
-mul-base c = search needs
-
-add-base : tie.Need-add-base
-add-base c = search needs
-
 kind-requires : tie.Need-kind-requires
 kind-requires c κs = omega (arith, c .pre .0 .few-types, c .pre .1)
 
@@ -43,9 +37,6 @@ index-of-requires : tie.Need-index-of-requires
 index-of-requires c κs =
     let start = c .before .before .before in
     ((omega (arith, start .pre .0 .few-types, start .pre .1), omega (arith, c .count .ensures .0, start .pre .0 .few-members (start .args .s))), start .pre .0)
-
-add-result : tie.Need-add-result
-add-result c = search needs
 
 returns : tie.Need-returns
 returns c =
@@ -61,4 +52,4 @@ returns-2 c =
     other-row (start .args .source .now) (start .args .s) (start .args .t) (start .pre .1) (λ e. c .if1 .left (c .before .kind .ensures .0 ∙ e))
 
 pub source-row-spec : {M : Type 1} → statement M
-source-row-spec = tie.close (tie.spec mul-base add-base kind-requires count-requires index-of-requires add-result returns returns-2)
+source-row-spec = tie.close (tie.spec (λ c. search needs) (λ c. search needs) kind-requires count-requires index-of-requires (λ c. search needs) returns returns-2)
