@@ -3,6 +3,7 @@ use mathlib.Core.Path.{_≡_, refl, sym, ap, ap₂, subst, _∙_}
 use mathlib.Core.Bool.{Bool, true, false}
 use mathlib.Core.List.{List, [], _∷_, _++_}
 use Prim.Native.Nat.{ℕ, suc, _+_, _-_, _*_, _≤_, _<_}
+use native.Mathlib.Numerals.{add-one}
 use native.Mathlib.Omega.{arith}
 use lib.ListN.{length, getD}
 use lib.Dec.{ltb}
@@ -258,7 +259,7 @@ module _ {source target map em : List ℕ} (ready : Ready source target map em) 
       → RowMade pool places at (64 + s * 17) (template X s 0) 0 pool₁ places₁ end
       → RowMade pool₁ places₁ end (64 + (s * 17 + 16)) (itemTemplate X s) (length (dividedOf X s .before)) pool₂ places₂ last
       → end ≤ at + beforeRoom X s → last ≤ end + restRoom map X s
-      → Progress source target map em pool₀ places₀ (suc s) pool₂ places₂ last
+      → Progress source target map em pool₀ places₀ (s + 1) pool₂ places₂ last
   list-progress {pool₀} {places₀} {pool} {places} {at} {pool₁} {places₁} {end} {pool₂} {places₂} {last} now own item own-short item-short =
       let short : last ≤ at + 18 * getD (lengthsOf map) (s * 16) 0 = omega (arith, own-short, item-short, both-room) in
       let room = room-type map s (typesIn source) exists in
@@ -269,7 +270,7 @@ module _ {source target map em : List ℕ} (ready : Ready source target map em) 
       let two = done-more (done-past (64 + (s * 17 + 16)) one between) item
       (λ row d wanted. let found = wanted-item wanted in (sym (found .0), sym (found .1))) in
       let all : 64 + (s * 17 + 16) + 1 ≡ 64 + suc s * 17 = omega arith in
-      record {
+      rw (add-one s) record {
         whole = whole-more (whole-more (now .whole) own (omega (arith, short, room, now .room, puts-on (item .puts)))) item (omega (arith, short, room, now .room));
         done = subst (λ (k : ℕ). Done X k pool₂ places₂ last) all two;
         room = omega (arith, short, room, now .room);

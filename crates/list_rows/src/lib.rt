@@ -1,14 +1,13 @@
 // The rows of a source list: its own, up to the first list on its path, and that of an item.
 ghost use mathlib.Core.Path.{_≡_};
-ghost use mathlib.Core.List.{List};
-ghost use Prim.Native.Nat.{ℕ, suc, _+_, _-_, _*_, _≤_, _<_};
+ghost use Prim.Native.Nat.{_+_, _-_, _*_, _≤_, _<_};
 ghost use lib.ListN.{length, getD};
 ghost use Rattle.model.specs.Definitions.Templates.{template, itemTemplate, dividedOf};
 ghost use Rattle.loaded_table.specs.Loaded.{typesIn, kindsOf};
 ghost use Rattle.loaded_embedding.specs.Loaded.{lengthsOf};
 ghost use Rattle.loaded_setting.specs.Ready.{settingIn, Ready};
 ghost use Rattle.own_rows.specs.Making.{RowMade};
-ghost use Rattle.own_rows.specs.Progress.{Progress};
+ghost use Rattle.own_rows.specs.Progress.{Progress, Makeable, Next};
 ghost use Rattle.list_rows.specs.Lists.{onePath, beforePath, restPath, CutAt, beforeRoom, restRoom};
 use codes::MAX_MEMBERS;
 use codes::MAX_STEPS;
@@ -85,9 +84,9 @@ fn before_row(
     places: &mut [u32],
     at: usize,
 ) -> usize
-    requires ready { ⌜ Ready (now source) (now target) (now map) (now em) ⌝ }
-    requires list { ⌜ (s < typesIn (now source)) × (4 ≤ getD (kindsOf (now source)) s 0) ⌝ }
-    requires room { ⌜ (at + beforeRoom (settingIn (now source) (now target) (now map) (now em)) s ≤ length (now pool)) × (length (now pool) < 4294967296) × (3 * (64 + typesIn (now source) * 17) ≤ length (now places)) ⌝ }
+    requires makeable { ⌜ Makeable (now source) (now target) (now map) (now em) (now pool) (now places) s ⌝ }
+    requires list { ⌜ 4 ≤ getD (kindsOf (now source)) s 0 ⌝ }
+    requires room { ⌜ at + beforeRoom (settingIn (now source) (now target) (now map) (now em)) s ≤ length (now pool) ⌝ }
     ensures made { λ r. ⌜ RowMade (now (pool .entry)) (now (places .entry)) at (64 + s * 17) (template (settingIn (now (source .entry)) (now (target .entry)) (now (map .entry)) (now (em .entry))) s 0) 0 (now (pool .exit)) (now (places .exit)) r ⌝ }
     ensures short { λ r. ⌜ r ≤ at + beforeRoom (settingIn (now (source .entry)) (now (target .entry)) (now (map .entry)) (now (em .entry))) s ⌝ }
 {
@@ -110,9 +109,9 @@ fn rest_row(
     places: &mut [u32],
     at: usize,
 ) -> usize
-    requires ready { ⌜ Ready (now source) (now target) (now map) (now em) ⌝ }
-    requires list { ⌜ (s < typesIn (now source)) × (4 ≤ getD (kindsOf (now source)) s 0) ⌝ }
-    requires room { ⌜ (at + restRoom (now map) (settingIn (now source) (now target) (now map) (now em)) s ≤ length (now pool)) × (length (now pool) < 4294967296) × (3 * (64 + typesIn (now source) * 17) ≤ length (now places)) ⌝ }
+    requires makeable { ⌜ Makeable (now source) (now target) (now map) (now em) (now pool) (now places) s ⌝ }
+    requires list { ⌜ 4 ≤ getD (kindsOf (now source)) s 0 ⌝ }
+    requires room { ⌜ at + restRoom (now map) (settingIn (now source) (now target) (now map) (now em)) s ≤ length (now pool) ⌝ }
     ensures made { λ r. ⌜ RowMade (now (pool .entry)) (now (places .entry)) at (64 + (s * 17 + 16)) (itemTemplate (settingIn (now (source .entry)) (now (target .entry)) (now (map .entry)) (now (em .entry))) s) (length (dividedOf (settingIn (now (source .entry)) (now (target .entry)) (now (map .entry)) (now (em .entry))) s .before)) (now (pool .exit)) (now (places .exit)) r ⌝ }
     ensures short { λ r. ⌜ r ≤ at + restRoom (now (map .entry)) (settingIn (now (source .entry)) (now (target .entry)) (now (map .entry)) (now (em .entry))) s ⌝ }
 {
@@ -142,11 +141,9 @@ pub fn list_rows(
     places: &mut [u32],
     at: usize,
 ) -> usize
-    requires ready { ⌜ Ready (now source) (now target) (now map) (now em) ⌝ }
-    requires list { ⌜ (s < typesIn (now source)) × (4 ≤ getD (kindsOf (now source)) s 0) ⌝ }
-    requires progress { ⌜ ((pool₀ places₀ : List ℕ) × Progress (now source) (now target) (now map) (now em) pool₀ places₀ s (now pool) (now places) at) ⌝ }
-    requires room { ⌜ (length (now pool) < 4294967296) × (3 * (64 + typesIn (now source) * 17) ≤ length (now places)) ⌝ }
-    ensures { λ r. ⌜ ((pool₀ places₀ : List ℕ) → Progress (now (source .entry)) (now (target .entry)) (now (map .entry)) (now (em .entry)) pool₀ places₀ s (now (pool .entry)) (now (places .entry)) at → Progress (now (source .entry)) (now (target .entry)) (now (map .entry)) (now (em .entry)) pool₀ places₀ (suc s) (now (pool .exit)) (now (places .exit)) r) ⌝ }
+    requires next { ⌜ Next (now source) (now target) (now map) (now em) (now pool) (now places) s at ⌝ }
+    requires list { ⌜ 4 ≤ getD (kindsOf (now source)) s 0 ⌝ }
+    ensures { λ r. ⌜ Progress (now (source .entry)) (now (target .entry)) (now (map .entry)) (now (em .entry)) (now (pool .entry)) (now (places .entry)) (s + 1) (now (pool .exit)) (now (places .exit)) r ⌝ }
 {
     let end = before_row(source, target, map, em, s, pool, places, at);
     rest_row(source, target, map, em, s, pool, places, end)

@@ -1,9 +1,10 @@
 -- How far preparing has come: the rows of filler and of the source types before s are made.
-use Prim.Native.Nat.{ℕ, _+_, _-_, _*_, _≤_}
+use Prim.Native.Nat.{ℕ, _+_, _-_, _*_, _≤_, _<_}
 use mathlib.Core.List.{List}
-use lib.ListN.{length}
-use Rattle.loaded_table.specs.Loaded.{typesIn}
-use Rattle.loaded_setting.specs.Ready.{settingIn}
+use native.Mathlib.Omega.{arith}
+use lib.ListN.{length, getD}
+use Rattle.loaded_table.specs.Loaded.{typesIn, countsOf}
+use Rattle.loaded_setting.specs.Ready.{settingIn, Ready}
 use Rattle.filler_rows.specs.Storing.{Whole}
 use Rattle.own_rows.specs.Making.{edgeRoom}
 use Rattle.own_rows.specs.Wanted.{Done}
@@ -13,3 +14,19 @@ pub record Progress (source target map em pool₀ places₀ : List ℕ) (s : ℕ
   pub whole : Whole pool₀ places₀ pool places at
   pub done : Done (settingIn source target map em) (64 + s * 17) pool places at
   pub room : at + edgeRoom map (s * 16) ((typesIn source - s) * 16) ≤ length pool₀
+
+-- the rows of source type s can be made: the setting is ready, s is one of its types, and the pool and the places are large enough
+pub record Makeable (source target map em pool places : List ℕ) (s : ℕ) : Type 0 where
+  pub ready : Ready source target map em
+  pub exists : s < typesIn source
+  pub small : length pool < 4294967296
+  pub long : 3 * (64 + typesIn source * 17) ≤ length places
+
+-- its number, and the number of its members, are small
+pub few-of-type : {source target map em pool places : List ℕ} {s : ℕ} → Makeable source target map em pool places s → (s < 64) × (getD (countsOf source) s 0 ≤ 16)
+few-of-type {s = s} can = (omega (arith, can .exists, can .ready .source-bounded .few-types), can .ready .source-bounded .few-members s)
+
+-- and they are the next to be made, at place `at`
+pub record Next (source target map em pool places : List ℕ) (s at : ℕ) : Type 0 where
+  pub makeable : Makeable source target map em pool places s
+  pub progress : Progress source target map em pool places s pool places at

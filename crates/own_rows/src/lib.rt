@@ -3,13 +3,12 @@ ghost use mathlib.Core.Path.{_≡_};
 ghost use Prim.Native.Nat.{ℕ, _+_, _*_, _≤_, _<_};
 ghost use lib.ListN.{length, getD};
 ghost use Rattle.model.specs.Definitions.Templates.{fillerRow};
-ghost use Rattle.loaded_table.specs.Loaded.{tableBy, typesIn, kindsOf, countsOf};
+ghost use Rattle.loaded_table.specs.Loaded.{tableBy, kindsOf, countsOf};
 ghost use Rattle.loaded_embedding.specs.Loaded.{startsOf, lengthsOf};
-ghost use Rattle.loaded_setting.specs.Ready.{Ready};
 ghost use Rattle.growing.specs.Growing.{push, Task, elementRow};
 ghost use Rattle.filler_rows.specs.Storing.{Stored};
 ghost use Rattle.own_rows.specs.Making.{EdgesFrom, OwnEdges, heldRow, RowMade};
-ghost use Rattle.own_rows.specs.Progress.{Progress};
+ghost use Rattle.own_rows.specs.Progress.{Progress, Next};
 use codes::MAX_MEMBERS;
 use codes::MAX_STEPS;
 use codes::MAX_TYPES;
@@ -110,10 +109,8 @@ fn choice_rows(
     places: &mut [u32],
     at: usize,
 ) -> usize
-    requires ready { ⌜ Ready (now source) (now target) (now map) (now em) ⌝ }
-    requires { ⌜ (s < typesIn (now source)) × (getD (kindsOf (now source)) s 0 ≡ 3) ⌝ }
-    requires room { ⌜ (length (now pool) < 4294967296) × (3 * (64 + typesIn (now source) * 17) ≤ length (now places)) ⌝ }
-    requires progress { ⌜ Progress (now source) (now target) (now map) (now em) (now pool) (now places) s (now pool) (now places) at ⌝ }
+    requires next { ⌜ Next (now source) (now target) (now map) (now em) (now pool) (now places) s at ⌝ }
+    requires { ⌜ getD (kindsOf (now source)) s 0 ≡ 3 ⌝ }
     ensures { λ r. ⌜ Progress (now (source .entry)) (now (target .entry)) (now (map .entry)) (now (em .entry)) (now (pool .entry)) (now (places .entry)) (s + 1) (now (pool .exit)) (now (places .exit)) r ⌝ }
 {
     let t = loaded_embedding::target(map, s);
@@ -148,10 +145,8 @@ pub fn own_rows(
     places: &mut [u32],
     at: usize,
 ) -> usize
-    requires ready { ⌜ Ready (now source) (now target) (now map) (now em) ⌝ }
-    requires { ⌜ (s < typesIn (now source)) × (getD (kindsOf (now source)) s 0 < 4) ⌝ }
-    requires room { ⌜ (length (now pool) < 4294967296) × (3 * (64 + typesIn (now source) * 17) ≤ length (now places)) ⌝ }
-    requires progress { ⌜ Progress (now source) (now target) (now map) (now em) (now pool) (now places) s (now pool) (now places) at ⌝ }
+    requires next { ⌜ Next (now source) (now target) (now map) (now em) (now pool) (now places) s at ⌝ }
+    requires { ⌜ getD (kindsOf (now source)) s 0 < 4 ⌝ }
     ensures { λ r. ⌜ Progress (now (source .entry)) (now (target .entry)) (now (map .entry)) (now (em .entry)) (now (pool .entry)) (now (places .entry)) (s + 1) (now (pool .exit)) (now (places .exit)) r ⌝ }
 {
     let kind = loaded_table::kind(source, s);

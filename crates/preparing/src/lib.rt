@@ -5,7 +5,7 @@ ghost use lib.ListN.{length};
 ghost use Rattle.loaded_table.specs.Loaded.{typesIn};
 ghost use Rattle.loaded_setting.specs.Ready.{settingIn, Ready};
 ghost use Rattle.rows.specs.Rows.{toOf, Rows};
-ghost use Rattle.own_rows.specs.Progress.{Progress};
+ghost use Rattle.own_rows.specs.Progress.{Progress, Next};
 ghost use Rattle.preparing.specs.Preparing.{roomOf};
 use codes::MAX_MEMBERS;
 use filler_rows::filler_rows;
@@ -47,10 +47,7 @@ fn type_rows(
     places: &mut [u32],
     at: usize,
 ) -> usize
-    requires ready { ⌜ Ready (now source) (now target) (now map) (now em) ⌝ }
-    requires { ⌜ s < typesIn (now source) ⌝ }
-    requires room { ⌜ (length (now pool) < 4294967296) × (3 * (64 + typesIn (now source) * 17) ≤ length (now places)) ⌝ }
-    requires progress { ⌜ Progress (now source) (now target) (now map) (now em) (now pool) (now places) s (now pool) (now places) at ⌝ }
+    requires next { ⌜ Next (now source) (now target) (now map) (now em) (now pool) (now places) s at ⌝ }
     ensures { λ r. ⌜ Progress (now (source .entry)) (now (target .entry)) (now (map .entry)) (now (em .entry)) (now (pool .entry)) (now (places .entry)) (s + 1) (now (pool .exit)) (now (places .exit)) r ⌝ }
 {
     let kind = loaded_table::kind(source, s);

@@ -9,16 +9,16 @@ use Rattle.list_rows.proofs.list_rows.Tie as tie
 before-row-requires : tie.Need-before-row-requires
 before-row-requires c κs =
     let pre = c .before .before .before .before .before .pre in
-    let fits = list-room (pre .0) (pre .1 .0 .0) (pre .1 .0 .1) (pre .1 .1 .0 .2) in
-    (pre .0, (pre .1 .0, (omega (arith, fits), pre .1 .1 .1 .0, pre .1 .1 .1 .1)))
+    let can = pre .0 .makeable in
+    (can, (pre .1, omega (arith, list-room (can .ready) (can .exists) (pre .1) (pre .0 .progress))))
 
 rest-row-requires : tie.Need-rest-row-requires
 rest-row-requires c κs =
     let pre = c .before .before .before .before .before .before .before .before .before .before .before .before .pre in
-    let fits = list-room (pre .0) (pre .1 .0 .0) (pre .1 .0 .1) (pre .1 .1 .0 .2) in
+    let can = pre .0 .makeable in
     let own = c .before .before .before .before .before .before .before-row .ensures in
     let same = puts-length (own .0 .puts) in
-    (pre .0, (pre .1 .0, (omega (arith, fits, own .1, same), omega (arith, same, pre .1 .1 .1 .0), omega (arith, placed-length (own .0 .placed), pre .1 .1 .1 .1))))
+    (record { ready = can .ready; exists = can .exists; small = omega (arith, same, can .small); long = omega (arith, placed-length (own .0 .placed), can .long) }, (pre .1, omega (arith, list-room (can .ready) (can .exists) (pre .1) (pre .0 .progress), own .1, same)))
 
 same-length : tie.Need-same-length
 same-length c = omega (arith, puts-length (c .before .before .before .before .before .before .before .before .before .before .before .before-row .ensures .0 .puts), puts-length (c .before .before .before .before .rest-row .ensures .0 .puts))
@@ -31,7 +31,7 @@ returns c =
     let pre = c .before .before .before .before .before .before .before .before .before .before .before .before .before .before .before .before .before .pre in
     let own = c .before .before .before .before .before .before .before .before .before .before .before .before-row .ensures in
     let item = c .before .before .before .before .rest-row .ensures in
-    λ pool₀ places₀ now. list-progress (pre .0) (pre .1 .0 .0) (pre .1 .0 .1) now (own .0) (item .0) (own .1) (item .1)
+    list-progress (pre .0 .makeable .ready) (pre .0 .makeable .exists) (pre .1) (pre .0 .progress) (own .0) (item .0) (own .1) (item .1)
 
 pub list-rows-spec : {M : Type 1} → statement M
 list-rows-spec =

@@ -13,20 +13,20 @@ use Rattle.list_rows.proofs.rest_row.Tie as tie
 rest-path-requires : tie.Need-rest-path-requires
 rest-path-requires c κs =
     let pre = c .before .before .before .before .pre in
-    (small (pre .0) (pre .1 .0 .0), depth-less (pre .0) (pre .1 .0 .0) (pre .1 .0 .1) (c .list-cut .ensures), omega (arith, pre .0 .paths-bounded .short (c .before .before .before .before .args .s * 16)))
+    (small (pre .0 .ready) (pre .0 .exists), depth-less (pre .0 .ready) (pre .0 .exists) (pre .1 .0) (c .list-cut .ensures), omega (arith, pre .0 .ready .paths-bounded .short (c .before .before .before .before .args .s * 16)))
 
 element-requires : tie.Need-element-requires
 element-requires c κs =
     let pre = c .before .before .before .before .before .before .pre in
     let cuts = c .before .before .list-cut .ensures in
-    (item-task (pre .0) (pre .1 .0 .0) (pre .1 .0 .1) cuts (c .before .rest-path .ensures), omega (arith, item-short (pre .0) (pre .1 .0 .0) (pre .1 .0 .1) cuts (c .before .rest-path .ensures), pre .1 .1 .0))
+    (item-task (pre .0 .ready) (pre .0 .exists) (pre .1 .0) cuts (c .before .rest-path .ensures), omega (arith, item-short (pre .0 .ready) (pre .0 .exists) (pre .1 .0) cuts (c .before .rest-path .ensures), pre .1 .1))
 
 place-requires : tie.Need-place-requires
 place-requires c κs =
     let pre = c .before .before .before .before .before .before .before .before .before .before .pre in
     let cuts = c .before .before .before .before .before .before .list-cut .ensures in
-    let ends = item-end (pre .0) (pre .1 .0 .0) (pre .1 .0 .1) cuts (c .before .before .before .before .before .rest-path .ensures) (c .before .before .before .element .ensures) (pre .1 .1 .0) in
-    (omega (arith, pre .1 .0 .0, pre .1 .1 .2), omega (arith, ends, pre .1 .1 .1), omega (arith, ends, pre .1 .1 .1), omega (arith, depth-less (pre .0) (pre .1 .0 .0) (pre .1 .0 .1) cuts, pre .0 .paths-bounded .short (c .before .before .before .before .before .before .before .before .before .before .args .s * 16)))
+    let ends = item-end (pre .0 .ready) (pre .0 .exists) (pre .1 .0) cuts (c .before .before .before .before .before .rest-path .ensures) (c .before .before .before .element .ensures) (pre .1 .1) in
+    (omega (arith, pre .0 .exists, pre .0 .long), omega (arith, ends, pre .0 .small), omega (arith, ends, pre .0 .small), omega (arith, depth-less (pre .0 .ready) (pre .0 .exists) (pre .1 .0) cuts, pre .0 .ready .paths-bounded .short (c .before .before .before .before .before .before .before .before .before .before .args .s * 16)))
 
 same-length : tie.Need-same-length
 same-length c = puts-length (c .before .before .before .before .before .before .element .ensures)
@@ -39,7 +39,7 @@ returns c =
     let pre = c .before .before .before .before .before .before .before .before .before .before .before .before .before .pre in
     let cuts = c .before .before .before .before .before .before .before .before .before .list-cut .ensures in
     let puts = c .before .before .before .before .before .before .element .ensures in
-    (item-made (pre .0) (pre .1 .0 .0) (pre .1 .0 .1) cuts (c .before .before .before .before .before .before .before .before .rest-path .ensures) puts (pre .1 .1 .0) (c .before .before .place .ensures), item-end (pre .0) (pre .1 .0 .0) (pre .1 .0 .1) cuts (c .before .before .before .before .before .before .before .before .rest-path .ensures) puts (pre .1 .1 .0) .2)
+    (item-made (pre .0 .ready) (pre .0 .exists) (pre .1 .0) cuts (c .before .before .before .before .before .before .before .before .rest-path .ensures) puts (pre .1 .1) (c .before .before .place .ensures), item-end (pre .0 .ready) (pre .0 .exists) (pre .1 .0) cuts (c .before .before .before .before .before .before .before .before .rest-path .ensures) puts (pre .1 .1) .2)
 
 pub rest-row-spec : {M : Type 1} → statement M
 rest-row-spec =

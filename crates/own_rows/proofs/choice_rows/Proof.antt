@@ -4,6 +4,7 @@ use lib.ListN.{getD}
 use Rattle.loaded_table.specs.Loaded.{countsOf}
 use Prim.Native.Nat.{_-_, _≤_}
 use native.Mathlib.Omega.{arith}
+use Rattle.own_rows.specs.Progress.{few-of-type}
 use Rattle.own_rows.proofs.Steps.{Partly, choice-edges, choice-small, progress-begin, row-needs, row-more, progress-end}
 use Rattle.own_rows.proofs.choice_rows.Statement.{statement}
 use Rattle.own_rows.proofs.choice_rows.Tie as tie
@@ -15,45 +16,46 @@ abbrev μ-loop : tie.MeasureT-loop
 μ-loop source target map em s pool₀ places₀ at t count end₀ j₀ pool places end j = count - j
 
 target-requires : tie.Need-target-requires Inv-loop μ-loop
-target-requires c κs = omega (arith, c .before .before .before .pre .1 .0, c .before .before .before .pre .0 .source-bounded .few-types)
+target-requires c κs = omega (arith, few-of-type (c .before .before .before .pre .0 .makeable))
 
 count-requires : tie.Need-count-requires Inv-loop μ-loop
-count-requires c κs = omega (arith, c .before .before .before .before .pre .1 .0, c .before .before .before .before .pre .0 .source-bounded .few-types)
+count-requires c κs = omega (arith, few-of-type (c .before .before .before .before .pre .0 .makeable))
 
 loop-holds : tie.Need-loop-holds Inv-loop μ-loop
-loop-holds c = (omega arith, progress-begin (c .before .before .before .before .before .pre .0) (c .before .before .before .before .before .pre .1 .0 .0) (c .before .before .before .before .before .pre .1 .1 .1))
+loop-holds c = (omega arith, progress-begin (c .before .before .before .before .before .pre .0 .makeable .ready) (c .before .before .before .before .before .pre .0 .makeable .exists) (c .before .before .before .before .before .pre .0 .progress))
 
 mul-edges : tie.Need-mul-edges Inv-loop μ-loop
-mul-edges c = omega (arith, c .before .before .before .before .before .before .before .pre .1 .0, c .before .before .before .before .before .before .before .pre .0 .source-bounded .few-types)
+mul-edges c = omega (arith, few-of-type (c .before .before .before .before .before .before .before .pre .0 .makeable))
 
 add-edges : tie.Need-add-edges Inv-loop μ-loop
-add-edges c = omega (arith, c .before .before .before .before .before .before .before .pre .1 .0 .0, c .before .before .before .before .before .before .before .pre .0 .source-bounded .few-types, c .before .before .before .before .before .before .before .pre .0 .source-bounded .few-members (c .before .before .before .before .before .before .before .args .s), c .before .before .count .ensures .0, c .loop-test .taken)
+add-edges c = omega (arith, few-of-type (c .before .before .before .before .before .before .before .pre .0 .makeable), c .before .before .count .ensures .0, c .loop-test .taken)
 
 edges-requires : tie.Need-edges-requires Inv-loop μ-loop
 edges-requires c κs =
     let start = c .before .before .before .before .before .before .before in
-    let small = start .pre .0 .source-bounded .few-types in
-    let few = start .pre .0 .source-bounded .few-members (start .args .s) in
-    ((omega arith, omega (arith, start .pre .1 .0 .0, small, few, c .before .before .count .ensures .0, c .loop-test .taken), omega arith, omega arith), start .pre .0 .paths-bounded .short)
+    let can = start .pre .0 .makeable in
+    let few = few-of-type can in
+    ((omega arith, omega (arith, few, c .before .before .count .ensures .0, c .loop-test .taken), omega arith, omega arith), can .ready .paths-bounded .short)
 
 mul-own-row : tie.Need-mul-own-row Inv-loop μ-loop
-mul-own-row c = omega (arith, c .before .before .before .before .before .before .before .before .before .before .pre .1 .0 .0, c .before .before .before .before .before .before .before .before .before .before .pre .0 .source-bounded .few-types, c .before .before .before .before .before .before .before .before .before .before .pre .0 .source-bounded .few-members (c .before .before .before .before .before .before .before .before .before .before .args .s), c .before .before .before .before .before .count .ensures .0, c .before .before .before .loop-test .taken)
+mul-own-row c = omega (arith, few-of-type (c .before .before .before .before .before .before .before .before .before .before .pre .0 .makeable), c .before .before .before .before .before .count .ensures .0, c .before .before .before .loop-test .taken)
 
 add-own-row : tie.Need-add-own-row Inv-loop μ-loop
-add-own-row c = omega (arith, c .before .before .before .before .before .before .before .before .before .before .pre .1 .0 .0, c .before .before .before .before .before .before .before .before .before .before .pre .0 .source-bounded .few-types, c .before .before .before .before .before .before .before .before .before .before .pre .0 .source-bounded .few-members (c .before .before .before .before .before .before .before .before .before .before .args .s), c .before .before .before .before .before .count .ensures .0, c .before .before .before .loop-test .taken)
+add-own-row c = omega (arith, few-of-type (c .before .before .before .before .before .before .before .before .before .before .pre .0 .makeable), c .before .before .before .before .before .count .ensures .0, c .before .before .before .loop-test .taken)
 
 add-own-row-2 : tie.Need-add-own-row-2 Inv-loop μ-loop
-add-own-row-2 c = omega (arith, c .before .before .before .before .before .before .before .before .before .before .pre .1 .0 .0, c .before .before .before .before .before .before .before .before .before .before .pre .0 .source-bounded .few-types, c .before .before .before .before .before .before .before .before .before .before .pre .0 .source-bounded .few-members (c .before .before .before .before .before .before .before .before .before .before .args .s), c .before .before .before .before .before .count .ensures .0, c .before .before .before .loop-test .taken)
+add-own-row-2 c = omega (arith, few-of-type (c .before .before .before .before .before .before .before .before .before .before .pre .0 .makeable), c .before .before .before .before .before .count .ensures .0, c .before .before .before .loop-test .taken)
 
 own-row-requires : tie.Need-own-row-requires Inv-loop μ-loop
 own-row-requires c κs =
     let start = c .before .before .before .before .before .before .before .before .before .before in
+    let can = start .pre .0 .makeable in
     let inv = c .before .before .before .before .loop .inv in
     let count = c .before .before .before .before .before .count .ensures .0 in
-    let few = start .pre .0 .source-bounded .few-members (start .args .s) in
+    let few = few-of-type can in
     let less = c .before .before .before .loop-test .taken in
-    let row = choice-edges (start .pre .0) (start .pre .1 .0 .0) (start .pre .1 .0 .1) (omega (arith, less, count)) (c .before .before .edges .ensures) in
-    row-needs (start .pre .0) (start .pre .1 .0 .0) (inv .1) row (omega (arith, less, count, few)) (c .before .before .before .before .before .before .target .ensures .0) refl (start .pre .1 .1 .0 .0) (start .pre .1 .1 .0 .1) (omega (arith, less, count, few))
+    let row = choice-edges (can .ready) (can .exists) (start .pre .1) (omega (arith, less, count)) (c .before .before .edges .ensures) in
+    row-needs (can .ready) (can .exists) (inv .1) row (omega (arith, less, count, few)) (c .before .before .before .before .before .before .target .ensures .0) refl (can .small) (can .long) (omega (arith, less, count, few))
 
 add-j : tie.Need-add-j Inv-loop μ-loop
 add-j c = omega (arith, c .before .before .before .before .before .before .before .before .loop-test .taken)
@@ -64,12 +66,13 @@ loop-less c = omega (arith, c .before .before .before .before .before .before .b
 loop-again : tie.Need-loop-again Inv-loop μ-loop
 loop-again c =
     let start = c .before .before .before .before .before .before .before .before .before .before .before .before .before .before .before in
+    let can = start .pre .0 .makeable in
     let inv = c .before .before .before .before .before .before .before .before .before .loop .inv in
     let count = c .before .before .before .before .before .before .before .before .before .before .count .ensures .0 in
-    let few = start .pre .0 .source-bounded .few-members (start .args .s) in
+    let few = few-of-type can in
     let less = c .before .before .before .before .before .before .before .before .loop-test .taken in
-    let row = choice-edges (start .pre .0) (start .pre .1 .0 .0) (start .pre .1 .0 .1) (omega (arith, less, count)) (c .before .before .before .before .before .before .before .edges .ensures) in
-    (omega (arith, less), row-more (start .pre .0) (start .pre .1 .0 .0) (inv .1) row (omega (arith, less, count, few)) (c .before .before .before .before .before .before .before .before .before .before .before .target .ensures .0) refl (c .before .before .before .before .own-row .ensures))
+    let row = choice-edges (can .ready) (can .exists) (start .pre .1) (omega (arith, less, count)) (c .before .before .before .before .before .before .before .edges .ensures) in
+    (omega (arith, less), row-more (can .ready) (can .exists) (inv .1) row (omega (arith, less, count, few)) (c .before .before .before .before .before .before .before .before .before .before .before .target .ensures .0) refl (c .before .before .before .before .own-row .ensures))
 
 same-length : tie.Need-same-length Inv-loop μ-loop
 same-length c = c .before .loop .inv .1 .whole .pool-length
@@ -80,9 +83,10 @@ same-length-2 c = c .before .loop .inv .1 .whole .places-length
 returns : tie.Need-returns Inv-loop μ-loop
 returns c =
     let start = c .before .before .before .before .before .before .before in
+    let can = start .pre .0 .makeable in
     let inv = c .before .loop .inv in
     let all : c .before .loop .j ≡ getD (countsOf (start .args .source .now)) (start .args .s) 0 = omega (arith, inv .0, c .loop-test .left, c .before .before .count .ensures .0) in
-    progress-end (start .pre .0) (start .pre .1 .0 .0) (inv .1) (rw all (choice-small (start .pre .0) (start .pre .1 .0 .0) (start .pre .1 .0 .1))) (omega (arith, start .pre .1 .0 .1))
+    progress-end (can .ready) (can .exists) (inv .1) (rw all (choice-small (can .ready) (can .exists) (start .pre .1))) (omega (arith, start .pre .1))
 
 pub choice-rows-spec : {M : Type 1} → statement M
 choice-rows-spec =

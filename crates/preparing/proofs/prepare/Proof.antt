@@ -29,7 +29,15 @@ type-rows-requires c κs =
     let start = c .before .before .before .before .before .before .before .before .before .before .before .before .before .before .before in
     let inv = c .before .before .before .loop .inv in
     let fillers = c .before .before .before .before .before .before .before .before .filler-rows .ensures .whole in
-    (start .pre .0, (omega (arith, c .before .before .loop-test .taken, c .before .before .before .before .before .before .before .before .before .before .before .types .ensures .0), ((omega (arith, start .pre .1 .0 .1, inv .1 .whole .pool-length, fillers .pool-length), omega (arith, start .pre .1 .0 .2, inv .1 .whole .places-length, fillers .places-length)), progress-here (inv .1))))
+    record {
+      makeable = record {
+        ready = start .pre .0;
+        exists = omega (arith, c .before .before .loop-test .taken, c .before .before .before .before .before .before .before .before .before .before .before .types .ensures .0);
+        small = omega (arith, start .pre .1 .0 .1, inv .1 .whole .pool-length, fillers .pool-length);
+        long = omega (arith, start .pre .1 .0 .2, inv .1 .whole .places-length, fillers .places-length);
+      };
+      progress = progress-here (inv .1);
+    }
 
 add-s : tie.Need-add-s Inv-loop μ-loop
 add-s c = omega (arith, c .before .before .before .before .before .before .before .loop-test .taken)
