@@ -6,7 +6,7 @@ use lib.ListN.{length, set}
 use Rattle.model.specs.Definitions.Templates.{Symbol, fillerRow}
 use Rattle.model.specs.Theorems.Facts.{SoundTable}
 use Rattle.loaded_table.specs.Loaded.{Bounded, Kept, tableBy}
-use Rattle.rows.specs.Rows.{toOf, depthIn, rowAt}
+use Rattle.rows.specs.Rows.{toOf, depthIn, rowAt, HasRow}
 
 -- a loaded table within its bounds, sound, with its heights kept
 pub record Sound (target : List ℕ) : Type 0 where
@@ -22,7 +22,7 @@ pub record Stored (pool places : List ℕ) (at r : ℕ) (row : List Symbol) (d :
 
 -- it is stored that row r stands from one place up to another, with d elements open around it
 pub record PlacedRow (places after : List ℕ) (r from to d : ℕ) : Type 0 where
-  pub long : 3 * r + 2 < length places
+  pub long : HasRow places r
   pub is : after ≡ set (set (set places (3 * r) from) (3 * r + 1) to) (3 * r + 2) d
 
 -- the pool and the places are whole, and all rows end within the pool

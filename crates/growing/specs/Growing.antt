@@ -67,6 +67,10 @@ pub record Spans (target : List ℕ) (t q : ℕ) (r : Span) : Type 0 where
 
 -- ---- elements
 
+-- one more than the steps that a path has at most
+abbrev pub stepBound : ℕ
+stepBound = 13
+
 -- below an element of target type t there is a place for what stands along the paths, none in another's way; no path has n steps
 pub record Task (target em : List ℕ) (e : Edges) (n t : ℕ) : Type 0 where
   pub bounded : Bounded target

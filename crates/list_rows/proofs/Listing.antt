@@ -15,13 +15,13 @@ use Rattle.paths.specs.declared.Cut.{Cut}
 use Rattle.paths.specs.Following.{Followable, Cuts}
 use Rattle.paths.specs.Edges.{list-follows}
 use Rattle.growing.specs.declared.Edges.{Edges}
-use Rattle.growing.specs.Growing.{Puts, Task, elementRow}
+use Rattle.growing.specs.Growing.{Puts, Task, elementRow, stepBound}
 use Rattle.growing.specs.Laws.{puts-after}
 use Rattle.filler_rows.specs.Storing.{PlacedRow}
 use Rattle.filler_rows.specs.Laws.{row-there}
 use Rattle.own_rows.specs.Making.{RowMade}
-use Rattle.list_rows.specs.Lists.{onePath, beforePath, restPath, one-some, CutAt, beforeRoom, restRoom, depth-is, before-task, before-row, before-short, rest-task, rest-row, rest-short}
 use Rattle.own_rows.specs.Made.{made-end, made-new}
+use Rattle.list_rows.specs.Lists.{onePath, beforePath, restPath, one-some, CutAt, beforeRoom, restRoom, depth-is, before-task, before-row, before-short, rest-task, rest-row, rest-short}
 
 -- the path from an item on
 pub rest-path-is : (map : List ℕ) (s : ℕ) (r : Cut) {start steps : ℕ} → start ≡ getD (startsOf map) (s * 16) 0 → steps ≡ getD (lengthsOf map) (s * 16) 0
@@ -43,17 +43,17 @@ module _ {source target map em : List ℕ} (ready : Ready source target map em) 
   module _ {r : Cut} (cuts : CutAt target map em s r) {e : Edges} where
     -- its own row
     module _ {t : ℕ} (is-path : e ≡ beforePath map s r) (is-type : t ≡ getD (targetsOf map) s 0) where
-      pub own-task : Task target em e 13 t
+      pub own-task : Task target em e stepBound t
       own-task = rw (is-path, is-type) (before-task ready exists code cuts)
 
       own-some : e .count ≡ 0 → ⊥
       own-some = rw is-path (one-some em _ _ 145)
 
-      pub own-short : length (elementRow target em e 13 t) ≤ beforeRoom X s
+      pub own-short : length (elementRow target em e stepBound t) ≤ beforeRoom X s
       own-short = rw (is-path, is-type) (before-short ready exists code cuts)
 
-      module _ {pool pool′ : List ℕ} {at end : ℕ} (puts : Puts pool pool′ at (elementRow target em e 13 t) end) (room : at + beforeRoom X s ≤ length pool) where
-        own-fits : at + length (elementRow target em e 13 t) ≤ length pool
+      module _ {pool pool′ : List ℕ} {at end : ℕ} (puts : Puts pool pool′ at (elementRow target em e stepBound t) end) (room : at + beforeRoom X s ≤ length pool) where
+        own-fits : at + length (elementRow target em e stepBound t) ≤ length pool
         own-fits = omega (arith, own-short)
 
         pub own-end : (at + 2 ≤ end) × (end ≤ length pool) × (end ≤ at + beforeRoom X s)
@@ -68,13 +68,13 @@ module _ {source target map em : List ℕ} (ready : Ready source target map em) 
 
     -- the row of an item
     module _ (is-path : e ≡ restPath map s r) where
-      pub item-task : Task target em e 13 (r .item)
+      pub item-task : Task target em e stepBound (r .item)
       item-task = rw is-path (rest-task ready exists code cuts)
 
-      pub item-short : length (elementRow target em e 13 (r .item)) ≤ restRoom map X s
+      pub item-short : length (elementRow target em e stepBound (r .item)) ≤ restRoom map X s
       item-short = rw is-path (rest-short ready exists code cuts)
 
-      module _ {pool pool′ : List ℕ} {at end : ℕ} (puts : Puts pool pool′ at (elementRow target em e 13 (r .item)) end) (room : at + restRoom map X s ≤ length pool) where
+      module _ {pool pool′ : List ℕ} {at end : ℕ} (puts : Puts pool pool′ at (elementRow target em e stepBound (r .item)) end) (room : at + restRoom map X s ≤ length pool) where
         pub item-end : (at ≤ end) × (end ≤ length pool) × (end ≤ at + restRoom map X s)
         item-end = (omega (arith, puts-after puts), omega (arith, puts-after puts, item-short), omega (arith, puts-after puts, item-short))
 
@@ -82,7 +82,7 @@ module _ {source target map em : List ℕ} (ready : Ready source target map em) 
             → RowMade pool places at row (itemTemplate X s) (length (dividedOf X s .before)) pool′ places′ end
         item-made {places} {places′} {row} placed =
             record {
-              written = elementRow target em e 13 (r .item);
+              written = elementRow target em e stepBound (r .item);
               puts = puts;
               from = at;
               to = end;

@@ -24,9 +24,9 @@ use Rattle.loaded_setting.specs.Ready.{settingIn, Ready}
 use Rattle.paths.specs.declared.Cut.{Cut}
 use Rattle.paths.specs.Following.{pathAt, pathsFrom, Cuts}
 use Rattle.paths.specs.Edges.{target-is, paths-are, is-list, list-edge-one, list-less}
-use Rattle.rows.specs.Rows.{rowIndex, sourceRow, itemRow, IsHole, holeOf}
+use Rattle.rows.specs.Rows.{rowIndex, sourceRow, itemRow, IsHole, holeOf, typeRow, rowsBefore}
 use Rattle.growing.specs.declared.Edges.{Edges}
-use Rattle.growing.specs.Growing.{placementOf, placementsOf, noEdges, push, Readable, Task, elementRow}
+use Rattle.growing.specs.Growing.{placementOf, placementsOf, noEdges, push, Readable, Task, elementRow, stepBound}
 use Rattle.growing.specs.Laws.{push-placements, push-readable, none-readable, none-placed}
 use Rattle.row_sizes.specs.Sizes.{source-index-small}
 use Rattle.filler_rows.specs.Laws.{puts-on}
@@ -48,7 +48,7 @@ list-holes em map T τ i t m cuts = ap (λ (path : List ℕ). placed path (gap i
 item-row : {source target map em : List ℕ} → Ready source target map em → (s : ℕ) → s < typesIn source → edgesOf (kindOf (tableBy source) s) ≡ 1 → {r : Cut}
     → Cuts em (getD (startsOf map) (s * 16) 0) (getD (lengthsOf map) (s * 16) 0) (divide (tableBy target) (getD (targetsOf map) s 0) (pathAt em map (s * 16))) r
     → (e : Edges) → placementsOf em e ≡ placementOf em (getD (startsOf map) (s * 16) 0 + 2 * suc (r .depth) + 2) (getD (lengthsOf map) (s * 16) 0 - suc (r .depth)) 128 ∷ []
-    → elementRow target em e 13 (r .item) ≡ itemTemplate (settingIn source target map em) s
+    → elementRow target em e stepBound (r .item) ≡ itemTemplate (settingIn source target map em) s
 unfolding elementRow itemTemplate itemBy dividedOf place maxSteps shaped isPlaced placementOf onlyPath pathsFrom
 item-row {source} {target} {map} {em} ready s exists one {r} cuts e is =
     let d : Divided = divide (tableBy target) (getD (targetsOf map) s 0) (pathAt em map (s * 16)) in
@@ -96,7 +96,7 @@ module _ (em : List ℕ) (next left hole : ℕ) where
   one-weight = ap weight one-placed ∙ rw (steps-long em next left) (omega arith)
 
   -- its element is short
-  one-short : {target : List ℕ} {t : ℕ} → Task target em (onePath next left hole) 13 t → length (elementRow target em (onePath next left hole) 13 t) ≤ 18 * left + 3
+  one-short : {target : List ℕ} {t : ℕ} → Task target em (onePath next left hole) stepBound t → length (elementRow target em (onePath next left hole) stepBound t) ≤ 18 * left + 3
   one-short task = omega (arith, element-short task one-some one-gap, one-weight)
 
 -- ---- room
@@ -167,24 +167,24 @@ module _ {source target map em : List ℕ} (ready : Ready source target map em) 
         rw (target-is ready exists, paths-are ready exists, list-edge-one ready exists code, is-list ready exists code)
         (one-placed em _ _ 145 ∙ list-holes em map (tableBy target) (getD (targetsOf map) s 0) (s * 16) t (getD (membersIn source) (s * 16) 0) cuts)
 
-    pub before-task : Task target em (beforePath map s r) 13 (getD (targetsOf map) s 0)
+    pub before-task : Task target em (beforePath map s r) stepBound (getD (targetsOf map) s 0)
     unfolding maxSteps
     before-task =
-        let fits : Fits (X .target) 13 (targetOf (X .embedding) s) (holesOf gap (X .target) (kindOf (X .source) s) (targetOf (X .embedding) s) (pathsOf (X .embedding) s) 0) =
+        let fits : Fits (X .target) stepBound (targetOf (X .embedding) s) (holesOf gap (X .target) (kindOf (X .source) s) (targetOf (X .embedding) s) (pathsOf (X .embedding) s) 0) =
         holes-fit shaped X (targetOf (X .embedding) s) 0 gap (ready .valid .edges s in-source) in
         record {
           bounded = ready .target-bounded;
           well-formed = ready .valid .target-sound .well-formed;
           is-type = omega (arith, ready .valid .target-exists s in-source, target-is ready exists, length-of target);
           paths = one-readable em _ _ 145 (omega (arith, ready .paths-bounded .within (s * 16), depth-less)) (omega arith, omega arith);
-          fits = subst (λ (τ : ℕ). Fits (X .target) 13 τ (placementsOf em (beforePath map s r))) (target-is ready exists) (subst (Fits (X .target) 13 (targetOf (X .embedding) s)) (sym (before-placed 0)) fits);
+          fits = subst (λ (τ : ℕ). Fits (X .target) stepBound τ (placementsOf em (beforePath map s r))) (target-is ready exists) (subst (Fits (X .target) stepBound (targetOf (X .embedding) s)) (sym (before-placed 0)) fits);
         }
 
     pub before-row : heldRow target em (beforePath map s r) (getD (targetsOf map) s 0) ≡ template X s 0
     unfolding heldRow template templateBy
     before-row = ap₂ (λ (τ : ℕ) (ps : List (Placement Shape)). rowOf (place shaped (X .target) (fillers shaped (X .target)) τ ps)) (sym (target-is ready exists)) (before-placed 0)
 
-    pub before-short : length (elementRow target em (beforePath map s r) 13 (getD (targetsOf map) s 0)) ≤ beforeRoom X s
+    pub before-short : length (elementRow target em (beforePath map s r) stepBound (getD (targetsOf map) s 0)) ≤ beforeRoom X s
     unfolding beforeRoom
     before-short = omega (arith, one-short em _ _ 145 before-task, depth-is)
 
@@ -201,10 +201,10 @@ module _ {source target map em : List ℕ} (ready : Ready source target map em) 
         one-placed em _ _ 128
         ∙ ap₂ (λ (path : List ℕ) (h : Hole). placed path (gap h) ∷ []) (cuts .rest ∙ ap (λ (x : Divided). x .rest) (sym divided-is)) (child-hole 0 (omega arith))
 
-    pub rest-task : Task target em (restPath map s r) 13 (r .item)
+    pub rest-task : Task target em (restPath map s r) stepBound (r .item)
     unfolding maxSteps dividedOf
     rest-task =
-        let fits : Fits (X .target) 13 (dividedOf X s .item) (placed (dividedOf X s .rest) (gap (child 0)) ∷ []) =
+        let fits : Fits (X .target) stepBound (dividedOf X s .item) (placed (dividedOf X s .rest) (gap (child 0)) ∷ []) =
         rest-always-fits X (ready .valid) s _ in-source (is-list ready exists code) (gap (child 0)) in
         let item : dividedOf X s .item ≡ r .item = ap (λ (x : Divided). x .item) divided-is ∙ sym (cuts .item) in
         record {
@@ -212,13 +212,13 @@ module _ {source target map em : List ℕ} (ready : Ready source target map em) 
           well-formed = ready .valid .target-sound .well-formed;
           is-type = item-there;
           paths = one-readable em _ _ 128 (omega (arith, ready .paths-bounded .within (s * 16), depth-less)) (omega arith, omega arith);
-          fits = subst (λ (τ : ℕ). Fits (X .target) 13 τ (placementsOf em (restPath map s r))) item (subst (Fits (X .target) 13 (dividedOf X s .item)) (sym rest-placed) fits);
+          fits = subst (λ (τ : ℕ). Fits (X .target) stepBound τ (placementsOf em (restPath map s r))) item (subst (Fits (X .target) stepBound (dividedOf X s .item)) (sym rest-placed) fits);
         }
 
-    pub rest-row : elementRow target em (restPath map s r) 13 (r .item) ≡ itemTemplate X s
+    pub rest-row : elementRow target em (restPath map s r) stepBound (r .item) ≡ itemTemplate X s
     rest-row = item-row ready s exists (list-edge-one ready exists code) cuts (restPath map s r) (one-placed em _ _ 128)
 
-    pub rest-short : length (elementRow target em (restPath map s r) 13 (r .item)) ≤ restRoom map X s
+    pub rest-short : length (elementRow target em (restPath map s r) stepBound (r .item)) ≤ restRoom map X s
     unfolding restRoom
     rest-short = omega (arith, one-short em _ _ 128 rest-task, depth-is)
 
@@ -230,7 +230,7 @@ module _ {source target map em : List ℕ} (ready : Ready source target map em) 
   index-none t j e = sym (rw (is-list ready exists code) at e)
 
   -- the last row of the source list is the row of its items
-  wanted-item : {row : List Symbol} {d : ℕ} → Wanted X (64 + (s * 17 + 16)) row d → (row ≡ itemTemplate X s) × (d ≡ length (dividedOf X s .before))
+  wanted-item : {row : List Symbol} {d : ℕ} → Wanted X (typeRow s 16) row d → (row ≡ itemTemplate X s) × (d ≡ length (dividedOf X s .before))
   unfolding itemRow sourceRow
   wanted-item (of-filler τ exists is what depth) = absurd (omega (arith, exists, length-of target, ready .target-bounded .few-types))
   wanted-item (of-type s′ t exists chosen is what depth) =
@@ -238,15 +238,15 @@ module _ {source target map em : List ℕ} (ready : Ready source target map em) 
   wanted-item (of-item s′ m exists kind is what depth) = let same : s′ ≡ s = omega arith in (rw same at what, rw same at depth)
 
   -- nobody wants the rows between the two of a list
-  between : (r : ℕ) (row : List Symbol) (depth : ℕ) → Wanted X r row depth → r < 64 + (s * 17 + 16) → r < 64 + s * 17 + 1
-  between r row depth wanted less = go (ltb r (64 + s * 17 + 1)) refl
+  between : (r : ℕ) (row : List Symbol) (depth : ℕ) → Wanted X r row depth → r < typeRow s 16 → r < rowsBefore s + 1
+  between r row depth wanted less = go (ltb r (rowsBefore s + 1)) refl
     where
-      go : (b : Bool) → ltb r (64 + s * 17 + 1) ≡ b → r < 64 + s * 17 + 1
+      go : (b : Bool) → ltb r (rowsBefore s + 1) ≡ b → r < rowsBefore s + 1
       go true e = ltb-true r _ e
       go false e =
           let high = ltb-false r _ e in
-          let j : ℕ = r - (64 + s * 17) in
-          let is : r ≡ 64 + (s * 17 + j) = omega (arith, high) in
+          let j : ℕ = r - rowsBefore s in
+          let is : r ≡ typeRow s j = omega (arith, high) in
           let found = wanted-type ready s j (omega (arith, high)) (subst (λ (k : ℕ). Wanted X k row depth) is wanted) in
           absurd (omega (arith, high, index-none (found .0) j (found .2)))
 
@@ -256,20 +256,20 @@ module _ {source target map em : List ℕ} (ready : Ready source target map em) 
 
   -- its two rows are one type more
   pub list-progress : {pool₀ places₀ pool places : List ℕ} {at : ℕ} {pool₁ places₁ : List ℕ} {end : ℕ} {pool₂ places₂ : List ℕ} {last : ℕ} → Progress source target map em pool₀ places₀ s pool places at
-      → RowMade pool places at (64 + s * 17) (template X s 0) 0 pool₁ places₁ end
-      → RowMade pool₁ places₁ end (64 + (s * 17 + 16)) (itemTemplate X s) (length (dividedOf X s .before)) pool₂ places₂ last
+      → RowMade pool places at (rowsBefore s) (template X s 0) 0 pool₁ places₁ end
+      → RowMade pool₁ places₁ end (typeRow s 16) (itemTemplate X s) (length (dividedOf X s .before)) pool₂ places₂ last
       → end ≤ at + beforeRoom X s → last ≤ end + restRoom map X s
       → Progress source target map em pool₀ places₀ (s + 1) pool₂ places₂ last
   list-progress {pool₀} {places₀} {pool} {places} {at} {pool₁} {places₁} {end} {pool₂} {places₂} {last} now own item own-short item-short =
       let short : last ≤ at + 18 * getD (lengthsOf map) (s * 16) 0 = omega (arith, own-short, item-short, both-room) in
       let room = room-type map s (typesIn source) exists in
       let one = done-more (now .done) own
-      (λ row d wanted. let zero-is : 64 + s * 17 ≡ 64 + (s * 17 + 0) = omega arith in
+      (λ row d wanted. let zero-is : rowsBefore s ≡ typeRow s 0 = omega arith in
       let found = wanted-type ready s 0 (omega arith) (subst (λ (k : ℕ). Wanted X k row d) zero-is wanted) in
       (template-same (found .0) ∙ sym (found .3), sym (found .4))) in
-      let two = done-more (done-past (64 + (s * 17 + 16)) one between) item
+      let two = done-more (done-past (typeRow s 16) one between) item
       (λ row d wanted. let found = wanted-item wanted in (sym (found .0), sym (found .1))) in
-      let all : 64 + (s * 17 + 16) + 1 ≡ 64 + suc s * 17 = omega arith in
+      let all : typeRow s 16 + 1 ≡ rowsBefore (suc s) = omega arith in
       rw (add-one s) record {
         whole = whole-more (whole-more (now .whole) own (omega (arith, short, room, now .room, puts-on (item .puts)))) item (omega (arith, short, room, now .room));
         done = subst (λ (k : ℕ). Done X k pool₂ places₂ last) all two;

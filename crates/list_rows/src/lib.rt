@@ -9,6 +9,7 @@ ghost use Rattle.loaded_setting.specs.Ready.{settingIn, Ready};
 ghost use Rattle.own_rows.specs.Making.{RowMade};
 ghost use Rattle.own_rows.specs.Progress.{Progress, Makeable, Next};
 ghost use Rattle.list_rows.specs.Lists.{onePath, beforePath, restPath, CutAt, beforeRoom, restRoom};
+ghost use Rattle.rows.specs.Rows.{typeRow, rowsBefore};
 use codes::MAX_MEMBERS;
 use codes::MAX_STEPS;
 use codes::MAX_TYPES;
@@ -87,7 +88,7 @@ fn before_row(
     requires makeable { ⌜ Makeable (now source) (now target) (now map) (now em) (now pool) (now places) s ⌝ }
     requires list { ⌜ 4 ≤ getD (kindsOf (now source)) s 0 ⌝ }
     requires room { ⌜ at + beforeRoom (settingIn (now source) (now target) (now map) (now em)) s ≤ length (now pool) ⌝ }
-    ensures made { λ r. ⌜ RowMade (now (pool .entry)) (now (places .entry)) at (64 + s * 17) (template (settingIn (now (source .entry)) (now (target .entry)) (now (map .entry)) (now (em .entry))) s 0) 0 (now (pool .exit)) (now (places .exit)) r ⌝ }
+    ensures made { λ r. ⌜ RowMade (now (pool .entry)) (now (places .entry)) at (rowsBefore s) (template (settingIn (now (source .entry)) (now (target .entry)) (now (map .entry)) (now (em .entry))) s 0) 0 (now (pool .exit)) (now (places .exit)) r ⌝ }
     ensures short { λ r. ⌜ r ≤ at + beforeRoom (settingIn (now (source .entry)) (now (target .entry)) (now (map .entry)) (now (em .entry))) s ⌝ }
 {
     let cut = list_cut(source, target, map, em, s);
@@ -112,7 +113,7 @@ fn rest_row(
     requires makeable { ⌜ Makeable (now source) (now target) (now map) (now em) (now pool) (now places) s ⌝ }
     requires list { ⌜ 4 ≤ getD (kindsOf (now source)) s 0 ⌝ }
     requires room { ⌜ at + restRoom (now map) (settingIn (now source) (now target) (now map) (now em)) s ≤ length (now pool) ⌝ }
-    ensures made { λ r. ⌜ RowMade (now (pool .entry)) (now (places .entry)) at (64 + (s * 17 + 16)) (itemTemplate (settingIn (now (source .entry)) (now (target .entry)) (now (map .entry)) (now (em .entry))) s) (length (dividedOf (settingIn (now (source .entry)) (now (target .entry)) (now (map .entry)) (now (em .entry))) s .before)) (now (pool .exit)) (now (places .exit)) r ⌝ }
+    ensures made { λ r. ⌜ RowMade (now (pool .entry)) (now (places .entry)) at (typeRow s 16) (itemTemplate (settingIn (now (source .entry)) (now (target .entry)) (now (map .entry)) (now (em .entry))) s) (length (dividedOf (settingIn (now (source .entry)) (now (target .entry)) (now (map .entry)) (now (em .entry))) s .before)) (now (pool .exit)) (now (places .exit)) r ⌝ }
     ensures short { λ r. ⌜ r ≤ at + restRoom (now (map .entry)) (settingIn (now (source .entry)) (now (target .entry)) (now (map .entry)) (now (em .entry))) s ⌝ }
 {
     let cut = list_cut(source, target, map, em, s);

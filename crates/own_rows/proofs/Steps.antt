@@ -17,10 +17,10 @@ use Rattle.loaded_embedding.specs.Loaded.{Bounded, targetsOf}
 use Rattle.loaded_setting.specs.Ready.{settingIn, Ready}
 use Rattle.paths.specs.Following.{pathsFrom}
 use Rattle.paths.specs.Edges.{target-is, kind-is, is-sequence, row-edges, is-choice, row-length, few}
-use Rattle.rows.specs.Rows.{indexIn, rowIndex, sourceRow, itemRow, Chosen, of-choice}
+use Rattle.rows.specs.Rows.{indexIn, rowIndex, sourceRow, itemRow, Chosen, of-choice, HasRow, HasRows, IsWord, typeRow, rowsBefore}
 use Rattle.rows.specs.Laws.{row-of-other, code-list, entry-there}
 use Rattle.growing.specs.declared.Edges.{Edges}
-use Rattle.growing.specs.Growing.{placementsFrom, placementsOf, Task, elementRow}
+use Rattle.growing.specs.Growing.{placementsFrom, placementsOf, Task, elementRow, stepBound}
 use Rattle.row_sizes.specs.Sizes.{source-index-small}
 use Rattle.filler_rows.specs.Storing.{Stored, Whole}
 use Rattle.own_rows.specs.Making.{edgePlacements, EdgesFrom, OwnEdges, heldRow, RowMade, edgeRoom}
@@ -47,15 +47,15 @@ unfolding elementRow placementsFrom isPlaced rowOf
 element-bare target em e n t none = rw none refl
 
 -- the row of an element takes no more than its edges have room
-element-fits : {target em map : List ℕ} {e : Edges} {first hole n t : ℕ} → Task target em e 13 t → Bounded em map → EdgesFrom map first hole n e → (w : ℕ) → n ≤ w → 0 < w
-    → length (elementRow target em e 13 t) ≤ edgeRoom map first w
+element-fits : {target em map : List ℕ} {e : Edges} {first hole n t : ℕ} → Task target em e stepBound t → Bounded em map → EdgesFrom map first hole n e → (w : ℕ) → n ≤ w → 0 < w
+    → length (elementRow target em e stepBound t) ≤ edgeRoom map first w
 element-fits {target} {em} {map} {e} {first} {hole} {n} {t} task bounded edges w less wide = go (eqb (e .count) 0) refl
   where
     are : placementsOf em e ≡ edgePlacements em map first hole n
     are = edges .placements em bounded
 
-    go : (b : Bool) → eqb (e .count) 0 ≡ b → length (elementRow target em e 13 t) ≤ edgeRoom map first w
-    go true q = omega (arith, element-bare target em e 13 t (eqb-true (e .count) 0 q), room-enough map first n w less)
+    go : (b : Bool) → eqb (e .count) 0 ≡ b → length (elementRow target em e stepBound t) ≤ edgeRoom map first w
+    go true q = omega (arith, element-bare target em e stepBound t (eqb-true (e .count) 0 q), room-enough map first n w less)
     go false q =
         let short = element-short task (eqb-false (e .count) 0 q) (rw are (edges-gaps em map first hole n)) in
         omega (arith, short, ap weight are, edges-weight em map first hole n, room-enough map first n w less)
@@ -101,14 +101,14 @@ chosen-less (of-choice less) = less
 -- the first j rows of source type s are made; the edges from its edge k on still have their room
 pub record Partly (source target map em pool₀ places₀ : List ℕ) (s j k : ℕ) (pool places : List ℕ) (at : ℕ) : Type 0 where
   pub whole : Whole pool₀ places₀ pool places at
-  pub done : Done (settingIn source target map em) (64 + (s * 17 + j)) pool places at
+  pub done : Done (settingIn source target map em) (typeRow s j) pool places at
   pub room : at + edgeRoom map (s * 16 + k) (16 - k) + edgeRoom map (suc s * 16) ((typesIn source - suc s) * 16) ≤ length pool₀
 
 -- these are the paths of row j of source type s, with room of w edges from edge k on
 pub record RowEdges (source target map em : List ℕ) (s j k w : ℕ) (e : Edges) : Type 0 where
-  pub task : Task target em e 13 (getD (targetsOf map) s 0)
-  pub short : length (elementRow target em e 13 (getD (targetsOf map) s 0)) ≤ edgeRoom map (s * 16 + k) w
-  pub is : (row : List Symbol) (d : ℕ) → Wanted (settingIn source target map em) (64 + (s * 17 + j)) row d → (heldRow target em e (getD (targetsOf map) s 0) ≡ row) × (0 ≡ d)
+  pub task : Task target em e stepBound (getD (targetsOf map) s 0)
+  pub short : length (elementRow target em e stepBound (getD (targetsOf map) s 0)) ≤ edgeRoom map (s * 16 + k) w
+  pub is : (row : List Symbol) (d : ℕ) → Wanted (settingIn source target map em) (typeRow s j) row d → (heldRow target em e (getD (targetsOf map) s 0) ≡ row) × (0 ≡ d)
 
 module _ {source target map em : List ℕ} (ready : Ready source target map em) {s : ℕ} (exists : s < typesIn source) where
   abbrev κ : Kind
@@ -126,7 +126,7 @@ module _ {source target map em : List ℕ} (ready : Ready source target map em) 
   edges-placed : {j k w : ℕ} {e : Edges} {first hole n : ℕ} → j < 16 → EdgesFrom map first hole n e → first ≡ s * 16 + k → n ≤ w → 0 < w
       → (t₀ : ℕ) → HolesAre first hole n t₀ → ((t : ℕ) → Chosen t κ → rowIndex κ t ≡ j → HolesAre first hole n t) → RowEdges source target map em s j k w e
   edges-placed {j} {k} {w} {e} {first} {hole} {n} less edges where-first few wide t₀ holes each =
-      let task : Task target em e 13 τ = type-task ready exists t₀ edges holes in
+      let task : Task target em e stepBound τ = type-task ready exists t₀ edges holes in
       record {
         task = task;
         short = rw where-first at (element-fits task (ready .paths-bounded) edges w few wide);
@@ -195,7 +195,7 @@ module _ {source target map em : List ℕ} (ready : Ready source target map em) 
   module _ {pool₀ places₀ pool places : List ℕ} {at : ℕ} where
     pub progress-begin : Progress source target map em pool₀ places₀ s pool places at → Partly source target map em pool₀ places₀ s 0 0 pool places at
     progress-begin now =
-        let none : 64 + s * 17 ≡ 64 + (s * 17 + 0) = omega arith in
+        let none : rowsBefore s ≡ typeRow s 0 = omega arith in
         let left : (typesIn source - s) * 16 ≡ 16 + (typesIn source - suc s) * 16 = omega arith in
         let on : s * 16 + 16 ≡ suc s * 16 = omega arith in
         let first : s * 16 + 0 ≡ s * 16 = omega arith in
@@ -221,13 +221,13 @@ module _ {source target map em : List ℕ} (ready : Ready source target map em) 
             ap (edgeRoom map (s * 16 + k)) parts ∙ rw on at (room-split map (s * 16 + k) w (16 - (k + w)))
 
         -- there is room for it
-        partly-room : at + length (elementRow target em e 13 τ) ≤ length pool
+        partly-room : at + length (elementRow target em e stepBound τ) ≤ length pool
         partly-room = omega (arith, row .short, split, now .room, now .whole .pool-length)
 
-        partly-more : {pool′ places′ : List ℕ} {end : ℕ} → RowMade pool places at (64 + (s * 17 + j)) (heldRow target em e τ) 0 pool′ places′ end
-            → end ≤ at + length (elementRow target em e 13 τ) → Partly source target map em pool₀ places₀ s (j + 1) (k + w) pool′ places′ end
+        partly-more : {pool′ places′ : List ℕ} {end : ℕ} → RowMade pool places at (typeRow s j) (heldRow target em e τ) 0 pool′ places′ end
+            → end ≤ at + length (elementRow target em e stepBound τ) → Partly source target map em pool₀ places₀ s (j + 1) (k + w) pool′ places′ end
         partly-more made ends =
-            let on : 64 + (s * 17 + j) + 1 ≡ 64 + (s * 17 + (j + 1)) = omega arith in
+            let on : typeRow s j + 1 ≡ typeRow s (j + 1) = omega arith in
             record {
               whole = whole-more (now .whole) made (omega (arith, ends, partly-room, now .whole .pool-length));
               done = rw on at (done-more (now .done) made (row .is));
@@ -235,18 +235,18 @@ module _ {source target map em : List ℕ} (ready : Ready source target map em) 
             }
 
         -- the same, by the numbers that the code has
-        module _ {t : ℕ} (is-target : t ≡ τ) {r : ℕ} (is-row : r ≡ 64 + (s * 17 + j)) where
-          pub row-needs : length pool₀ < 4294967296 → 3 * (64 + typesIn source * 17) ≤ length places₀ → j < 17
-              → Task target em e 13 t × (Stored pool places at t (fillerRow (tableBy target) t) 0
-              × ((at + length (elementRow target em e 13 t) ≤ length pool) × (length pool < 4294967296) × (3 * r + 2 < length places) × (3 * t + 2 < length places)))
+        module _ {t : ℕ} (is-target : t ≡ τ) {r : ℕ} (is-row : r ≡ typeRow s j) where
+          pub row-needs : IsWord (length pool₀) → HasRows places₀ (typesIn source) → j < 17
+              → Task target em e stepBound t × (Stored pool places at t (fillerRow (tableBy target) t) 0
+              × ((at + length (elementRow target em e stepBound t) ≤ length pool) × IsWord (length pool) × HasRow places r × HasRow places t))
           row-needs small long less =
               let few-types = ready .target-bounded .few-types in
-              let in-pool : length pool < 4294967296 = omega (arith, now .whole .pool-length) in
-              let own : 3 * r + 2 < length places = omega (arith, now .whole .places-length) in
-              let filler : 3 * t + 2 < length places = omega (arith, now .whole .places-length, target-small, few-types) in
+              let in-pool : IsWord (length pool) = omega (arith, now .whole .pool-length) in
+              let own : HasRow places r = omega (arith, now .whole .places-length) in
+              let filler : HasRow places t = omega (arith, now .whole .places-length, target-small, few-types) in
               (rw is-target (row .task), (rw is-target partly-filler, (rw is-target partly-room, in-pool, own, filler)))
 
-          pub row-more : {pool′ places′ : List ℕ} {end : ℕ} → RowMade pool places at r (heldRow target em e t) 0 pool′ places′ end × (end ≤ at + length (elementRow target em e 13 t))
+          pub row-more : {pool′ places′ : List ℕ} {end : ℕ} → RowMade pool places at r (heldRow target em e t) 0 pool′ places′ end × (end ≤ at + length (elementRow target em e stepBound t))
               → Partly source target map em pool₀ places₀ s (j + 1) (k + w) pool′ places′ end
           row-more made = partly-more (rw (is-target, is-row) at (made .0)) (rw is-target at (made .1))
 
@@ -257,15 +257,15 @@ module _ {source target map em : List ℕ} (ready : Ready source target map em) 
           let on : s + 1 ≡ suc s = omega arith in
           record {
             whole = now .whole;
-            done = done-past (64 + (s + 1) * 17) (now .done) (λ r row d wanted less. past r row d wanted less);
+            done = done-past (rowsBefore (s + 1)) (now .done) (λ r row d wanted less. past r row d wanted less);
             room = rw on (omega (arith, now .room));
           }
         where
-          past : (r : ℕ) (row : List Symbol) (d : ℕ) → Wanted (settingIn source target map em) r row d → r < 64 + (s + 1) * 17 → r < 64 + (s * 17 + j)
+          past : (r : ℕ) (row : List Symbol) (d : ℕ) → Wanted (settingIn source target map em) r row d → r < rowsBefore (s + 1) → r < typeRow s j
           past r row d (of-filler t is-type is what depth) less = omega (arith, is-type, length-of target, ready .target-bounded .few-types)
           past r row d (of-type s′ t is-type chosen is what depth) less = go (eqb s′ s) refl
             where
-              go : (b : Bool) → eqb s′ s ≡ b → r < 64 + (s * 17 + j)
+              go : (b : Bool) → eqb s′ s ≡ b → r < typeRow s j
               go true q =
                   let same : s′ ≡ s = eqb-true s′ s q in
                   let index : rowIndex κ t < j = small t (rw same at chosen) in
@@ -275,7 +275,7 @@ module _ {source target map em : List ℕ} (ready : Ready source target map em) 
                   omega (arith, eqb-false s′ s q, is, source-index-small (ready .source-bounded) s′ t (omega (arith, is-type, length-of source)) chosen)
           past r row d (of-item s′ m is-type kind is what depth) less = go (eqb s′ s) refl
             where
-              go : (b : Bool) → eqb s′ s ≡ b → r < 64 + (s * 17 + j)
+              go : (b : Bool) → eqb s′ s ≡ b → r < typeRow s j
               go true q =
                   let same : s′ ≡ s = eqb-true s′ s q in
                   let here : κ ≡ list m = rw same at kind in

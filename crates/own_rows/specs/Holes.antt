@@ -24,7 +24,7 @@ use Rattle.paths.specs.Following.{pathAt, pathsFrom}
 use Rattle.paths.specs.Edges.{target-is, paths-are}
 use Rattle.rows.specs.Rows.{indexIn, holeOf}
 use Rattle.growing.specs.declared.Edges.{Edges}
-use Rattle.growing.specs.Growing.{placementOf, placementsOf, Task}
+use Rattle.growing.specs.Growing.{placementOf, placementsOf, Task, stepBound}
 use Rattle.own_rows.specs.Making.{edgePlacements, EdgesFrom, heldRow}
 
 -- ---- holes
@@ -95,17 +95,17 @@ module _ {source target map em : List ℕ} (ready : Ready source target map em) 
   placed-are : placementsOf em e ≡ holesOf gap (X .target) (kindOf (X .source) s) (targetOf (X .embedding) s) (pathsOf (X .embedding) s) t
   placed-are = rw (target-is ready exists, paths-are ready exists) (edges .placements em (ready .paths-bounded) ∙ holes)
 
-  pub type-task : Task target em e 13 (getD (targetsOf map) s 0)
+  pub type-task : Task target em e stepBound (getD (targetsOf map) s 0)
   unfolding maxSteps
   type-task =
-      let fits : Fits (X .target) 13 (targetOf (X .embedding) s) (holesOf gap (X .target) (kindOf (X .source) s) (targetOf (X .embedding) s) (pathsOf (X .embedding) s) t) =
+      let fits : Fits (X .target) stepBound (targetOf (X .embedding) s) (holesOf gap (X .target) (kindOf (X .source) s) (targetOf (X .embedding) s) (pathsOf (X .embedding) s) t) =
       holes-fit shaped X (targetOf (X .embedding) s) t gap (ready .valid .edges s in-source) in
       record {
         bounded = ready .target-bounded;
         well-formed = ready .valid .target-sound .well-formed;
         is-type = omega (arith, ready .valid .target-exists s in-source, target-is ready exists, length-of target);
         paths = edges .readable em (ready .paths-bounded);
-        fits = subst (λ (τ : ℕ). Fits (X .target) 13 τ (placementsOf em e)) (target-is ready exists) (subst (Fits (X .target) 13 (targetOf (X .embedding) s)) (sym placed-are) fits);
+        fits = subst (λ (τ : ℕ). Fits (X .target) stepBound τ (placementsOf em e)) (target-is ready exists) (subst (Fits (X .target) stepBound (targetOf (X .embedding) s)) (sym placed-are) fits);
       }
 
   pub type-template : heldRow target em e (getD (targetsOf map) s 0) ≡ template X s t

@@ -5,6 +5,7 @@ use native.Mathlib.Omega.{arith}
 use lib.ListN.{length, getD}
 use Rattle.loaded_table.specs.Loaded.{typesIn, countsOf}
 use Rattle.loaded_setting.specs.Ready.{settingIn, Ready}
+use Rattle.rows.specs.Rows.{HasRows, IsWord, rowsBefore}
 use Rattle.filler_rows.specs.Storing.{Whole}
 use Rattle.own_rows.specs.Making.{edgeRoom}
 use Rattle.own_rows.specs.Wanted.{Done}
@@ -12,15 +13,15 @@ use Rattle.own_rows.specs.Wanted.{Done}
 -- they stand before place `at`, and there is room for those of the other types
 pub record Progress (source target map em pool₀ places₀ : List ℕ) (s : ℕ) (pool places : List ℕ) (at : ℕ) : Type 0 where
   pub whole : Whole pool₀ places₀ pool places at
-  pub done : Done (settingIn source target map em) (64 + s * 17) pool places at
+  pub done : Done (settingIn source target map em) (rowsBefore s) pool places at
   pub room : at + edgeRoom map (s * 16) ((typesIn source - s) * 16) ≤ length pool₀
 
 -- the rows of source type s can be made: the setting is ready, s is one of its types, and the pool and the places are large enough
 pub record Makeable (source target map em pool places : List ℕ) (s : ℕ) : Type 0 where
   pub ready : Ready source target map em
   pub exists : s < typesIn source
-  pub small : length pool < 4294967296
-  pub long : 3 * (64 + typesIn source * 17) ≤ length places
+  pub small : IsWord (length pool)
+  pub long : HasRows places (typesIn source)
 
 -- its number, and the number of its members, are small
 pub few-of-type : {source target map em pool places : List ℕ} {s : ℕ} → Makeable source target map em pool places s → (s < 64) × (getD (countsOf source) s 0 ≤ 16)

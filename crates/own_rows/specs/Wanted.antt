@@ -2,7 +2,7 @@
 use mathlib.Core.Path.{_≡_, refl, _∙_}
 use mathlib.Core.Bool.{Bool, true, false}
 use mathlib.Core.List.{List}
-use Prim.Native.Nat.{ℕ, _+_, _*_, _≤_, _<_}
+use Prim.Native.Nat.{ℕ, _+_, _≤_, _<_}
 use native.Mathlib.Omega.{arith}
 use lib.ListN.{length}
 use lib.Dec.{eqb}
@@ -12,7 +12,7 @@ use Rattle.model.specs.Definitions.Image.{Setting}
 use Rattle.model.specs.Definitions.Templates.{Symbol, template, itemTemplate, fillerRow, dividedOf}
 use Rattle.loaded_table.specs.Loaded.{length-of}
 use Rattle.loaded_setting.specs.Ready.{settingIn, Ready}
-use Rattle.rows.specs.Rows.{rowIndex, sourceRow, itemRow, Chosen}
+use Rattle.rows.specs.Rows.{rowIndex, sourceRow, itemRow, Chosen, typeRow}
 use Rattle.growing.specs.Laws.{puts-length}
 use Rattle.row_sizes.specs.Sizes.{source-index-small}
 use Rattle.filler_rows.specs.Storing.{Stored, Whole}
@@ -65,7 +65,7 @@ module _ {source target map em : List ℕ} (ready : Ready source target map em) 
   X = settingIn source target map em
 
   -- row j of source type s is a template of s
-  pub wanted-type : (s j : ℕ) → j < 16 → {row : List Symbol} {d : ℕ} → Wanted X (64 + (s * 17 + j)) row d
+  pub wanted-type : (s j : ℕ) → j < 16 → {row : List Symbol} {d : ℕ} → Wanted X (typeRow s j) row d
       → (t : ℕ) × (Chosen t (kindOf (X .source) s)) × (rowIndex (kindOf (X .source) s) t ≡ j) × (row ≡ template X s t) × (d ≡ 0)
   unfolding itemRow sourceRow
   wanted-type s j less (of-filler τ exists is what depth) = absurd (omega (arith, exists, length-of target, ready .target-bounded .few-types))

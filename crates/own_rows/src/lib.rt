@@ -5,10 +5,11 @@ ghost use lib.ListN.{length, getD};
 ghost use Rattle.model.specs.Definitions.Templates.{fillerRow};
 ghost use Rattle.loaded_table.specs.Loaded.{tableBy, kindsOf, countsOf};
 ghost use Rattle.loaded_embedding.specs.Loaded.{startsOf, lengthsOf};
-ghost use Rattle.growing.specs.Growing.{push, Task, elementRow};
+ghost use Rattle.growing.specs.Growing.{push, Task, elementRow, stepBound};
 ghost use Rattle.filler_rows.specs.Storing.{Stored};
 ghost use Rattle.own_rows.specs.Making.{EdgesFrom, OwnEdges, heldRow, RowMade};
 ghost use Rattle.own_rows.specs.Progress.{Progress, Next};
+ghost use Rattle.rows.specs.Rows.{HasRow, IsWord};
 use codes::MAX_MEMBERS;
 use codes::MAX_STEPS;
 use codes::MAX_TYPES;
@@ -63,10 +64,10 @@ fn own_row(
     row: usize,
     at: usize,
 ) -> usize
-    requires task { ⌜ Task (now target) (now em) e 13 t ⌝ }
+    requires task { ⌜ Task (now target) (now em) e stepBound t ⌝ }
     requires stored { ⌜ Stored (now pool) (now places) at t (fillerRow (tableBy (now target)) t) 0 ⌝ }
-    requires room { ⌜ (at + length (elementRow (now target) (now em) e 13 t) ≤ length (now pool)) × (length (now pool) < 4294967296) × (3 * row + 2 < length (now places)) × (3 * t + 2 < length (now places)) ⌝ }
-    ensures { λ r. ⌜ RowMade (now (pool .entry)) (now (places .entry)) at row (heldRow (now (target .entry)) (now (em .entry)) e t) 0 (now (pool .exit)) (now (places .exit)) r × (r ≤ at + length (elementRow (now (target .entry)) (now (em .entry)) e 13 t)) ⌝ }
+    requires room { ⌜ (at + length (elementRow (now target) (now em) e stepBound t) ≤ length (now pool)) × IsWord (length (now pool)) × HasRow (now places) row × HasRow (now places) t ⌝ }
+    ensures { λ r. ⌜ RowMade (now (pool .entry)) (now (places .entry)) at row (heldRow (now (target .entry)) (now (em .entry)) e t) 0 (now (pool .exit)) (now (places .exit)) r × (r ≤ at + length (elementRow (now (target .entry)) (now (em .entry)) e stepBound t)) ⌝ }
 {
     let count = e.count;
     if count == 0 {

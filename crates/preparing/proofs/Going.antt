@@ -1,14 +1,14 @@
 -- From the rows of filler to those of all source types.
 use mathlib.Core.Path.{_≡_, sym, _∙_, refl}
 use mathlib.Core.List.{List}
-use Prim.Native.Nat.{ℕ, _+_, _-_, _*_, _≤_, _<_}
+use Prim.Native.Nat.{ℕ, _-_, _*_, _≤_, _<_}
 use native.Mathlib.Omega.{arith}
 use lib.ListN.{length}
 use Rattle.model.specs.Definitions.Table.{kindOf}
 use Rattle.model.specs.Definitions.Templates.{Symbol}
 use Rattle.loaded_table.specs.Loaded.{typesIn, tableBy, length-of}
 use Rattle.loaded_setting.specs.Ready.{settingIn, Ready}
-use Rattle.rows.specs.Rows.{Rows, sourceRow, itemRow, Chosen}
+use Rattle.rows.specs.Rows.{Rows, sourceRow, itemRow, Chosen, HasRows, rowsBefore}
 use Rattle.row_sizes.specs.Sizes.{source-row-small}
 use Rattle.filler_rows.specs.Storing.{Sound, FillersStored, Stored, Whole}
 use Rattle.own_rows.specs.Wanted.{Wanted, of-filler, of-type, of-item, Done}
@@ -34,8 +34,8 @@ done-fillers {source} {target} {map} {em} {pool₀} {places₀} {pool} {places} 
     go r row d (of-item s m exists kind is what depth) less = absurd (omega (arith, is))
 
 -- all rows are done
-done-all : {source target map em pool₀ places₀ pool places : List ℕ} {at : ℕ} → Ready source target map em → 3 * (64 + typesIn source * 17) ≤ length places₀
-    → Whole pool₀ places₀ pool places at → Done (settingIn source target map em) (64 + typesIn source * 17) pool places at → Rows (settingIn source target map em) pool places
+done-all : {source target map em pool₀ places₀ pool places : List ℕ} {at : ℕ} → Ready source target map em → HasRows places₀ (typesIn source)
+    → Whole pool₀ places₀ pool places at → Done (settingIn source target map em) (rowsBefore (typesIn source)) pool places at → Rows (settingIn source target map em) pool places
 unfolding itemRow
 done-all {source} {target} {map} {em} {pool₀} {places₀} {pool} {places} {at} ready long whole done =
     record {
@@ -48,7 +48,7 @@ done-all {source} {target} {map} {em} {pool₀} {places₀} {pool} {places} {at}
       item-depth = λ s m exists kind. done .stored _ _ _ (of-item s m exists kind refl refl refl) (omega (arith, exists, length-of source)) .depth;
     }
   where
-    own-small : (s t : ℕ) → s < length (tableBy source) → Chosen t (kindOf (tableBy source) s) → sourceRow (tableBy source) s t < 64 + typesIn source * 17
+    own-small : (s t : ℕ) → s < length (tableBy source) → Chosen t (kindOf (tableBy source) s) → sourceRow (tableBy source) s t < rowsBefore (typesIn source)
     own-small s t exists chosen = source-row-small (ready .source-bounded) s t (omega (arith, exists, length-of source)) chosen
 
 module _ {source target map em : List ℕ} where
@@ -83,12 +83,12 @@ module _ {source target map em : List ℕ} where
       → FillersStored target pool₀ places₀ (typesIn target) pool places at → Progress source target map em pool₀ places₀ 0 pool places at
   unfolding roomOf
   progress-fillers ready room fillers =
-      let none : 64 + 0 * 17 ≡ 64 = omega arith in
+      let none : rowsBefore 0 ≡ 64 = omega arith in
       let all : (typesIn source - 0) * 16 ≡ typesIn source * 16 = omega arith in
       let first : 0 * 16 ≡ 0 = omega arith in
       record { whole = fillers .whole; done = rw none (done-fillers ready fillers); room = rw (first, all) (omega (arith, room, fillers .few)) }
 
   -- the rows of all types are made
-  pub progress-all : Ready source target map em → {pool₀ places₀ : List ℕ} {s : ℕ} {pool places : List ℕ} {at : ℕ} → 3 * (64 + typesIn source * 17) ≤ length places₀ → s ≡ typesIn source
+  pub progress-all : Ready source target map em → {pool₀ places₀ : List ℕ} {s : ℕ} {pool places : List ℕ} {at : ℕ} → HasRows places₀ (typesIn source) → s ≡ typesIn source
       → Progress source target map em pool₀ places₀ s pool places at → Rows (settingIn source target map em) pool places
   progress-all ready long is now = done-all ready long (now .whole) (rw is at (now .done))

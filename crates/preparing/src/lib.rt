@@ -4,7 +4,7 @@ ghost use Prim.Native.Nat.{ℕ, _+_, _*_, _≤_, _<_};
 ghost use lib.ListN.{length};
 ghost use Rattle.loaded_table.specs.Loaded.{typesIn};
 ghost use Rattle.loaded_setting.specs.Ready.{settingIn, Ready};
-ghost use Rattle.rows.specs.Rows.{toOf, Rows};
+ghost use Rattle.rows.specs.Rows.{toOf, Rows, HasRows, IsWord};
 ghost use Rattle.own_rows.specs.Progress.{Progress, Next};
 ghost use Rattle.preparing.specs.Preparing.{roomOf};
 use codes::MAX_MEMBERS;
@@ -67,7 +67,7 @@ pub fn prepare(
     places: &mut [u32],
 )
     requires ready { ⌜ Ready (now source) (now target) (now map) (now em) ⌝ }
-    requires room { ⌜ (roomOf (now source) (now target) (now map) ≤ length (now pool)) × (length (now pool) < 4294967296) × (3 * (64 + typesIn (now source) * 17) ≤ length (now places)) ⌝ }
+    requires room { ⌜ (roomOf (now source) (now target) (now map) ≤ length (now pool)) × IsWord (length (now pool)) × HasRows (now places) (typesIn (now source)) ⌝ }
     requires within { ⌜ ((row : ℕ) → toOf (now places) row ≤ length (now pool)) ⌝ }
     ensures { λ r. ⌜ Rows (settingIn (now (source .entry)) (now (target .entry)) (now (map .entry)) (now (em .entry))) (now (pool .exit)) (now (places .exit)) ⌝ }
 {

@@ -13,7 +13,7 @@ use Rattle.model.specs.Theorems.Facts.{All, all-none, all-more}
 use Rattle.model.specs.Theorems.Templates.{TypeBelow, template-types, item-types}
 use Rattle.loaded_table.specs.Loaded.{Bounded, Kept, tableBy, typesIn, kindsOf, countsOf, membersIn, length-of, kind-of}
 use Rattle.loaded_setting.specs.Ready.{settingIn, Ready}
-use Rattle.rows.specs.Rows.{rowIndex, sourceRow, itemRow, Chosen, of-text, of-empty, of-sequence, of-choice, of-list, Rows, SizeAt, Sizes}
+use Rattle.rows.specs.Rows.{rowIndex, sourceRow, itemRow, Chosen, of-text, of-empty, of-sequence, of-choice, of-list, Rows, SizeAt, Sizes, HasRows, typeRow, rowsBefore}
 use Rattle.rows.specs.Laws.{code-choice}
 use Rattle.row_sizes.specs.Sizing.{heightAt, fillAt, Sized}
 
@@ -76,13 +76,13 @@ source-index-small {source} bounded s t exists chosen =
 
 -- the row of a source type is one of the rows
 pub source-row-small : {source : List ℕ} → Bounded source → (s t : ℕ) → s < typesIn source → Chosen t (kindOf (tableBy source) s)
-    → sourceRow (tableBy source) s t < 64 + typesIn source * 17
+    → sourceRow (tableBy source) s t < rowsBefore (typesIn source)
 unfolding sourceRow
 source-row-small bounded s t exists chosen = omega (arith, source-index-small bounded s t exists chosen)
 
 -- sizes of all rows are the sizes of a setting's templates
 pub sized-all : {source target map em pool places sizes : List ℕ} → Ready source target map em → Rows (settingIn source target map em) pool places
-    → 3 * (64 + typesIn source * 17) ≤ length sizes → Sized target pool places (64 + typesIn source * 17) sizes → Sizes (settingIn source target map em) sizes
+    → HasRows sizes (typesIn source) → Sized target pool places (rowsBefore (typesIn source)) sizes → Sizes (settingIn source target map em) sizes
 unfolding ownLength ownFiller ownLevels itemLength itemFiller itemLevels itemRow
 sized-all {source} {target} {map} {em} {pool} {places} {sizes} ready rows long sized =
     record {
@@ -94,7 +94,7 @@ sized-all {source} {target} {map} {em} {pool} {places} {sizes} ready rows long s
       item-size = λ s m exists e.
           let row = item-types X (ready .valid) s m exists e in
           size-same (ready .kept) (length (dividedOf X s .before)) (itemTemplate X s) row
-          (rw (rows .item-depth s m exists e, rows .item-at s m exists e) at (sized .at (64 + (s * 17 + 16)) (omega (arith, length-of source))));
+          (rw (rows .item-depth s m exists e, rows .item-at s m exists e) at (sized .at (typeRow s 16) (omega (arith, length-of source))));
     }
   where
     X : Setting

@@ -5,7 +5,7 @@ ghost use Prim.Native.Nat.{ℕ, _+_, _-_, _*_, _≤_, _<_, min, max};
 ghost use lib.ListN.{length, set};
 ghost use Rattle.loaded_table.specs.Loaded.{Bounded, typesIn};
 ghost use Rattle.loaded_setting.specs.Ready.{settingIn, Ready};
-ghost use Rattle.rows.specs.Rows.{toOf, rowIn, Rows, Sizes};
+ghost use Rattle.rows.specs.Rows.{toOf, rowIn, Rows, Sizes, HasRow, HasRows, IsWord};
 ghost use Rattle.row_sizes.specs.Sizing.{Small, Adds, Measures};
 use codes::MAX_TYPES;
 use codes::OVER_BYTES;
@@ -100,7 +100,7 @@ fn with_symbol(target: &[u16; TABLE], s: Sums, n: usize) -> Sums
 
 // The size of the row that stands in the pool from one place up to another, `depth` elements being open around it.
 fn row_size(target: &[u16; TABLE], pool: &[u8], from: usize, to: usize, depth: usize) -> Size
-    requires { ⌜ (to ≤ length (now pool)) × (depth < 4294967296) ⌝ }
+    requires { ⌜ (to ≤ length (now pool)) × IsWord depth ⌝ }
     ensures { λ r. ⌜ Measures (now (target .entry)) (rowIn (now (pool .entry)) from to) depth r ⌝ }
 {
     let mut sums = Sums {
@@ -130,7 +130,7 @@ pub fn size_rows(
     sizes: &mut [u16],
 )
     requires bounded { ⌜ Bounded (now source) ⌝ }
-    requires long { ⌜ (3 * (64 + typesIn (now source) * 17) ≤ length (now places)) × (3 * (64 + typesIn (now source) * 17) ≤ length (now sizes)) ⌝ }
+    requires long { ⌜ HasRows (now places) (typesIn (now source)) × HasRows (now sizes) (typesIn (now source)) ⌝ }
     requires within { ⌜ ((row : ℕ) → toOf (now places) row ≤ length (now pool)) ⌝ }
     ensures { λ r. ⌜ ((map em : List ℕ) → Ready (now (source .entry)) (now (target .entry)) map em → Rows (settingIn (now (source .entry)) (now (target .entry)) map em) (now (pool .entry)) (now (places .entry)) → Sizes (settingIn (now (source .entry)) (now (target .entry)) map em) (now (sizes .exit))) ⌝ }
 {
@@ -149,7 +149,7 @@ pub fn size_rows(
 
 // Stores the size of a row.
 fn store(sizes: &mut [u16], row: usize, size: Size)
-    requires { ⌜ (3 * row + 2 < length (now sizes)) × (size .levels ≤ 60001) × (size .bytes ≤ 60001) × (size .filler ≤ 60001) ⌝ }
+    requires { ⌜ HasRow (now sizes) row × (size .levels ≤ 60001) × (size .bytes ≤ 60001) × (size .filler ≤ 60001) ⌝ }
     ensures { λ r. ⌜ now (sizes .exit) ≡ set (set (set (now (sizes .entry)) (3 * row) (size .levels)) (3 * row + 1) (size .bytes)) (3 * row + 2) (size .filler) ⌝ }
 {
     let levels = size.levels;

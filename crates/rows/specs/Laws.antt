@@ -10,7 +10,7 @@ use borrow.Author.Tests.{eq-eqb, ne-eqb}
 use Rattle.model.specs.Definitions.Basics.{pick, entry}
 use Rattle.model.specs.Definitions.Table.{sequence, choice, list}
 use Rattle.loaded_table.specs.Loaded.{kindFrom}
-use Rattle.rows.specs.Rows.{indexIn, rowIndex, SizeAt}
+use Rattle.rows.specs.Rows.{indexIn, rowIndex, SizeAt, HasRow}
 
 -- the place of t in a part of a list: none are left; it stands first; another does
 pub index-none : (t n o : ℕ) (l : List ℕ) → n ≡ 0 → indexIn t (take n (drop o l)) ≡ 0
@@ -78,7 +78,7 @@ entry-there (m ∷ ms) (suc j) less = entry-there ms j (omega arith)
 
 -- ---- three numbers that are stored for a row
 
-module _ (l : List ℕ) (row a b c : ℕ) (long : 3 * row + 2 < length l) where
+module _ (l : List ℕ) (row a b c : ℕ) (long : HasRow l row) where
   abbrev pub three : List ℕ
   three = set (set (set l (3 * row) a) (3 * row + 1) b) (3 * row + 2) c
 

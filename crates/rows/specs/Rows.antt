@@ -47,6 +47,10 @@ depthIn places r = getD places (3 * r + 2) 0
 abbrev pub rowAt : List ℕ → List ℕ → ℕ → List Symbol
 rowAt pool places r = rowIn pool (fromOf places r) (toOf places r)
 
+-- a number of 32 bits, as a place is held
+abbrev pub IsWord : ℕ → Type 0
+IsWord n = n < 4294967296
+
 -- the place of t in a list, its length where it is not there
 unfoldable pub indexIn : ℕ → List ℕ → ℕ
 indexIn t [] = 0
@@ -60,13 +64,26 @@ rowIndex (sequence ms) t = 0
 rowIndex (choice ms) t = indexIn t ms
 rowIndex (list m) t = 0
 
--- row τ is what filler of target type τ holds; 17 rows for each source type follow
+-- row τ is what filler of target type τ holds; 17 rows for each source type follow: row j of type s, and how many are before type s
+abbrev pub typeRow : ℕ → ℕ → ℕ
+typeRow s j = 64 + (s * 17 + j)
+
+abbrev pub rowsBefore : ℕ → ℕ
+rowsBefore s = 64 + s * 17
+
 unfoldable pub sourceRow : Table → ℕ → ℕ → ℕ
-sourceRow S s t = 64 + (s * 17 + rowIndex (kindOf S s) t)
+sourceRow S s t = typeRow s (rowIndex (kindOf S s) t)
 
 -- the last of them is what stands around an item of a list
 unfoldable pub itemRow : ℕ → ℕ
-itemRow s = 64 + (s * 17 + 16)
+itemRow s = typeRow s 16
+
+-- a list has the three numbers of row r, and those of all rows of so many source types
+abbrev pub HasRow : List ℕ → ℕ → Type 0
+HasRow l r = 3 * r + 2 < length l
+
+abbrev pub HasRows : List ℕ → ℕ → Type 0
+HasRows l types = 3 * rowsBefore types ≤ length l
 
 -- t can be the type of the first child of an element of this kind: for a choice it is a member
 pub data Chosen (t : ℕ) : Kind → Type 0 where
@@ -78,7 +95,7 @@ pub data Chosen (t : ℕ) : Kind → Type 0 where
 
 -- the pool and the places hold the templates of a setting
 pub record Rows (X : Setting) (pool places : List ℕ) : Type 0 where
-  pub long : 3 * (64 + length (X .source) * 17) ≤ length places
+  pub long : HasRows places (length (X .source))
   pub within : (r : ℕ) → toOf places r ≤ length pool
   pub filler-at : (τ : ℕ) → τ < length (X .target) → rowAt pool places τ ≡ fillerRow (X .target) τ
   pub template-at : (s t : ℕ) → s < length (X .source) → Chosen t (kindOf (X .source) s) → rowAt pool places (sourceRow (X .source) s t) ≡ template X s t
@@ -105,7 +122,7 @@ pub record SizeAt (sizes : List ℕ) (r levels bytes fill : ℕ) : Type 0 where
 
 -- the sizes of the templates of a setting
 pub record Sizes (X : Setting) (sizes : List ℕ) : Type 0 where
-  pub long : 3 * (64 + length (X .source) * 17) ≤ length sizes
+  pub long : HasRows sizes (length (X .source))
   pub own-size : (s t : ℕ) → s < length (X .source) → Chosen t (kindOf (X .source) s)
       → SizeAt sizes (sourceRow (X .source) s t) (ownLevels X s t) (ownLength X s t) (ownFiller X s t)
   pub item-size : (s m : ℕ) → s < length (X .source) → kindOf (X .source) s ≡ list m → SizeAt sizes (itemRow s) (itemLevels X s) (itemLength X s) (itemFiller X s)

@@ -2,9 +2,9 @@
 // of the model they hold.
 ghost use mathlib.Core.Path.{_≡_};
 ghost use Prim.Native.Nat.{_+_, _*_, _≤_, _<_};
-ghost use lib.ListN.{length, take, drop, set};
+ghost use lib.ListN.{take, drop, set};
 ghost use Rattle.loaded_table.specs.Loaded.{Bounded, tableBy, typesIn, membersIn};
-ghost use Rattle.rows.specs.Rows.{fromOf, toOf, depthIn, levelsIn, bytesIn, fillerIn, indexIn, sourceRow, itemRow};
+ghost use Rattle.rows.specs.Rows.{fromOf, toOf, depthIn, levelsIn, bytesIn, fillerIn, indexIn, sourceRow, itemRow, HasRow};
 use codes::MAX_MEMBERS;
 use codes::MAX_TYPES;
 use loaded_table::CHOICE;
@@ -39,7 +39,7 @@ fn wide(x: u32) -> usize
 
 // Where row r begins in the pool.
 pub fn from(places: &[u32], r: usize) -> usize
-    requires { ⌜ 3 * r + 2 < length (now places) ⌝ }
+    requires { ⌜ HasRow (now places) r ⌝ }
     ensures { λ r′. ⌜ r′ ≡ fromOf (now (places .entry)) r ⌝ }
 {
     wide(places[NUMBERS * r])
@@ -47,7 +47,7 @@ pub fn from(places: &[u32], r: usize) -> usize
 
 // Where it ends.
 pub fn to(places: &[u32], r: usize) -> usize
-    requires { ⌜ 3 * r + 2 < length (now places) ⌝ }
+    requires { ⌜ HasRow (now places) r ⌝ }
     ensures { λ r′. ⌜ r′ ≡ toOf (now (places .entry)) r ⌝ }
 {
     wide(places[NUMBERS * r + 1])
@@ -55,7 +55,7 @@ pub fn to(places: &[u32], r: usize) -> usize
 
 // How many elements are open around it.
 pub fn depth(places: &[u32], r: usize) -> usize
-    requires { ⌜ 3 * r + 2 < length (now places) ⌝ }
+    requires { ⌜ HasRow (now places) r ⌝ }
     ensures { λ r′. ⌜ r′ ≡ depthIn (now (places .entry)) r ⌝ }
 {
     wide(places[NUMBERS * r + 2])
@@ -101,7 +101,7 @@ pub fn item_row(s: usize) -> usize
 
 // Stores where row r begins and ends, and how many elements are open around it.
 pub fn place_row(places: &mut [u32], r: usize, from: u32, to: u32, depth: u32)
-    requires { ⌜ 3 * r + 2 < length (now places) ⌝ }
+    requires { ⌜ HasRow (now places) r ⌝ }
     ensures { λ r′. ⌜ now (places .exit) ≡ set (set (set (now (places .entry)) (3 * r) from) (3 * r + 1) to) (3 * r + 2) depth ⌝ }
 {
     let i = NUMBERS * r;
@@ -119,7 +119,7 @@ pub struct Size {
 
 // The size of row r.
 pub fn size_of(sizes: &[u16], r: usize) -> Size
-    requires { ⌜ 3 * r + 2 < length (now sizes) ⌝ }
+    requires { ⌜ HasRow (now sizes) r ⌝ }
     ensures { λ r′. ⌜ (r′ .levels ≡ levelsIn (now (sizes .entry)) r) × (r′ .bytes ≡ bytesIn (now (sizes .entry)) r) × (r′ .filler ≡ fillerIn (now (sizes .entry)) r) ⌝ }
 {
     let i = NUMBERS * r;
@@ -139,7 +139,7 @@ fn narrow(x: u16) -> usize
 
 // Stores the size of row r.
 pub fn store_size(sizes: &mut [u16], r: usize, levels: u16, bytes: u16, filler: u16)
-    requires { ⌜ 3 * r + 2 < length (now sizes) ⌝ }
+    requires { ⌜ HasRow (now sizes) r ⌝ }
     ensures { λ r′. ⌜ now (sizes .exit) ≡ set (set (set (now (sizes .entry)) (3 * r) levels) (3 * r + 1) bytes) (3 * r + 2) filler ⌝ }
 {
     let i = NUMBERS * r;
