@@ -9,13 +9,12 @@ use lib.ListN.{length, getD}
 use lib.Dec.{ltb}
 use borrow.Author.Tests.{ltb-true, ltb-false}
 use Rattle.model.specs.Definitions.Table.{Table, kindOf, list, edgesOf}
-use Rattle.model.specs.Definitions.Embedding.{targetOf, pathsOf, Divided, divide}
+use Rattle.model.specs.Definitions.Embedding.{Divided, divide}
 use Rattle.model.specs.Definitions.EmbeddingChecks.{maxSteps}
-use Rattle.model.specs.Definitions.Filler.{fillers}
 use Rattle.model.specs.Definitions.Image.{Setting, Placement, placed, place, onlyPath, isPlaced}
 use Rattle.model.specs.Definitions.Templates.{child, Hole, Shape, gap, framed, shaped, Symbol, rowOf, holesOf, template, templateBy, itemTemplate, itemBy, dividedOf, items}
 use Rattle.model.specs.Theorems.Facts.{All, all-none, all-more, Fits}
-use Rattle.model.specs.Theorems.TemplateShapes.{Regular, regular-built, item-regular, holes-fit}
+use Rattle.model.specs.Theorems.TemplateShapes.{Regular, regular-built, item-regular}
 use Rattle.model.specs.Theorems.NeverLonger.{rest-always-fits}
 use Rattle.model.specs.Definitions.Basics.{pick}
 use Rattle.loaded_table.specs.Loaded.{tableBy, typesIn, kindsOf, membersIn, length-of}
@@ -34,7 +33,7 @@ use Rattle.own_rows.specs.Making.{heldRow, edgeRoom, RowMade}
 use Rattle.own_rows.specs.Progress.{Progress}
 use Rattle.own_rows.specs.Wanted.{Wanted, Done, done-more, done-past, whole-more, wanted-type, of-filler, of-type, of-item}
 use Rattle.own_rows.specs.Bounds.{weight, IsGap}
-use Rattle.own_rows.specs.Holes.{child-hole}
+use Rattle.own_rows.specs.Holes.{child-hole, type-task, type-template}
 use Rattle.own_rows.specs.Short.{steps-long, element-short}
 use Rattle.own_rows.specs.Laws.{room-split}
 
@@ -44,18 +43,6 @@ list-holes : (em map : List ℕ) (T : Table) (τ i t m : ℕ) {r : Cut} → Cuts
     → placementOf em (getD (startsOf map) i 0 + 2) (r .depth) 145 ∷ [] ≡ holesOf gap T (list m) τ (pathsFrom em map i 1) t
 unfolding holesOf onlyPath pathsFrom placementOf holeOf pick
 list-holes em map T τ i t m cuts = ap (λ (path : List ℕ). placed path (gap items) ∷ []) (cuts .before)
-
-item-row : {source target map em : List ℕ} → Ready source target map em → (s : ℕ) → s < typesIn source → edgesOf (kindOf (tableBy source) s) ≡ 1 → {r : Cut}
-    → Cuts em (getD (startsOf map) (s * 16) 0) (getD (lengthsOf map) (s * 16) 0) (divide (tableBy target) (getD (targetsOf map) s 0) (pathAt em map (s * 16))) r
-    → (e : Edges) → placementsOf em e ≡ placementOf em (getD (startsOf map) (s * 16) 0 + 2 * suc (r .depth) + 2) (getD (lengthsOf map) (s * 16) 0 - suc (r .depth)) 128 ∷ []
-    → elementRow target em e stepBound (r .item) ≡ itemTemplate (settingIn source target map em) s
-unfolding elementRow itemTemplate itemBy dividedOf place maxSteps shaped isPlaced placementOf onlyPath pathsFrom
-item-row {source} {target} {map} {em} ready s exists one {r} cuts e is =
-    let d : Divided = divide (tableBy target) (getD (targetsOf map) s 0) (pathAt em map (s * 16)) in
-    let same : dividedOf (settingIn source target map em) s ≡ d = rw (target-is ready exists, paths-are ready exists, one) refl in
-    let below : placementsOf em e ≡ placed (d .rest) (gap (child 0)) ∷ [] =
-    is ∙ ap₂ (λ (path : List ℕ) (h : Hole). placed path (gap h) ∷ []) (cuts .rest) (child-hole 0 (omega arith)) in
-    rw (below, cuts .item, same) refl
 
 -- ---- one path
 
@@ -162,38 +149,30 @@ module _ {source target map em : List ℕ} (ready : Ready source target map em) 
     depth-less = omega (arith, depth-is, before-less)
 
     -- its own row: the path before the list, to the hole of the items
-    before-placed : (t : ℕ) → placementsOf em (beforePath map s r) ≡ holesOf gap (X .target) (kindOf (X .source) s) (targetOf (X .embedding) s) (pathsOf (X .embedding) s) t
-    before-placed t =
-        rw (target-is ready exists, paths-are ready exists, list-edge-one ready exists code, is-list ready exists code)
-        (one-placed em _ _ 145 ∙ list-holes em map (tableBy target) (getD (targetsOf map) s 0) (s * 16) t (getD (membersIn source) (s * 16) 0) cuts)
+    before-placed : placementsOf em (beforePath map s r) ≡ holesOf gap (tableBy target) (kindOf (tableBy source) s) (getD (targetsOf map) s 0) (pathsFrom em map (s * 16) (edgesOf (kindOf (tableBy source) s))) 0
+    before-placed =
+        rw (list-edge-one ready exists code, is-list ready exists code)
+        (one-placed em _ _ 145 ∙ list-holes em map (tableBy target) (getD (targetsOf map) s 0) (s * 16) 0 (getD (membersIn source) (s * 16) 0) cuts)
 
     pub before-task : Task target em (beforePath map s r) stepBound (getD (targetsOf map) s 0)
-    unfolding maxSteps
-    before-task =
-        let fits : Fits (X .target) stepBound (targetOf (X .embedding) s) (holesOf gap (X .target) (kindOf (X .source) s) (targetOf (X .embedding) s) (pathsOf (X .embedding) s) 0) =
-        holes-fit shaped X (targetOf (X .embedding) s) 0 gap (ready .valid .edges s in-source) in
-        record {
-          bounded = ready .target-bounded;
-          well-formed = ready .valid .target-sound .well-formed;
-          is-type = omega (arith, ready .valid .target-exists s in-source, target-is ready exists, length-of target);
-          paths = one-readable em _ _ 145 (omega (arith, ready .paths-bounded .within (s * 16), depth-less)) (omega arith, omega arith);
-          fits = subst (λ (τ : ℕ). Fits (X .target) stepBound τ (placementsOf em (beforePath map s r))) (target-is ready exists) (subst (Fits (X .target) stepBound (targetOf (X .embedding) s)) (sym (before-placed 0)) fits);
-        }
+    before-task = type-task ready exists 0 (beforePath map s r) before-placed (one-readable em _ _ 145 (omega (arith, ready .paths-bounded .within (s * 16), depth-less)) (omega arith, omega arith))
 
     pub before-row : heldRow target em (beforePath map s r) (getD (targetsOf map) s 0) ≡ template X s 0
-    unfolding heldRow template templateBy
-    before-row = ap₂ (λ (τ : ℕ) (ps : List (Placement Shape)). rowOf (place shaped (X .target) (fillers shaped (X .target)) τ ps)) (sym (target-is ready exists)) (before-placed 0)
+    before-row = type-template ready exists 0 (beforePath map s r) before-placed
 
     pub before-short : length (elementRow target em (beforePath map s r) stepBound (getD (targetsOf map) s 0)) ≤ beforeRoom X s
     unfolding beforeRoom
     before-short = omega (arith, one-short em _ _ 145 before-task, depth-is)
 
     -- the row of an item: the path behind the list, to the hole of a child
+    item-is : r .item ≡ dividedOf X s .item
+    item-is = cuts .item ∙ ap (λ (x : Divided). x .item) (sym divided-is)
+
     item-there : r .item < typesIn target
     unfolding itemBy shaped
     item-there =
         let there : dividedOf X s .item < length (X .target) = built-exists (item-regular X (ready .valid) s _ in-source (is-list ready exists code)) in
-        omega (arith, there, cuts .item, ap (λ (x : Divided). x .item) divided-is, length-of target)
+        omega (arith, there, item-is, length-of target)
 
     rest-placed : placementsOf em (restPath map s r) ≡ placed (dividedOf X s .rest) (gap (child 0)) ∷ []
     unfolding placementOf
@@ -206,17 +185,17 @@ module _ {source target map em : List ℕ} (ready : Ready source target map em) 
     rest-task =
         let fits : Fits (X .target) stepBound (dividedOf X s .item) (placed (dividedOf X s .rest) (gap (child 0)) ∷ []) =
         rest-always-fits X (ready .valid) s _ in-source (is-list ready exists code) (gap (child 0)) in
-        let item : dividedOf X s .item ≡ r .item = ap (λ (x : Divided). x .item) divided-is ∙ sym (cuts .item) in
         record {
           bounded = ready .target-bounded;
           well-formed = ready .valid .target-sound .well-formed;
           is-type = item-there;
           paths = one-readable em _ _ 128 (omega (arith, ready .paths-bounded .within (s * 16), depth-less)) (omega arith, omega arith);
-          fits = subst (λ (τ : ℕ). Fits (X .target) stepBound τ (placementsOf em (restPath map s r))) item (subst (Fits (X .target) stepBound (dividedOf X s .item)) (sym rest-placed) fits);
+          fits = subst (λ (τ : ℕ). Fits (X .target) stepBound τ (placementsOf em (restPath map s r))) (sym item-is) (subst (Fits (X .target) stepBound (dividedOf X s .item)) (sym rest-placed) fits);
         }
 
     pub rest-row : elementRow target em (restPath map s r) stepBound (r .item) ≡ itemTemplate X s
-    rest-row = item-row ready s exists (list-edge-one ready exists code) cuts (restPath map s r) (one-placed em _ _ 128)
+    unfolding elementRow itemTemplate itemBy place maxSteps shaped isPlaced
+    rest-row = rw (rest-placed, item-is) refl
 
     pub rest-short : length (elementRow target em (restPath map s r) stepBound (r .item)) ≤ restRoom map X s
     unfolding restRoom

@@ -126,13 +126,14 @@ module _ {source target map em : List ℕ} (ready : Ready source target map em) 
   edges-placed : {j k w : ℕ} {e : Edges} {first hole n : ℕ} → j < 16 → EdgesFrom map first hole n e → first ≡ s * 16 + k → n ≤ w → 0 < w
       → (t₀ : ℕ) → HolesAre first hole n t₀ → ((t : ℕ) → Chosen t κ → rowIndex κ t ≡ j → HolesAre first hole n t) → RowEdges source target map em s j k w e
   edges-placed {j} {k} {w} {e} {first} {hole} {n} less edges where-first few wide t₀ holes each =
-      let task : Task target em e stepBound τ = type-task ready exists t₀ edges holes in
+      let are = edges .placements em (ready .paths-bounded) in
+      let task : Task target em e stepBound τ = type-task ready exists t₀ e (are ∙ holes) (edges .readable em (ready .paths-bounded)) in
       record {
         task = task;
         short = rw where-first at (element-fits task (ready .paths-bounded) edges w few wide);
         is = λ row d wanted.
             let found = wanted-type ready s j less wanted in
-            (type-template ready exists (found .0) edges (each (found .0) (found .1) (found .2)) ∙ sym (found .3), sym (found .4));
+            (type-template ready exists (found .0) e (are ∙ each (found .0) (found .1) (found .2)) ∙ sym (found .3), sym (found .4));
       }
 
   text-are : getD (kindsOf source) s 0 ≡ 0 → (t : ℕ) → HolesAre (s * 16) 144 1 t

@@ -24,8 +24,8 @@ use Rattle.paths.specs.Following.{pathAt, pathsFrom}
 use Rattle.paths.specs.Edges.{target-is, paths-are}
 use Rattle.rows.specs.Rows.{indexIn, holeOf}
 use Rattle.growing.specs.declared.Edges.{Edges}
-use Rattle.growing.specs.Growing.{placementOf, placementsOf, Task, stepBound}
-use Rattle.own_rows.specs.Making.{edgePlacements, EdgesFrom, heldRow}
+use Rattle.growing.specs.Growing.{placementOf, placementsOf, Readable, Task, stepBound}
+use Rattle.own_rows.specs.Making.{edgePlacements, heldRow}
 
 -- ---- holes
 
@@ -84,8 +84,8 @@ choice-holes em map T τ i t ms less =
 
 -- ---- the task of a source type, and its template
 
-module _ {source target map em : List ℕ} (ready : Ready source target map em) {s : ℕ} (exists : s < typesIn source) (t : ℕ) {e : Edges} {first hole n : ℕ} (edges : EdgesFrom map first hole n e)
-    (holes : edgePlacements em map first hole n ≡ holesOf gap (tableBy target) (kindOf (tableBy source) s) (getD (targetsOf map) s 0) (pathsFrom em map (s * 16) (edgesOf (kindOf (tableBy source) s))) t) where
+module _ {source target map em : List ℕ} (ready : Ready source target map em) {s : ℕ} (exists : s < typesIn source) (t : ℕ) (e : Edges)
+    (holes : placementsOf em e ≡ holesOf gap (tableBy target) (kindOf (tableBy source) s) (getD (targetsOf map) s 0) (pathsFrom em map (s * 16) (edgesOf (kindOf (tableBy source) s))) t) where
   abbrev X : Setting
   X = settingIn source target map em
 
@@ -93,18 +93,18 @@ module _ {source target map em : List ℕ} (ready : Ready source target map em) 
   in-source = omega (arith, length-of source)
 
   placed-are : placementsOf em e ≡ holesOf gap (X .target) (kindOf (X .source) s) (targetOf (X .embedding) s) (pathsOf (X .embedding) s) t
-  placed-are = rw (target-is ready exists, paths-are ready exists) (edges .placements em (ready .paths-bounded) ∙ holes)
+  placed-are = rw (target-is ready exists, paths-are ready exists) holes
 
-  pub type-task : Task target em e stepBound (getD (targetsOf map) s 0)
+  pub type-task : Readable em e → Task target em e stepBound (getD (targetsOf map) s 0)
   unfolding maxSteps
-  type-task =
+  type-task readable =
       let fits : Fits (X .target) stepBound (targetOf (X .embedding) s) (holesOf gap (X .target) (kindOf (X .source) s) (targetOf (X .embedding) s) (pathsOf (X .embedding) s) t) =
       holes-fit shaped X (targetOf (X .embedding) s) t gap (ready .valid .edges s in-source) in
       record {
         bounded = ready .target-bounded;
         well-formed = ready .valid .target-sound .well-formed;
         is-type = omega (arith, ready .valid .target-exists s in-source, target-is ready exists, length-of target);
-        paths = edges .readable em (ready .paths-bounded);
+        paths = readable;
         fits = subst (λ (τ : ℕ). Fits (X .target) stepBound τ (placementsOf em e)) (target-is ready exists) (subst (Fits (X .target) stepBound (targetOf (X .embedding) s)) (sym placed-are) fits);
       }
 
