@@ -13,7 +13,8 @@ use Rattle.model.specs.Definitions.Templates.{Symbol}
 use Rattle.rows.specs.Rows.{symbolOf, fromOf, toOf, depthIn, rowIn}
 use Rattle.rows.specs.Laws.{three-length, three-other, three-first, three-second, three-third}
 use Rattle.growing.specs.Growing.{Puts}
-use Rattle.filler_rows.specs.Storing.{Stored, PlacedRow}
+use Rattle.growing.specs.Laws.{puts-length}
+use Rattle.filler_rows.specs.Storing.{Stored, PlacedRow, RowMade, Whole}
 
 -- ---- rows in the pool
 
@@ -58,7 +59,7 @@ puts-on puts = omega (arith, puts .after)
 -- ---- rows that are stored
 
 -- stay when one is written behind them
-pub stored-kept : {old new places : List ℕ} {at next r d : ℕ} {x row : List Symbol} → Puts old new at x next → Stored old places at r row d → Stored new places next r row d
+stored-kept : {old new places : List ℕ} {at next r d : ℕ} {x row : List Symbol} → Puts old new at x next → Stored old places at r row d → Stored new places next r row d
 stored-kept {places = places} {r = r} puts stored =
     record {
       ends = omega (arith, stored .ends, puts-on puts);
@@ -71,7 +72,7 @@ module _ {places after : List ℕ} {r from to depth : ℕ} (placed : PlacedRow p
   places-kept k x y z = ap (λ (l : List ℕ). getD l k 0) (placed .is) ∙ three-other places r from to depth (placed .long) k x y z
 
   -- stay when another is placed
-  pub stored-beside : {pool : List ℕ} {at s d : ℕ} {row : List Symbol} → (s ≡ r → ⊥) → Stored pool places at s row d → Stored pool after at s row d
+  stored-beside : {pool : List ℕ} {at s d : ℕ} {row : List Symbol} → (s ≡ r → ⊥) → Stored pool places at s row d → Stored pool after at s row d
   stored-beside {pool} {at} {s} {d} {row} other stored =
       let first : fromOf after s ≡ fromOf places s = places-kept (3 * s) (λ e. other (omega arith)) (λ e. omega arith) (λ e. omega arith) in
       let second : toOf after s ≡ toOf places s = places-kept (3 * s + 1) (λ e. omega arith) (λ e. other (omega arith)) (λ e. omega arith) in
@@ -88,7 +89,7 @@ module _ {places after : List ℕ} {r from to depth : ℕ} (placed : PlacedRow p
   placed-depth = ap (λ (l : List ℕ). depthIn l r) (placed .is) ∙ three-third places r from to depth (placed .long)
 
   -- the one that is placed is stored
-  pub stored-placed : {pool : List ℕ} {at : ℕ} {row : List Symbol} → to ≤ at → rowIn pool from to ≡ row → Stored pool after at r row depth
+  stored-placed : {pool : List ℕ} {at : ℕ} {row : List Symbol} → to ≤ at → rowIn pool from to ≡ row → Stored pool after at r row depth
   stored-placed {pool} before holds =
       record { ends = omega (arith, placed-to); holds = ap₂ (rowIn pool) placed-from placed-to ∙ holds; depth = placed-depth }
 
@@ -103,3 +104,29 @@ module _ {places after : List ℕ} {r from to depth : ℕ} (placed : PlacedRow p
       go true e = let here : s ≡ r = eqb-true s r e in rw here (omega (arith, placed-to))
       go false e =
           omega (arith, within s, places-kept (3 * s + 1) (λ f. omega arith) (λ f. eqb-false s r e (omega arith)) (λ f. omega arith))
+
+-- ---- rows that are made
+
+-- a row that is written and placed as it is
+pub made-as-written : {pool places pool′ places′ : List ℕ} {at row end depth : ℕ} {content : List Symbol} → Puts pool pool′ at content end → end ≤ length pool
+    → PlacedRow places places′ row at end depth → RowMade pool places at row content depth pool′ places′ end
+made-as-written {at = at} {end = end} {content = content} puts fits placed =
+    record { written = content; puts = puts; from = at; to = end; placed = placed; ends = omega arith; holds = row-there puts fits }
+
+module _ {pool places pool′ places′ : List ℕ} {at row end depth : ℕ} {content : List Symbol} (made : RowMade pool places at row content depth pool′ places′ end) where
+  -- is stored, and so are those that were
+  pub stored-made : Stored pool′ places′ end row content depth
+  stored-made = stored-placed (made .placed) (made .ends) (made .holds)
+
+  pub stored-still : {r d : ℕ} {other : List Symbol} → (r ≡ row → ⊥) → Stored pool places at r other d → Stored pool′ places′ end r other d
+  stored-still beside stored = stored-beside (made .placed) beside (stored-kept (made .puts) stored)
+
+  -- the pool and the places stay whole
+  pub whole-more : {pool₀ places₀ : List ℕ} → Whole pool₀ places₀ pool places at → end ≤ length pool₀ → Whole pool₀ places₀ pool′ places′ end
+  whole-more now fits =
+      record {
+        pool-length = puts-length (made .puts) ∙ now .pool-length;
+        places-length = placed-length (made .placed) ∙ now .places-length;
+        fits = fits;
+        within = placed-within (made .placed) (omega (arith, made .ends)) (now .within);
+      }

@@ -1,4 +1,4 @@
--- Rows that stand in the pool before a place.
+-- Rows that are made, and stand in the pool before a place.
 use mathlib.Core.Path.{_≡_}
 use mathlib.Core.List.{List}
 use Prim.Native.Nat.{ℕ, _+_, _*_, _≤_, _<_}
@@ -6,7 +6,8 @@ use lib.ListN.{length, set}
 use Rattle.model.specs.Definitions.Templates.{Symbol, fillerRow}
 use Rattle.model.specs.Theorems.Facts.{SoundTable}
 use Rattle.loaded_table.specs.Loaded.{Bounded, Kept, tableBy}
-use Rattle.rows.specs.Rows.{toOf, depthIn, rowAt, HasRow}
+use Rattle.rows.specs.Rows.{toOf, depthIn, rowIn, rowAt, HasRow}
+use Rattle.growing.specs.Growing.{Puts}
 
 -- a loaded table within its bounds, sound, with its heights kept
 pub record Sound (target : List ℕ) : Type 0 where
@@ -24,6 +25,16 @@ pub record Stored (pool places : List ℕ) (at r : ℕ) (row : List Symbol) (d :
 pub record PlacedRow (places after : List ℕ) (r from to d : ℕ) : Type 0 where
   pub long : HasRow places r
   pub is : after ≡ set (set (set places (3 * r) from) (3 * r + 1) to) (3 * r + 2) d
+
+-- a row is written behind the others, or stands among them, and is placed
+pub record RowMade (pool places : List ℕ) (at row : ℕ) (content : List Symbol) (depth : ℕ) (pool′ places′ : List ℕ) (end : ℕ) : Type 0 where
+  pub written : List Symbol
+  pub puts : Puts pool pool′ at written end
+  pub from : ℕ
+  pub to : ℕ
+  pub placed : PlacedRow places places′ row from to depth
+  pub ends : to ≤ end
+  pub holds : rowIn pool′ from to ≡ content
 
 -- the pool and the places are whole, and all rows end within the pool
 pub record Whole (pool₀ places₀ pool places : List ℕ) (at : ℕ) : Type 0 where

@@ -1,5 +1,5 @@
 -- The rows of a source list, by the values that the code has.
-use mathlib.Core.Path.{_≡_, subst, _∙_}
+use mathlib.Core.Path.{_≡_, subst}
 use mathlib.Core.List.{List}
 use Prim.Native.Nat.{ℕ, _+_, _-_, _*_, _≤_, _<_}
 use native.Mathlib.Numerals.{add-one}
@@ -17,9 +17,8 @@ use Rattle.paths.specs.Edges.{list-follows}
 use Rattle.growing.specs.declared.Edges.{Edges}
 use Rattle.growing.specs.Growing.{Puts, Task, elementRow, stepBound}
 use Rattle.growing.specs.Laws.{puts-after}
-use Rattle.filler_rows.specs.Storing.{PlacedRow}
-use Rattle.filler_rows.specs.Laws.{row-there}
-use Rattle.own_rows.specs.Making.{RowMade}
+use Rattle.filler_rows.specs.Storing.{PlacedRow, RowMade}
+use Rattle.filler_rows.specs.Laws.{made-as-written, puts-as}
 use Rattle.own_rows.specs.Made.{made-end, made-new}
 use Rattle.list_rows.specs.Lists.{onePath, beforePath, restPath, one-some, CutAt, beforeRoom, restRoom, depth-is, before-task, before-row, before-short, rest-task, rest-row, rest-short}
 
@@ -81,12 +80,5 @@ module _ {source target map em : List ℕ} (ready : Ready source target map em) 
         pub item-made : {places places′ : List ℕ} {row : ℕ} → PlacedRow places places′ row at end (r .depth)
             → RowMade pool places at row (itemTemplate X s) (length (dividedOf X s .before)) pool′ places′ end
         item-made {places} {places′} {row} placed =
-            record {
-              written = elementRow target em e stepBound (r .item);
-              puts = puts;
-              from = at;
-              to = end;
-              placed = subst (PlacedRow places places′ row at end) (depth-is ready exists code cuts) placed;
-              ends = omega arith;
-              holds = row-there puts (item-end .1) ∙ rw is-path (rest-row ready exists code cuts);
-            }
+            made-as-written (puts-as (rw is-path (rest-row ready exists code cuts)) puts) (item-end .1)
+            (subst (PlacedRow places places′ row at end) (depth-is ready exists code cuts) placed)

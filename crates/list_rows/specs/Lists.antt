@@ -28,10 +28,11 @@ use Rattle.growing.specs.declared.Edges.{Edges}
 use Rattle.growing.specs.Growing.{placementOf, placementsOf, noEdges, push, Readable, Task, elementRow, stepBound}
 use Rattle.growing.specs.Laws.{push-placements, push-readable, none-readable, none-placed}
 use Rattle.row_sizes.specs.Sizes.{source-index-small}
-use Rattle.filler_rows.specs.Laws.{puts-on}
-use Rattle.own_rows.specs.Making.{heldRow, edgeRoom, RowMade}
+use Rattle.filler_rows.specs.Laws.{puts-on, whole-more}
+use Rattle.filler_rows.specs.Storing.{RowMade}
+use Rattle.own_rows.specs.Making.{heldRow, edgeRoom}
 use Rattle.own_rows.specs.Progress.{Progress}
-use Rattle.own_rows.specs.Wanted.{Wanted, Done, done-more, done-past, whole-more, wanted-type, of-filler, of-type, of-item}
+use Rattle.own_rows.specs.Wanted.{Wanted, Done, done-more, done-past, wanted-type, of-filler, of-type, of-item}
 use Rattle.own_rows.specs.Bounds.{weight, IsGap}
 use Rattle.own_rows.specs.Holes.{child-hole, type-task, type-template}
 use Rattle.own_rows.specs.Short.{steps-long, element-short}
@@ -250,7 +251,7 @@ module _ {source target map em : List ℕ} (ready : Ready source target map em) 
       (λ row d wanted. let found = wanted-item wanted in (sym (found .0), sym (found .1))) in
       let all : typeRow s 16 + 1 ≡ rowsBefore (suc s) = omega arith in
       rw (add-one s) record {
-        whole = whole-more (whole-more (now .whole) own (omega (arith, short, room, now .room, puts-on (item .puts)))) item (omega (arith, short, room, now .room));
+        whole = whole-more item (whole-more own (now .whole) (omega (arith, short, room, now .room, puts-on (item .puts)))) (omega (arith, short, room, now .room));
         done = subst (λ (k : ℕ). Done X k pool₂ places₂ last) all two;
         room = omega (arith, short, room, now .room);
       }

@@ -6,7 +6,7 @@ ghost use Rattle.model.specs.Definitions.Templates.{template, itemTemplate, div
 ghost use Rattle.loaded_table.specs.Loaded.{typesIn, kindsOf};
 ghost use Rattle.loaded_embedding.specs.Loaded.{lengthsOf};
 ghost use Rattle.loaded_setting.specs.Ready.{settingIn, Ready};
-ghost use Rattle.own_rows.specs.Making.{RowMade};
+ghost use Rattle.filler_rows.specs.Storing.{RowMade};
 ghost use Rattle.own_rows.specs.Progress.{Progress, Makeable, Next};
 ghost use Rattle.list_rows.specs.Lists.{onePath, beforePath, restPath, CutAt, beforeRoom, restRoom};
 ghost use Rattle.rows.specs.Rows.{typeRow, rowsBefore};

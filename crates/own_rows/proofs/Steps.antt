@@ -22,11 +22,12 @@ use Rattle.rows.specs.Laws.{row-of-other, code-list, entry-there}
 use Rattle.growing.specs.declared.Edges.{Edges}
 use Rattle.growing.specs.Growing.{placementsFrom, placementsOf, Task, elementRow, stepBound}
 use Rattle.row_sizes.specs.Sizes.{source-index-small}
-use Rattle.filler_rows.specs.Storing.{Stored, Whole}
-use Rattle.own_rows.specs.Making.{edgePlacements, EdgesFrom, OwnEdges, heldRow, RowMade, edgeRoom}
+use Rattle.filler_rows.specs.Storing.{Stored, Whole, RowMade}
+use Rattle.filler_rows.specs.Laws.{whole-more}
+use Rattle.own_rows.specs.Making.{edgePlacements, EdgesFrom, OwnEdges, heldRow, edgeRoom}
 use Rattle.own_rows.specs.Bounds.{weight}
 use Rattle.own_rows.specs.Short.{edgeWeight, edges-weight, edges-gaps, element-short}
-use Rattle.own_rows.specs.Wanted.{Wanted, of-filler, of-type, of-item, Done, done-more, done-past, whole-more, wanted-type}
+use Rattle.own_rows.specs.Wanted.{Wanted, of-filler, of-type, of-item, Done, done-more, done-past, wanted-type}
 use Rattle.own_rows.specs.Holes.{text-holes, empty-holes, sequence-holes, choice-holes, type-task, type-template}
 use Rattle.own_rows.specs.Progress.{Progress}
 use Rattle.own_rows.specs.Laws.{room-split}
@@ -230,7 +231,7 @@ module _ {source target map em : List ℕ} (ready : Ready source target map em) 
         partly-more made ends =
             let on : typeRow s j + 1 ≡ typeRow s (j + 1) = omega arith in
             record {
-              whole = whole-more (now .whole) made (omega (arith, ends, partly-room, now .whole .pool-length));
+              whole = whole-more made (now .whole) (omega (arith, ends, partly-room, now .whole .pool-length));
               done = rw on at (done-more (now .done) made (row .is));
               room = omega (arith, ends, row .short, split, now .room);
             }

@@ -13,9 +13,9 @@ use Rattle.growing.specs.declared.Edges.{Edges}
 use Rattle.growing.specs.Growing.{placementsFrom, Puts, Task, elementRow, stepBound}
 use Rattle.growing.specs.Laws.{puts-none, puts-after, puts-length}
 use Rattle.growing.specs.Parts.{held, row-built}
-use Rattle.filler_rows.specs.Storing.{Stored, PlacedRow}
+use Rattle.filler_rows.specs.Storing.{Stored, PlacedRow, RowMade}
 use Rattle.filler_rows.specs.Laws.{puts-as}
-use Rattle.own_rows.specs.Making.{heldRow, RowMade}
+use Rattle.own_rows.specs.Making.{heldRow}
 use Rattle.own_rows.specs.Laws.{row-inside}
 
 -- an element below which nothing is placed holds what filler holds

@@ -1,7 +1,7 @@
--- Edges of a source type as paths with holes, rows that are made, and room for them.
+-- Edges of a source type as paths with holes, the row of what they stand in, and room for it.
 use mathlib.Core.Path.{_≡_}
 use mathlib.Core.List.{List, [], _∷_}
-use Prim.Native.Nat.{ℕ, zero, suc, _+_, _*_, _≤_}
+use Prim.Native.Nat.{ℕ, zero, suc, _+_, _*_}
 use lib.ListN.{getD}
 use Rattle.model.specs.Definitions.Filler.{fillers}
 use Rattle.model.specs.Definitions.Image.{Placement, place}
@@ -9,9 +9,7 @@ use Rattle.model.specs.Definitions.Templates.{Shape, shaped, Symbol, rowOf}
 use Rattle.loaded_table.specs.Loaded.{tableBy, kindsOf, countsOf}
 use Rattle.loaded_embedding.specs.Loaded.{startsOf, lengthsOf, Bounded}
 use Rattle.growing.specs.declared.Edges.{Edges}
-use Rattle.growing.specs.Growing.{placementOf, placementsOf, Readable, Puts}
-use Rattle.rows.specs.Rows.{rowIn}
-use Rattle.filler_rows.specs.Storing.{PlacedRow}
+use Rattle.growing.specs.Growing.{placementOf, placementsOf, Readable}
 
 -- what stands along the paths of n edges from a place on, the holes having the numbers from h on
 unfoldable pub edgePlacements : List ℕ → List ℕ → ℕ → ℕ → ℕ → List (Placement Shape)
@@ -33,16 +31,6 @@ pub record OwnEdges (source map : List ℕ) (s : ℕ) (r : Edges) : Type 0 where
 -- the row of what an element of type t holds
 unfoldable pub heldRow : List ℕ → List ℕ → Edges → ℕ → List Symbol
 heldRow target em e t = rowOf (place shaped (tableBy target) (fillers shaped (tableBy target)) t (placementsOf em e))
-
--- a row is written behind the others, or stands among them, and is placed
-pub record RowMade (pool places : List ℕ) (at row : ℕ) (content : List Symbol) (depth : ℕ) (pool′ places′ : List ℕ) (end : ℕ) : Type 0 where
-  pub written : List Symbol
-  pub puts : Puts pool pool′ at written end
-  pub from : ℕ
-  pub to : ℕ
-  pub placed : PlacedRow places places′ row from to depth
-  pub ends : to ≤ end
-  pub holds : rowIn pool′ from to ≡ content
 
 -- room for the rows of n edges from a place on: 18 times the steps of each and 4
 unfoldable pub edgeRoom : List ℕ → ℕ → ℕ → ℕ

@@ -1,8 +1,8 @@
 -- The rows that a setting wants, by number; rows are made in the order of their numbers.
-use mathlib.Core.Path.{_≡_, refl, _∙_}
+use mathlib.Core.Path.{_≡_, refl}
 use mathlib.Core.Bool.{Bool, true, false}
 use mathlib.Core.List.{List}
-use Prim.Native.Nat.{ℕ, _+_, _≤_, _<_}
+use Prim.Native.Nat.{ℕ, _+_, _<_}
 use native.Mathlib.Omega.{arith}
 use lib.ListN.{length}
 use lib.Dec.{eqb}
@@ -13,11 +13,9 @@ use Rattle.model.specs.Definitions.Templates.{Symbol, template, itemTemplate, f
 use Rattle.loaded_table.specs.Loaded.{length-of}
 use Rattle.loaded_setting.specs.Ready.{settingIn, Ready}
 use Rattle.rows.specs.Rows.{rowIndex, sourceRow, itemRow, Chosen, typeRow}
-use Rattle.growing.specs.Laws.{puts-length}
 use Rattle.row_sizes.specs.Sizes.{source-index-small}
-use Rattle.filler_rows.specs.Storing.{Stored, Whole}
-use Rattle.filler_rows.specs.Laws.{stored-kept, stored-beside, stored-placed, placed-length, placed-within}
-use Rattle.own_rows.specs.Making.{RowMade}
+use Rattle.filler_rows.specs.Storing.{Stored, RowMade}
+use Rattle.filler_rows.specs.Laws.{stored-made, stored-still}
 
 -- row r is to be `row`, with d elements open around it
 pub data Wanted (X : Setting) (r : ℕ) (row : List Symbol) (d : ℕ) : Type 0 where
@@ -39,24 +37,12 @@ done-more {X} {k} {pool} {places} {at} {content} {depth} {pool′} {places′} {
     go r row d wanted less true e =
         let here : r ≡ k = eqb-true r k e in
         let what = is row d (rw here at wanted) in
-        rw (here, ← what .0, ← what .1) (stored-placed (made .placed) (made .ends) (made .holds))
-    go r row d wanted less false e =
-        stored-beside (made .placed) (eqb-false r k e) (stored-kept (made .puts) (now .stored r row d wanted (omega (arith, eqb-false r k e))))
+        rw (here, ← what .0, ← what .1) (stored-made made)
+    go r row d wanted less false e = stored-still made (eqb-false r k e) (now .stored r row d wanted (omega (arith, eqb-false r k e)))
 
 -- rows that nobody wants are passed
 pub done-past : {X : Setting} {k : ℕ} {pool places : List ℕ} {at : ℕ} (k′ : ℕ) → Done X k pool places at → ((r : ℕ) (row : List Symbol) (d : ℕ) → Wanted X r row d → r < k′ → r < k) → Done X k′ pool places at
 done-past k′ now none = record { stored = λ r row d wanted less. now .stored r row d wanted (none r row d wanted less) }
-
--- the pool and the places stay whole
-pub whole-more : {pool₀ places₀ pool places : List ℕ} {at k : ℕ} {content : List Symbol} {depth : ℕ} {pool′ places′ : List ℕ} {end : ℕ} → Whole pool₀ places₀ pool places at
-    → RowMade pool places at k content depth pool′ places′ end → end ≤ length pool₀ → Whole pool₀ places₀ pool′ places′ end
-whole-more now made fits =
-    record {
-      pool-length = puts-length (made .puts) ∙ now .pool-length;
-      places-length = placed-length (made .placed) ∙ now .places-length;
-      fits = fits;
-      within = placed-within (made .placed) (omega (arith, made .ends)) (now .within);
-    }
 
 -- ---- what is wanted of a number
 

@@ -3,8 +3,10 @@ use mathlib.Core.Path.{_≡_}
 use Prim.Native.Nat.{_-_, _≤_}
 use native.Mathlib.Omega.{arith}
 use borrow.Author.Needs.{needs}
+use lib.ListN.{length}
 use Rattle.loaded_table.specs.Loaded.{typesIn}
 use Rattle.filler_rows.specs.Storing.{FillersStored}
+use Rattle.filler_rows.specs.Laws.{made-as-written}
 use Rattle.filler_rows.proofs.Fillers.{fillers-none, fillers-more}
 use Rattle.filler_rows.proofs.filler_rows.Statement.{statement}
 use Rattle.filler_rows.proofs.filler_rows.Tie as tie
@@ -48,7 +50,8 @@ loop-again c =
     let end = c .before .before .before .before .before .before .hollow .ensures in
     let less = c .before .before .before .before .before .before .before .before .loop-test .taken in
     let types = c .before .before .before .before .before .before .before .before .before .before .types .ensures .0 in
-    (omega (arith, less), fillers-more (inv .1) (end .0) (end .1) (omega (arith, end .1, inv .1 .few, less, types, start .pre .1 .0)) (c .before .before .place .ensures))
+    let fits : c .before .before .before .before .before .before .hollow .result ≤ length (start .args .pool .now) = omega (arith, end .1, inv .1 .few, less, types, start .pre .1 .0) in
+    (omega (arith, less), fillers-more (inv .1) (made-as-written (end .0) (omega (arith, fits, inv .1 .whole .pool-length)) (c .before .before .place .ensures)) (end .1) fits)
 
 same-length : tie.Need-same-length Inv-loop μ-loop
 same-length c = c .before .loop .inv .1 .whole .pool-length
