@@ -17,9 +17,6 @@ Inv-loop target pool₀ places₀ types at₀ t₀ pool places at t = (t ≤ typ
 abbrev μ-loop : tie.MeasureT-loop
 μ-loop target pool₀ places₀ types at₀ t₀ pool places at t = types - t
 
-loop-holds : tie.Need-loop-holds Inv-loop μ-loop
-loop-holds c = (omega arith, fillers-none _ _ _ (c .before .before .before .pre .1 .1))
-
 hollow-requires : tie.Need-hollow-requires Inv-loop μ-loop
 hollow-requires c κs =
     let start = c .before .before .before .before .before .before in
@@ -53,12 +50,6 @@ loop-again c =
     let fits : c .before .before .before .before .before .before .hollow .result ≤ length (start .args .pool .now) = omega (arith, end .1, inv .1 .few, less, types, start .pre .1 .0) in
     (omega (arith, less), fillers-more (inv .1) (made-as-written (end .0) (omega (arith, fits, inv .1 .whole .pool-length)) (c .before .before .place .ensures)) (end .1) fits)
 
-same-length : tie.Need-same-length Inv-loop μ-loop
-same-length c = c .before .loop .inv .1 .whole .pool-length
-
-same-length-2 : tie.Need-same-length-2 Inv-loop μ-loop
-same-length-2 c = c .before .loop .inv .1 .whole .places-length
-
 returns : tie.Need-returns Inv-loop μ-loop
 returns c =
     let start = c .before .before .before .before .before in
@@ -73,12 +64,12 @@ filler-rows-spec =
     Inv-loop
     μ-loop
     (λ c κs. search needs)
-    loop-holds
+    (λ c. (omega arith, fillers-none _ _ _ (c .before .before .before .pre .1 .1)))
     hollow-requires
     place-requires
     add-t
     loop-less
     loop-again
-    same-length
-    same-length-2
+    (λ c. c .before .loop .inv .1 .whole .pool-length)
+    (λ c. c .before .loop .inv .1 .whole .places-length)
     returns)

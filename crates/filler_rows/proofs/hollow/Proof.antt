@@ -16,9 +16,6 @@ Inv-loop target t pool₀ at kind count place₀ i₀ pool place i = (sound : So
 abbrev μ-loop : tie.MeasureT-loop
 μ-loop target t pool₀ at kind count place₀ i₀ pool place i = count - i
 
-kind-requires : tie.Need-kind-requires Inv-loop μ-loop
-kind-requires c κs = small (c .before .pre .0) (c .before .pre .1 .0)
-
 least-member-requires : tie.Need-least-member-requires Inv-loop μ-loop
 least-member-requires c κs = (c .before .before .before .pre .0 .bounded, c .before .before .before .pre .1 .0)
 
@@ -26,9 +23,6 @@ put-requires : tie.Need-put-requires Inv-loop μ-loop
 put-requires c κs =
     let start = c .before .before .before .before .before in
     (omega (arith, start .pre .1 .1), omega (arith, least-small (start .pre .0) (start .pre .1 .0) (c .before .before .before .kind .ensures .0) (c .before .before .if1 .taken) (c .before .least-member .ensures)))
-
-same-length : tie.Need-same-length Inv-loop μ-loop
-same-length c = puts-length (c .before .before .put .ensures)
 
 returns : tie.Need-returns Inv-loop μ-loop
 returns c =
@@ -43,9 +37,6 @@ returns-2 c =
 
 count-requires : tie.Need-count-requires Inv-loop μ-loop
 count-requires c κs = small (c .before .before .before .before .pre .0) (c .before .before .before .before .pre .1 .0)
-
-loop-holds : tie.Need-loop-holds Inv-loop μ-loop
-loop-holds c = λ sound exists. hollows-none sound exists _ _
 
 member-requires : tie.Need-member-requires Inv-loop μ-loop
 member-requires c κs =
@@ -62,9 +53,6 @@ put-requires-2 c κs =
 
 add-i : tie.Need-add-i Inv-loop μ-loop
 add-i c = omega (arith, c .before .before .before .before .before .loop-test .taken, c .before .before .before .before .before .before .before .count .ensures .1)
-
-loop-less : tie.Need-loop-less Inv-loop μ-loop
-loop-less c = omega (arith, c .before .before .before .before .before .loop-test .taken)
 
 loop-again : tie.Need-loop-again Inv-loop μ-loop
 loop-again c = λ sound exists. hollows-more sound exists (c .before .before .before .before .before .before .loop .inv sound exists) (omega (arith, c .before .before .before .before .before .loop-test .taken, c .before .before .before .before .before .before .before .count .ensures .0)) (c .before .before .before .before .member .ensures .0) (c .before .before .before .before .before .before .before .before .before .before .kind .ensures .0) (c .before .before .before .before .before .before .before .before .if2 .left) (c .before .before .put2 .ensures)
@@ -88,18 +76,18 @@ hollow-spec =
     (tie.spec
     Inv-loop
     μ-loop
-    kind-requires
+    (λ c κs. small (c .before .pre .0) (c .before .pre .1 .0))
     least-member-requires
     put-requires
-    same-length
+    (λ c. puts-length (c .before .before .put .ensures))
     returns
     returns-2
     count-requires
-    loop-holds
+    (λ c. λ sound exists. hollows-none sound exists _ _)
     member-requires
     put-requires-2
     add-i
-    loop-less
+    (λ c. omega (arith, c .before .before .before .before .before .loop-test .taken))
     loop-again
     same-length-2
     returns-3)

@@ -14,9 +14,6 @@ returns : tie.Need-returns
 unfolding firstOf stepsFrom
 returns c = search (needs, c .if1 .taken)
 
-shared-slice-read-wide : tie.Need-shared-slice-read-wide
-shared-slice-read-wide c = c .before .before .before .pre (omega (arith, c .before .if1 .left))
-
 -- some step is left
 first-is : (em : List ℕ) (o left : ℕ) → (left ≡ 0 → ⊥) → firstOf (stepsFrom em o left) ≡ getD em o 0
 unfolding firstOf stepsFrom
@@ -27,4 +24,4 @@ returns-2 : tie.Need-returns-2
 returns-2 c = (c .wide .ensures .0 ∙ sym (first-is _ _ _ (c .before .before .if1 .left)), c .wide .ensures .1)
 
 pub first-step-spec : {M : Type 1} → statement M
-first-step-spec = tie.close (tie.spec returns shared-slice-read-wide (λ c κs. search needs) returns-2)
+first-step-spec = tie.close (tie.spec returns (λ c. c .before .before .before .pre (omega (arith, c .before .if1 .left))) (λ c κs. search needs) returns-2)

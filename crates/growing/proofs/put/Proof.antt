@@ -5,8 +5,5 @@ use borrow.Author.Needs.{needs}
 use Rattle.growing.proofs.put.Statement.{statement}
 use Rattle.growing.proofs.put.Tie as tie
 
-returns : tie.Need-returns
-returns c = record { numbers = _ ∷ []; written = refl; after = search needs; means = refl }
-
 pub put-spec : {M : Type 1} → statement M
-put-spec = tie.close (tie.spec (λ c. search needs) (λ c. search needs) (λ c. search needs) (λ c. search needs) (λ c. search needs) returns)
+put-spec = tie.close (tie.spec (λ c. search needs) (λ c. search needs) (λ c. search needs) (λ c. search needs) (λ c. search needs) (λ c. record { numbers = _ ∷ []; written = refl; after = search needs; means = refl }))

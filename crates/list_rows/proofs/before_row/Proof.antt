@@ -38,9 +38,6 @@ place-requires c κs =
 same-length : tie.Need-same-length
 same-length c = puts-length (c .before .before .before .before .before .before .element .ensures)
 
-same-length-2 : tie.Need-same-length-2
-same-length-2 c = placed-length (c .before .before .place .ensures)
-
 returns : tie.Need-returns
 returns c =
     let pre = c .before .before .before .before .before .before .before .before .before .before .before .before .before .before .pre in
@@ -63,5 +60,5 @@ before-row-spec =
     sub-place
     place-requires
     same-length
-    same-length-2
+    (λ c. placed-length (c .before .before .place .ensures))
     returns)

@@ -8,9 +8,6 @@ use borrow.Author.Needs.{needs}
 use Rattle.list_rows.proofs.one_path.Statement.{statement}
 use Rattle.list_rows.proofs.one_path.Tie as tie
 
-pushed-requires : tie.Need-pushed-requires
-pushed-requires c κs = rw (c .no-edges .ensures) (unfold noEdges in omega arith)
-
 returns : tie.Need-returns
 unfolding onePath
 returns c =
@@ -18,4 +15,4 @@ returns c =
     c .pushed .ensures ∙ ap (λ (e : Edges). push e (start .next) (start .steps) (start .hole)) (c .before .no-edges .ensures)
 
 pub one-path-spec : {M : Type 1} → statement M
-one-path-spec = tie.close (tie.spec (λ c κs. search needs) (λ c. search needs) pushed-requires returns)
+one-path-spec = tie.close (tie.spec (λ c κs. search needs) (λ c. search needs) (λ c κs. rw (c .no-edges .ensures) (unfold noEdges in omega arith)) returns)

@@ -31,9 +31,6 @@ place-requires c κs =
 same-length : tie.Need-same-length
 same-length c = puts-length (c .before .before .before .before .before .before .element .ensures)
 
-same-length-2 : tie.Need-same-length-2
-same-length-2 c = placed-length (c .before .before .place .ensures)
-
 returns : tie.Need-returns
 returns c =
     let pre = c .before .before .before .before .before .before .before .before .before .before .before .before .before .pre in
@@ -54,5 +51,5 @@ rest-row-spec =
     (λ c. search needs)
     place-requires
     same-length
-    same-length-2
+    (λ c. placed-length (c .before .before .place .ensures))
     returns)

@@ -15,12 +15,6 @@ Inv-loop source target map em s pool₀ places₀ at t count end₀ j₀ pool pl
 abbrev μ-loop : tie.MeasureT-loop
 μ-loop source target map em s pool₀ places₀ at t count end₀ j₀ pool places end j = count - j
 
-target-requires : tie.Need-target-requires Inv-loop μ-loop
-target-requires c κs = omega (arith, few-of-type (c .before .before .before .pre .0 .makeable))
-
-count-requires : tie.Need-count-requires Inv-loop μ-loop
-count-requires c κs = omega (arith, few-of-type (c .before .before .before .before .pre .0 .makeable))
-
 loop-holds : tie.Need-loop-holds Inv-loop μ-loop
 loop-holds c = (omega arith, progress-begin (c .before .before .before .before .before .pre .0 .makeable .ready) (c .before .before .before .before .before .pre .0 .makeable .exists) (c .before .before .before .before .before .pre .0 .progress))
 
@@ -74,12 +68,6 @@ loop-again c =
     let row = choice-edges (can .ready) (can .exists) (start .pre .1) (omega (arith, less, count)) (c .before .before .before .before .before .before .before .edges .ensures) in
     (omega (arith, less), row-more (can .ready) (can .exists) (inv .1) row (omega (arith, less, count, few)) (c .before .before .before .before .before .before .before .before .before .before .before .target .ensures .0) refl (c .before .before .before .before .own-row .ensures))
 
-same-length : tie.Need-same-length Inv-loop μ-loop
-same-length c = c .before .loop .inv .1 .whole .pool-length
-
-same-length-2 : tie.Need-same-length-2 Inv-loop μ-loop
-same-length-2 c = c .before .loop .inv .1 .whole .places-length
-
 returns : tie.Need-returns Inv-loop μ-loop
 returns c =
     let start = c .before .before .before .before .before .before .before in
@@ -94,8 +82,8 @@ choice-rows-spec =
     (tie.spec
     Inv-loop
     μ-loop
-    target-requires
-    count-requires
+    (λ c κs. omega (arith, few-of-type (c .before .before .before .pre .0 .makeable)))
+    (λ c κs. omega (arith, few-of-type (c .before .before .before .before .pre .0 .makeable)))
     loop-holds
     mul-edges
     add-edges
@@ -107,6 +95,6 @@ choice-rows-spec =
     add-j
     loop-less
     loop-again
-    same-length
-    same-length-2
+    (λ c. c .before .loop .inv .1 .whole .pool-length)
+    (λ c. c .before .loop .inv .1 .whole .places-length)
     returns)

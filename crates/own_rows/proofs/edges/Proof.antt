@@ -20,23 +20,8 @@ loop-holds c =
     let start = c .before in
     (omega arith, subst (λ (e : Edges). EdgesFrom (start .args .map .now) (start .args .first) (start .args .hole) 0 e) (sym (c .no-edges .ensures)) (edges-none _ _ _))
 
-add-with-edge : tie.Need-add-with-edge Inv-loop μ-loop
-add-with-edge c = omega (arith, c .loop-test .taken, c .before .before .before .pre .0)
-
-cast-with-edge : tie.Need-cast-with-edge Inv-loop μ-loop
-cast-with-edge c = omega (arith, c .loop-test .taken, c .before .before .before .pre .0)
-
-add-with-edge-2 : tie.Need-add-with-edge-2 Inv-loop μ-loop
-add-with-edge-2 c = omega (arith, c .loop-test .taken, c .before .before .before .pre .0)
-
 with-edge-requires : tie.Need-with-edge-requires Inv-loop μ-loop
 with-edge-requires c κs = (omega (arith, c .before .loop .inv .1 .many, c .loop-test .taken, c .before .before .before .pre .0), omega (arith, c .loop-test .taken, c .before .before .before .pre .0), c .before .before .before .pre .1 _)
-
-add-i : tie.Need-add-i Inv-loop μ-loop
-add-i c = omega (arith, c .before .loop-test .taken)
-
-loop-less : tie.Need-loop-less Inv-loop μ-loop
-loop-less c = omega (arith, c .before .loop-test .taken)
 
 loop-again : tie.Need-loop-again Inv-loop μ-loop
 loop-again c =
@@ -58,11 +43,11 @@ edges-spec =
     μ-loop
     (λ c κs. search needs)
     loop-holds
-    add-with-edge
-    cast-with-edge
-    add-with-edge-2
+    (λ c. omega (arith, c .loop-test .taken, c .before .before .before .pre .0))
+    (λ c. omega (arith, c .loop-test .taken, c .before .before .before .pre .0))
+    (λ c. omega (arith, c .loop-test .taken, c .before .before .before .pre .0))
     with-edge-requires
-    add-i
-    loop-less
+    (λ c. omega (arith, c .before .loop-test .taken))
+    (λ c. omega (arith, c .before .loop-test .taken))
     loop-again
     returns)

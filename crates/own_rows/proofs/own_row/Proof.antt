@@ -13,9 +13,6 @@ place-requires c κs =
     let start = c .before .before .before .before .before .before .before .before .before in
     (start .pre .1 .1 .2, omega (arith, c .before .before .before .from .ensures, c .before .before .before .before .before .before .slice-known2 .given (3 * start .args .t)), omega (arith, c .before .to .ensures, c .before .before .before .before .before .before .slice-known2 .given (3 * start .args .t + 1)), omega arith)
 
-same-length : tie.Need-same-length
-same-length c = placed-length (c .before .before .place .ensures)
-
 returns : tie.Need-returns
 returns c =
     let start = c .before .before .before .before .before .before .before .before .before .before .before .before in
@@ -35,9 +32,6 @@ place-requires-2 c κs =
 same-length-2 : tie.Need-same-length-2
 same-length-2 c = puts-length (c .before .before .before .before .before .before .element .ensures)
 
-same-length-3 : tie.Need-same-length-3
-same-length-3 c = placed-length (c .before .before .place2 .ensures)
-
 returns-2 : tie.Need-returns-2
 returns-2 c =
     let start = c .before .before .before .before .before .before .before .before .before .before .before .before in
@@ -50,7 +44,7 @@ own-row-spec =
     (λ c κs. search needs)
     (λ c κs. search needs)
     place-requires
-    same-length
+    (λ c. placed-length (c .before .before .place .ensures))
     returns
     (λ c. search needs)
     (λ c κs. search needs)
@@ -58,5 +52,5 @@ own-row-spec =
     sub-place
     place-requires-2
     same-length-2
-    same-length-3
+    (λ c. placed-length (c .before .before .place2 .ensures))
     returns-2)

@@ -7,22 +7,10 @@ use Rattle.own_rows.proofs.Steps.{own-edges, own-small, progress-begin,
 use Rattle.own_rows.proofs.own_rows.Statement.{statement}
 use Rattle.own_rows.proofs.own_rows.Tie as tie
 
-kind-requires : tie.Need-kind-requires
-kind-requires c κs = omega (arith, few-of-type (c .before .before .before .pre .0 .makeable))
-
 choice-rows-requires : tie.Need-choice-rows-requires
 choice-rows-requires c κs =
     let start = c .before .before .before .before .before .before .before in
     (start .pre .0, omega (arith, c .before .before .if1 .taken, c .before .before .before .kind .ensures .0))
-
-same-length : tie.Need-same-length
-same-length c = c .before .before .before .before .choice-rows .ensures .whole .pool-length
-
-same-length-2 : tie.Need-same-length-2
-same-length-2 c = c .before .before .before .before .choice-rows .ensures .whole .places-length
-
-returns : tie.Need-returns
-returns c = c .before .before .before .before .choice-rows .ensures
 
 own-edges-requires : tie.Need-own-edges-requires
 own-edges-requires c κs =
@@ -49,12 +37,6 @@ own-row-requires c κs =
     let begin = progress-begin (can .ready) (can .exists) (start .pre .0 .progress) in
     row-needs (can .ready) (can .exists) begin row (omega arith) (c .before .before .target .ensures .0) (omega arith) (can .small) (can .long) (omega arith)
 
-same-length-3 : tie.Need-same-length-3
-same-length-3 c = puts-length (c .before .before .before .before .own-row .ensures .0 .puts)
-
-same-length-4 : tie.Need-same-length-4
-same-length-4 c = placed-length (c .before .before .before .before .own-row .ensures .0 .placed)
-
 returns-2 : tie.Need-returns-2
 returns-2 c =
     let start = c .before .before .before .before .before .before .before .before .before .before .before .before .before .before in
@@ -70,16 +52,16 @@ pub own-rows-spec : {M : Type 1} → statement M
 own-rows-spec =
     tie.close
     (tie.spec
-    kind-requires
+    (λ c κs. omega (arith, few-of-type (c .before .before .before .pre .0 .makeable)))
     choice-rows-requires
-    same-length
-    same-length-2
-    returns
+    (λ c. c .before .before .before .before .choice-rows .ensures .whole .pool-length)
+    (λ c. c .before .before .before .before .choice-rows .ensures .whole .places-length)
+    (λ c. c .before .before .before .before .choice-rows .ensures)
     own-edges-requires
     target-requires
     mul-own-row
     add-own-row
     own-row-requires
-    same-length-3
-    same-length-4
+    (λ c. puts-length (c .before .before .before .before .own-row .ensures .0 .puts))
+    (λ c. placed-length (c .before .before .before .before .own-row .ensures .0 .placed))
     returns-2)

@@ -15,32 +15,11 @@ Inv-loop source target map all total₀ i₀ total i = Adds map total₀ all tot
 abbrev μ-loop : tie.MeasureT-loop
 μ-loop source target map all total₀ i₀ total i = all - i
 
-mul-all : tie.Need-mul-all Inv-loop μ-loop
-mul-all c = omega (arith, c .types .ensures .1)
-
-mul-total : tie.Need-mul-total Inv-loop μ-loop
-mul-total c = omega (arith, c .types2 .ensures .1)
-
-loop-holds : tie.Need-loop-holds Inv-loop μ-loop
-loop-holds c = adds-none _ _ _
-
 steps-requires : tie.Need-steps-requires Inv-loop μ-loop
 steps-requires c κs = omega (arith, c .loop-test .taken, c .before .before .before .types .ensures .0, c .before .before .before .before .pre)
 
-mul-total-2 : tie.Need-mul-total-2 Inv-loop μ-loop
-mul-total-2 c = omega (arith, c .steps .ensures .1)
-
-add-total : tie.Need-add-total Inv-loop μ-loop
-add-total c = omega (arith, c .steps .ensures .1)
-
 add-total-2 : tie.Need-add-total-2 Inv-loop μ-loop
 add-total-2 c = omega (arith, c .steps .ensures .1, c .before .before .loop .inv .small, c .before .loop-test .taken, c .before .before .before .before .types .ensures .1, c .before .before .before .types2 .ensures .1)
-
-add-i : tie.Need-add-i Inv-loop μ-loop
-add-i c = omega (arith, c .before .loop-test .taken)
-
-loop-less : tie.Need-loop-less Inv-loop μ-loop
-loop-less c = omega (arith, c .before .loop-test .taken)
 
 loop-again : tie.Need-loop-again Inv-loop μ-loop
 loop-again c = adds-more (c .before .before .loop .inv) (c .before .loop-test .taken) (c .steps .ensures .0) (c .steps .ensures .1)
@@ -58,15 +37,15 @@ room-spec =
     Inv-loop
     μ-loop
     (λ c κs. search needs)
-    mul-all
+    (λ c. omega (arith, c .types .ensures .1))
     (λ c κs. search needs)
-    mul-total
-    loop-holds
+    (λ c. omega (arith, c .types2 .ensures .1))
+    (λ c. adds-none _ _ _)
     steps-requires
-    mul-total-2
-    add-total
+    (λ c. omega (arith, c .steps .ensures .1))
+    (λ c. omega (arith, c .steps .ensures .1))
     add-total-2
-    add-i
-    loop-less
+    (λ c. omega (arith, c .before .loop-test .taken))
+    (λ c. omega (arith, c .before .loop-test .taken))
     loop-again
     returns)

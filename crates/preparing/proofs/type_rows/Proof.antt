@@ -11,26 +11,8 @@ kind-requires c κs =
 own-rows-requires : tie.Need-own-rows-requires
 own-rows-requires c κs = (c .before .before .before .before .before .before .before .pre, omega (arith, c .before .before .if1 .taken, c .before .before .before .kind .ensures .0))
 
-same-length : tie.Need-same-length
-same-length c = c .before .before .before .before .own-rows .ensures .whole .pool-length
-
-same-length-2 : tie.Need-same-length-2
-same-length-2 c = c .before .before .before .before .own-rows .ensures .whole .places-length
-
-returns : tie.Need-returns
-returns c = c .before .before .before .before .own-rows .ensures
-
 list-rows-requires : tie.Need-list-rows-requires
 list-rows-requires c κs = (c .before .before .before .before .before .before .before .pre, omega (arith, c .before .before .if1 .left, c .before .before .before .kind .ensures .0))
-
-same-length-3 : tie.Need-same-length-3
-same-length-3 c = c .before .before .before .before .list-rows .ensures .whole .pool-length
-
-same-length-4 : tie.Need-same-length-4
-same-length-4 c = c .before .before .before .before .list-rows .ensures .whole .places-length
-
-returns-2 : tie.Need-returns-2
-returns-2 c = c .before .before .before .before .list-rows .ensures
 
 pub type-rows-spec : {M : Type 1} → statement M
 type-rows-spec =
@@ -38,10 +20,10 @@ type-rows-spec =
     (tie.spec
     kind-requires
     own-rows-requires
-    same-length
-    same-length-2
-    returns
+    (λ c. c .before .before .before .before .own-rows .ensures .whole .pool-length)
+    (λ c. c .before .before .before .before .own-rows .ensures .whole .places-length)
+    (λ c. c .before .before .before .before .own-rows .ensures)
     list-rows-requires
-    same-length-3
-    same-length-4
-    returns-2)
+    (λ c. c .before .before .before .before .list-rows .ensures .whole .pool-length)
+    (λ c. c .before .before .before .before .list-rows .ensures .whole .places-length)
+    (λ c. c .before .before .before .before .list-rows .ensures))

@@ -12,9 +12,6 @@ Inv-loop target pool from to depth sums₀ i₀ sums i = Along target pool from 
 abbrev μ-loop : tie.MeasureT-loop
 μ-loop target pool from to depth sums₀ i₀ sums i = to - i
 
-loop-holds : tie.Need-loop-holds Inv-loop μ-loop
-loop-holds c = along-none _ _ _ _ _
-
 shared-slice-read-wide : tie.Need-shared-slice-read-wide Inv-loop μ-loop
 shared-slice-read-wide c = omega (arith, c .before .loop-test .taken, c .before .before .before .before .pre .0)
 
@@ -24,17 +21,8 @@ with-symbol-requires c κs =
     let inv = c .before .before .before .loop .inv in
     record { depth = omega (arith, inv .grown, c .before .before .loop-test .taken, start .pre .0, start .pre .1, start .good .1 .0 .0); levels = inv .high .0; bytes = inv .high .1; filler = inv .high .2 }
 
-add-i : tie.Need-add-i Inv-loop μ-loop
-add-i c = omega (arith, c .before .before .before .loop-test .taken)
-
-loop-less : tie.Need-loop-less Inv-loop μ-loop
-loop-less c = omega (arith, c .before .before .before .loop-test .taken)
-
 loop-again : tie.Need-loop-again Inv-loop μ-loop
 loop-again c = along-more (c .before .before .before .before .loop .inv) (c .before .before .before .loop-test .taken) (c .before .before .before .before .before .before .pre .0) (c .before .wide .ensures .0) (c .with-symbol .ensures)
-
-returns : tie.Need-returns Inv-loop μ-loop
-returns c = along-all (c .before .loop .inv) (c .loop-test .left)
 
 pub row-size-spec : {M : Type 1} → statement M
 row-size-spec =
@@ -42,11 +30,11 @@ row-size-spec =
     (tie.spec
     Inv-loop
     μ-loop
-    loop-holds
+    (λ c. along-none _ _ _ _ _)
     shared-slice-read-wide
     (λ c κs. search needs)
     with-symbol-requires
-    add-i
-    loop-less
+    (λ c. omega (arith, c .before .before .before .loop-test .taken))
+    (λ c. omega (arith, c .before .before .before .loop-test .taken))
     loop-again
-    returns)
+    (λ c. along-all (c .before .loop .inv) (c .loop-test .left)))

@@ -17,15 +17,6 @@ Inv-loop source target pool places sizes₀ types rows row₀ sizes row = (lengt
 abbrev μ-loop : tie.MeasureT-loop
 μ-loop source target pool places sizes₀ types rows row₀ sizes row = rows - row
 
-mul-rows : tie.Need-mul-rows Inv-loop μ-loop
-mul-rows c = omega (arith, c .types .ensures .1)
-
-add-rows : tie.Need-add-rows Inv-loop μ-loop
-add-rows c = omega (arith, c .types .ensures .1)
-
-loop-holds : tie.Need-loop-holds Inv-loop μ-loop
-loop-holds c = (refl, record { at = λ r h. absurd (omega arith) })
-
 from-requires : tie.Need-from-requires Inv-loop μ-loop
 from-requires c κs = omega (arith, c .loop-test .taken, c .before .before .types .ensures .0, c .before .before .before .before .before .before .pre .1 .0)
 
@@ -64,9 +55,6 @@ loop-again c =
     let stored = c .before .before .store .ensures in
     (sized-length long (loop .inv .1) from to depth size stored ∙ loop .inv .0, sized-more long (loop .inv .1) from to depth size stored)
 
-same-length : tie.Need-same-length Inv-loop μ-loop
-same-length c = c .before .loop .inv .0
-
 returns : tie.Need-returns Inv-loop μ-loop
 returns c =
     let start = c .before .before .before .before .before .before in
@@ -81,9 +69,9 @@ size-rows-spec =
     Inv-loop
     μ-loop
     (λ c κs. search needs)
-    mul-rows
-    add-rows
-    loop-holds
+    (λ c. omega (arith, c .types .ensures .1))
+    (λ c. omega (arith, c .types .ensures .1))
+    (λ c. (refl, record { at = λ r h. absurd (omega arith) }))
     from-requires
     to-requires
     depth-requires
@@ -92,5 +80,5 @@ size-rows-spec =
     add-row
     loop-less
     loop-again
-    same-length
+    (λ c. c .before .loop .inv .0)
     returns)

@@ -27,9 +27,6 @@ other-row source s t less is-other =
     let row = ap (λ κ. rowIndex κ t) (kind-of source s less) ∙ row-of-other t _ _ _ is-other in
     (omega (arith, row), omega arith)
 
-kind-requires : tie.Need-kind-requires
-kind-requires c κs = omega (arith, c .pre .0 .few-types, c .pre .1)
-
 count-requires : tie.Need-count-requires
 count-requires c κs = let start = c .before .before in omega (arith, start .pre .0 .few-types, start .pre .1)
 
@@ -52,4 +49,4 @@ returns-2 c =
     other-row (start .args .source .now) (start .args .s) (start .args .t) (start .pre .1) (λ e. c .if1 .left (c .before .kind .ensures .0 ∙ e))
 
 pub source-row-spec : {M : Type 1} → statement M
-source-row-spec = tie.close (tie.spec (λ c. search needs) (λ c. search needs) kind-requires count-requires index-of-requires (λ c. search needs) returns returns-2)
+source-row-spec = tie.close (tie.spec (λ c. search needs) (λ c. search needs) (λ c κs. omega (arith, c .pre .0 .few-types, c .pre .1)) count-requires index-of-requires (λ c. search needs) returns returns-2)
