@@ -1,12 +1,12 @@
 -- Rows that are made, and stand in the pool before a place.
 use mathlib.Core.Path.{_≡_}
 use mathlib.Core.List.{List}
-use Prim.Native.Nat.{ℕ, _+_, _*_, _≤_, _<_}
-use lib.ListN.{length, set}
+use Prim.Native.Nat.{ℕ, _*_, _≤_, _<_}
+use lib.ListN.{length}
 use Rattle.model.specs.Definitions.Templates.{Symbol, fillerRow}
 use Rattle.model.specs.Theorems.Facts.{SoundTable}
 use Rattle.loaded_table.specs.Loaded.{Bounded, Kept, tableBy}
-use Rattle.rows.specs.Rows.{toOf, depthIn, rowIn, rowAt, HasRow}
+use Rattle.rows.specs.Rows.{toOf, depthIn, rowIn, rowAt, HasRow, setRow}
 use Rattle.growing.specs.Growing.{Puts}
 
 -- a loaded table within its bounds, sound, with its heights kept
@@ -24,7 +24,7 @@ pub record Stored (pool places : List ℕ) (at r : ℕ) (row : List Symbol) (d :
 -- it is stored that row r stands from one place up to another, with d elements open around it
 pub record PlacedRow (places after : List ℕ) (r from to d : ℕ) : Type 0 where
   pub long : HasRow places r
-  pub is : after ≡ set (set (set places (3 * r) from) (3 * r + 1) to) (3 * r + 2) d
+  pub is : after ≡ setRow places r from to d
 
 -- a row is written behind the others, or stands among them, and is placed
 pub record RowMade (pool places : List ℕ) (at row : ℕ) (content : List Symbol) (depth : ℕ) (pool′ places′ : List ℕ) (end : ℕ) : Type 0 where

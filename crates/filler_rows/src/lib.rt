@@ -4,7 +4,7 @@ ghost use lib.ListN.{length};
 ghost use Rattle.model.specs.Definitions.Templates.{fillerRow};
 ghost use Rattle.loaded_table.specs.Loaded.{tableBy, typesIn};
 ghost use Rattle.growing.specs.Growing.{Puts};
-ghost use Rattle.rows.specs.Rows.{toOf, HasRow, IsWord};
+ghost use Rattle.rows.specs.Rows.{toOf, HasRow, HasRows, IsWord};
 ghost use Rattle.filler_rows.specs.Storing.{Sound, PlacedRow, FillersStored};
 use growing::put;
 use loaded_table::CHOICE;
@@ -49,7 +49,7 @@ pub fn place(places: &mut [u32], row: usize, from: usize, to: usize, depth: usiz
 // Writes and places the rows of filler of all types, from the pool's start, and returns the place after them.
 pub fn filler_rows(target: &[u16; TABLE], pool: &mut [u8], places: &mut [u32]) -> usize
     requires sound { ⌜ Sound (now target) ⌝ }
-    requires room { ⌜ (16 * typesIn (now target) ≤ length (now pool)) × IsWord (length (now pool)) × (192 ≤ length (now places)) ⌝ }
+    requires room { ⌜ (16 * typesIn (now target) ≤ length (now pool)) × IsWord (length (now pool)) × HasRows (now places) 0 ⌝ }
     requires within { ⌜ ((row : ℕ) → toOf (now places) row ≤ length (now pool)) ⌝ }
     ensures { λ r. ⌜ FillersStored (now (target .entry)) (now (pool .entry)) (now (places .entry)) (typesIn (now (target .entry))) (now (pool .exit)) (now (places .exit)) r ⌝ }
 {

@@ -2,10 +2,10 @@
 ghost use mathlib.Core.Path.{_≡_};
 ghost use mathlib.Core.List.{List};
 ghost use Prim.Native.Nat.{ℕ, _+_, _-_, _*_, _≤_, _<_, min, max};
-ghost use lib.ListN.{length, set};
+ghost use lib.ListN.{length};
 ghost use Rattle.loaded_table.specs.Loaded.{Bounded, typesIn};
 ghost use Rattle.loaded_setting.specs.Ready.{settingIn, Ready};
-ghost use Rattle.rows.specs.Rows.{toOf, rowIn, Rows, Sizes, HasRow, HasRows, IsWord};
+ghost use Rattle.rows.specs.Rows.{toOf, rowIn, Rows, Sizes, HasRow, HasRows, IsWord, setRow};
 ghost use Rattle.row_sizes.specs.Sizing.{Small, Adds, Measures};
 use codes::MAX_TYPES;
 use codes::OVER_BYTES;
@@ -150,7 +150,7 @@ pub fn size_rows(
 // Stores the size of a row.
 fn store(sizes: &mut [u16], row: usize, size: Size)
     requires { ⌜ HasRow (now sizes) row × (size .levels ≤ 60001) × (size .bytes ≤ 60001) × (size .filler ≤ 60001) ⌝ }
-    ensures { λ r. ⌜ now (sizes .exit) ≡ set (set (set (now (sizes .entry)) (3 * row) (size .levels)) (3 * row + 1) (size .bytes)) (3 * row + 2) (size .filler) ⌝ }
+    ensures { λ r. ⌜ now (sizes .exit) ≡ setRow (now (sizes .entry)) row (size .levels) (size .bytes) (size .filler) ⌝ }
 {
     let levels = size.levels;
     let bytes = size.bytes;

@@ -10,7 +10,7 @@ use borrow.Author.Tests.{eq-eqb, ne-eqb}
 use Rattle.model.specs.Definitions.Basics.{pick, entry}
 use Rattle.model.specs.Definitions.Table.{sequence, choice, list}
 use Rattle.loaded_table.specs.Loaded.{kindFrom}
-use Rattle.rows.specs.Rows.{indexIn, rowIndex, SizeAt, HasRow}
+use Rattle.rows.specs.Rows.{indexIn, rowIndex, SizeAt, HasRow, setRow}
 
 -- the place of t in a part of a list: none are left; it stands first; another does
 pub index-none : (t n o : ℕ) (l : List ℕ) → n ≡ 0 → indexIn t (take n (drop o l)) ≡ 0
@@ -79,9 +79,6 @@ entry-there (m ∷ ms) (suc j) less = entry-there ms j (omega arith)
 -- ---- three numbers that are stored for a row
 
 module _ (l : List ℕ) (row a b c : ℕ) (long : HasRow l row) where
-  abbrev pub three : List ℕ
-  three = set (set (set l (3 * row) a) (3 * row + 1) b) (3 * row + 2) c
-
   abbrev first : List ℕ
   first = set l (3 * row) a
 
@@ -94,27 +91,27 @@ module _ (l : List ℕ) (row a b c : ℕ) (long : HasRow l row) where
   long₂ : length second ≡ length l
   long₂ = length-set first (3 * row + 1) b ∙ long₁
 
-  pub three-length : length three ≡ length l
+  pub three-length : length (setRow l row a b c) ≡ length l
   three-length = length-set second (3 * row + 2) c ∙ long₂
 
   -- other numbers stay
-  pub three-other : (k : ℕ) → (k ≡ 3 * row → ⊥) → (k ≡ 3 * row + 1 → ⊥) → (k ≡ 3 * row + 2 → ⊥) → getD three k 0 ≡ getD l k 0
+  pub three-other : (k : ℕ) → (k ≡ 3 * row → ⊥) → (k ≡ 3 * row + 1 → ⊥) → (k ≡ 3 * row + 2 → ⊥) → getD (setRow l row a b c) k 0 ≡ getD l k 0
   three-other k x y z = getD-set-other second (3 * row + 2) k c 0 z ∙ getD-set-other first (3 * row + 1) k b 0 y ∙ getD-set-other l (3 * row) k a 0 x
 
   -- these are there
-  pub three-first : getD three (3 * row) 0 ≡ a
+  pub three-first : getD (setRow l row a b c) (3 * row) 0 ≡ a
   three-first =
       getD-set-other second (3 * row + 2) (3 * row) c 0 (λ e. omega arith) ∙ getD-set-other first (3 * row + 1) (3 * row) b 0 (λ e. omega arith)
       ∙ getD-set-same l (3 * row) a 0 (omega arith)
 
-  pub three-second : getD three (3 * row + 1) 0 ≡ b
+  pub three-second : getD (setRow l row a b c) (3 * row + 1) 0 ≡ b
   three-second = getD-set-other second (3 * row + 2) (3 * row + 1) c 0 (λ e. omega arith) ∙ getD-set-same first (3 * row + 1) b 0 (omega (arith, long₁))
 
-  pub three-third : getD three (3 * row + 2) 0 ≡ c
+  pub three-third : getD (setRow l row a b c) (3 * row + 2) 0 ≡ c
   three-third = getD-set-same second (3 * row + 2) c 0 (omega (arith, long₂))
 
   -- sizes of other rows stay
-  pub stored-other : (r levels bytes fill : ℕ) → (r ≡ row → ⊥) → SizeAt l r levels bytes fill → SizeAt three r levels bytes fill
+  pub stored-other : (r levels bytes fill : ℕ) → (r ≡ row → ⊥) → SizeAt l r levels bytes fill → SizeAt (setRow l row a b c) r levels bytes fill
   stored-other r levels bytes fill other at =
       record {
         levels-are = three-other (3 * r) (λ e. other (omega arith)) (λ e. omega arith) (λ e. omega arith) ∙ at .levels-are;
@@ -123,5 +120,5 @@ module _ (l : List ℕ) (row a b c : ℕ) (long : HasRow l row) where
       }
 
   -- the size of this one is there
-  pub stored-here : (levels bytes fill : ℕ) → a ≡ min 60001 levels → b ≡ min 60001 bytes → c ≡ min 60001 fill → SizeAt three row levels bytes fill
+  pub stored-here : (levels bytes fill : ℕ) → a ≡ min 60001 levels → b ≡ min 60001 bytes → c ≡ min 60001 fill → SizeAt (setRow l row a b c) row levels bytes fill
   stored-here levels bytes fill x y z = record { levels-are = three-first ∙ x; bytes-are = three-second ∙ y; filler-is = three-third ∙ z }

@@ -2,7 +2,7 @@
 use mathlib.Core.Path.{_≡_}
 use mathlib.Core.List.{List, [], _∷_, map}
 use Prim.Native.Nat.{ℕ, suc, _+_, _-_, _*_, _≤_, _<_, min}
-use lib.ListN.{length, take, drop, getD}
+use lib.ListN.{length, take, drop, getD, set}
 use lib.Dec.{eqb, ltb}
 use Rattle.model.specs.Definitions.Basics.{pick}
 use Rattle.model.specs.Definitions.Table.{Table, Kind, text, empty, sequence, choice, list, kindOf}
@@ -43,6 +43,10 @@ toOf places r = getD places (3 * r + 1) 0
 
 abbrev pub depthIn : List ℕ → ℕ → ℕ
 depthIn places r = getD places (3 * r + 2) 0
+
+-- three numbers are stored for row r
+abbrev pub setRow : List ℕ → ℕ → ℕ → ℕ → ℕ → List ℕ
+setRow l r a b c = set (set (set l (3 * r) a) (3 * r + 1) b) (3 * r + 2) c
 
 abbrev pub rowAt : List ℕ → List ℕ → ℕ → List Symbol
 rowAt pool places r = rowIn pool (fromOf places r) (toOf places r)

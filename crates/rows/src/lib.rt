@@ -2,9 +2,9 @@
 // of the model they hold.
 ghost use mathlib.Core.Path.{_≡_};
 ghost use Prim.Native.Nat.{_+_, _*_, _≤_, _<_};
-ghost use lib.ListN.{take, drop, set};
+ghost use lib.ListN.{take, drop};
 ghost use Rattle.loaded_table.specs.Loaded.{Bounded, tableBy, typesIn, membersIn};
-ghost use Rattle.rows.specs.Rows.{fromOf, toOf, depthIn, levelsIn, bytesIn, fillerIn, indexIn, sourceRow, itemRow, HasRow};
+ghost use Rattle.rows.specs.Rows.{fromOf, toOf, depthIn, levelsIn, bytesIn, fillerIn, indexIn, sourceRow, itemRow, HasRow, setRow};
 use codes::MAX_MEMBERS;
 use codes::MAX_TYPES;
 use loaded_table::CHOICE;
@@ -102,7 +102,7 @@ pub fn item_row(s: usize) -> usize
 // Stores where row r begins and ends, and how many elements are open around it.
 pub fn place_row(places: &mut [u32], r: usize, from: u32, to: u32, depth: u32)
     requires { ⌜ HasRow (now places) r ⌝ }
-    ensures { λ r′. ⌜ now (places .exit) ≡ set (set (set (now (places .entry)) (3 * r) from) (3 * r + 1) to) (3 * r + 2) depth ⌝ }
+    ensures { λ r′. ⌜ now (places .exit) ≡ setRow (now (places .entry)) r from to depth ⌝ }
 {
     let i = NUMBERS * r;
     places[i] = from;
@@ -140,7 +140,7 @@ fn narrow(x: u16) -> usize
 // Stores the size of row r.
 pub fn store_size(sizes: &mut [u16], r: usize, levels: u16, bytes: u16, filler: u16)
     requires { ⌜ HasRow (now sizes) r ⌝ }
-    ensures { λ r′. ⌜ now (sizes .exit) ≡ set (set (set (now (sizes .entry)) (3 * r) levels) (3 * r + 1) bytes) (3 * r + 2) filler ⌝ }
+    ensures { λ r′. ⌜ now (sizes .exit) ≡ setRow (now (sizes .entry)) r levels bytes filler ⌝ }
 {
     let i = NUMBERS * r;
     sizes[i] = levels;

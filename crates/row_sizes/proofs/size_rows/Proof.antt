@@ -1,10 +1,11 @@
 -- `size_rows` meets its contract: the rows before a row are sized.
 use mathlib.Core.Path.{_≡_, refl, _∙_}
-use Prim.Native.Nat.{_+_, _-_, _*_, _≤_, _<_}
+use Prim.Native.Nat.{_+_, _-_, _*_, _≤_}
 use native.Mathlib.Omega.{arith}
 use borrow.Author.Needs.{needs}
 use lib.ListN.{length}
 use Rattle.loaded_table.specs.Loaded.{typesIn}
+use Rattle.rows.specs.Rows.{HasRow, rowsBefore}
 use Rattle.row_sizes.specs.Sizing.{Sized}
 use Rattle.row_sizes.specs.Sizes.{sized-all}
 use Rattle.row_sizes.proofs.Storing.{sized-length, sized-more}
@@ -47,7 +48,7 @@ loop-again : tie.Need-loop-again Inv-loop μ-loop
 loop-again c =
     let start = c .before .before .before .before .before .before .before .before .before .before .before .before .before .before in
     let loop = c .before .before .before .before .before .before .before .before .before .loop in
-    let long : 3 * loop .row + 2 < length (loop .sizes) = omega (arith, c .before .before .before .before .before .before .before .before .loop-test .taken, c .before .before .before .before .before .before .before .before .before .before .types .ensures .0, loop .inv .0, start .pre .1 .0) in
+    let long : HasRow (loop .sizes) (loop .row) = omega (arith, c .before .before .before .before .before .before .before .before .loop-test .taken, c .before .before .before .before .before .before .before .before .before .before .types .ensures .0, loop .inv .0, start .pre .1 .0) in
     let from = c .before .before .before .before .before .before .before .from .ensures in
     let to = c .before .before .before .before .before .before .to .ensures in
     let depth = c .before .before .before .before .before .depth .ensures in
@@ -59,7 +60,7 @@ returns : tie.Need-returns Inv-loop μ-loop
 returns c =
     let start = c .before .before .before .before .before .before in
     λ map em ready rows.
-    let all : 64 + typesIn (start .args .source .now) * 17 ≤ c .before .loop .row = omega (arith, c .loop-test .left, c .before .before .types .ensures .0) in
+    let all : rowsBefore (typesIn (start .args .source .now)) ≤ c .before .loop .row = omega (arith, c .loop-test .left, c .before .before .types .ensures .0) in
     sized-all ready rows (omega (arith, start .pre .1 .0, c .before .loop .inv .0)) (record { at = λ r h. c .before .loop .inv .1 .at r (omega (arith, all)) })
 
 pub size-rows-spec : {M : Type 1} → statement M
