@@ -185,11 +185,3 @@ grows {target = target} bounded wf {t = t} exists (placed (p ∷ path′) b ∷ 
 grows {target = target} bounded wf {t = t} exists (placed (p ∷ path′) b ∷ rs) (below-list {n = n} m kind starts fits) q path a qs is r spans =
     let here : p ≡ q = cc in
     by-list bounded wf exists n p path′ b rs m kind refl fits r (subst (λ (s : ℕ). Spans target t s r) (sym here) spans)
-
--- no path is too long
-pub fits-positive : {T : Table} {n t : ℕ} {ps : List (Placement Shape)} → Fits T n t ps → 0 < n
-fits-positive nothing-placed = omega arith
-fits-positive right-here = omega arith
-fits-positive (below-sequence ms kind starts fits) = omega arith
-fits-positive (below-choice ms kind step starts fits) = omega arith
-fits-positive (below-list m kind starts fits) = omega arith

@@ -20,8 +20,8 @@ use Rattle.growing.specs.declared.Edges.{Edges}
 use Rattle.growing.specs.declared.Span.{Span}
 use Rattle.growing.specs.Growing.{firstOf, placementOf, placementsFrom, placementsOf, Readable, Puts, Spans, Task, elementRow}
 use Rattle.growing.specs.Laws.{puts-none, puts-then, puts-length, puts-after}
-use Rattle.growing.specs.Parts.{held, first-path, row-none, row-built}
-use Rattle.growing.proofs.ByKind.{membersFrom, memberAt, Grows, grows, fits-positive}
+use Rattle.growing.specs.Parts.{fits-positive, held, first-path, row-none, row-built}
+use Rattle.growing.proofs.ByKind.{membersFrom, memberAt, Grows, grows}
 
 -- a row with what follows it
 framed-then : (b : Bool) (t : ℕ) (k r : Shape) → rowOf (framed b t k r) ≡ rowOf (framed b t k bare) ++ rowOf r

@@ -1,16 +1,25 @@
 -- The row of an element, in parts.
 use mathlib.Core.Path.{_≡_, refl}
 use mathlib.Core.List.{List, [], _∷_, _++_}
-use Prim.Native.Nat.{ℕ, suc, _-_}
+use Prim.Native.Nat.{ℕ, suc, _-_, _<_}
 use native.Mathlib.Omega.{arith}
 use lib.ListN.{getD}
 use Rattle.model.specs.Definitions.Table.{Table}
 use Rattle.model.specs.Definitions.Filler.{fillers}
 use Rattle.model.specs.Definitions.Image.{Placement, isPlaced, grow}
 use Rattle.model.specs.Definitions.Templates.{Shape, bare, framed, shaped, Symbol, opening, closing, filler, rowOf}
+use Rattle.model.specs.Theorems.Facts.{Fits, nothing-placed, right-here, below-sequence, below-choice, below-list}
 use Rattle.loaded_table.specs.Loaded.{tableBy}
 use Rattle.growing.specs.declared.Edges.{Edges}
 use Rattle.growing.specs.Growing.{placementOf, placementsFrom, placementsOf, elementRow}
+
+-- no path is too long
+pub fits-positive : {T : Table} {n t : ℕ} {ps : List (Placement Shape)} → Fits T n t ps → 0 < n
+fits-positive nothing-placed = omega arith
+fits-positive right-here = omega arith
+fits-positive (below-sequence ms kind starts fits) = omega arith
+fits-positive (below-choice ms kind step starts fits) = omega arith
+fits-positive (below-list m kind starts fits) = omega arith
 
 module _ (target em : List ℕ) (e : Edges) (n t : ℕ) where
   abbrev T : Table

@@ -26,21 +26,13 @@ use Rattle.filler_rows.specs.Storing.{Stored, Whole, RowMade}
 use Rattle.filler_rows.specs.Laws.{whole-more}
 use Rattle.own_rows.specs.Making.{edgePlacements, EdgesFrom, OwnEdges, heldRow, edgeRoom}
 use Rattle.own_rows.specs.Bounds.{weight}
-use Rattle.own_rows.specs.Short.{edgeWeight, edges-weight, edges-gaps, element-short}
+use Rattle.own_rows.specs.Short.{edges-room, edges-gaps, element-short}
 use Rattle.own_rows.specs.Wanted.{Wanted, of-filler, of-type, of-item, Done, done-more, done-past, wanted-type}
 use Rattle.own_rows.specs.Holes.{text-holes, empty-holes, sequence-holes, choice-holes, type-task, type-template}
 use Rattle.own_rows.specs.Progress.{Progress}
 use Rattle.own_rows.specs.Laws.{room-split}
 
 -- ---- room
-
--- the paths of some of the edges take less
-room-enough : (map : List ℕ) (i n w : ℕ) → n ≤ w → edgeWeight map i n + 3 * w ≤ edgeRoom map i w
-unfolding edgeRoom edgeWeight
-room-enough map i zero zero h = omega arith
-room-enough map i zero (suc w) h = omega (arith, room-enough map (suc i) zero w (omega arith))
-room-enough map i (suc n) zero h = absurd (omega arith)
-room-enough map i (suc n) (suc w) h = omega (arith, room-enough map (suc i) n w (omega arith))
 
 -- the row of an element without paths is one symbol
 element-bare : (target em : List ℕ) (e : Edges) (n t : ℕ) → e .count ≡ 0 → length (elementRow target em e n t) ≡ 1
@@ -56,10 +48,10 @@ element-fits {target} {em} {map} {e} {first} {hole} {n} {t} task bounded edges w
     are = edges .placements em bounded
 
     go : (b : Bool) → eqb (e .count) 0 ≡ b → length (elementRow target em e stepBound t) ≤ edgeRoom map first w
-    go true q = omega (arith, element-bare target em e stepBound t (eqb-true (e .count) 0 q), room-enough map first n w less)
+    go true q = omega (arith, element-bare target em e stepBound t (eqb-true (e .count) 0 q), edges-room em map first hole n w less)
     go false q =
         let short = element-short task (eqb-false (e .count) 0 q) (rw are (edges-gaps em map first hole n)) in
-        omega (arith, short, ap weight are, edges-weight em map first hole n, room-enough map first n w less)
+        omega (arith, short, ap weight are, edges-room em map first hole n w less)
 
 -- ---- the place of a choice's member
 

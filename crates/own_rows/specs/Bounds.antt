@@ -18,6 +18,7 @@ use Rattle.model.specs.Definitions.Templates.{Shape, bare, framed, shaped, clos
 use Rattle.model.specs.Theorems.Facts.{All, all-more, Starts, starts-none, starts-more, Fits, nothing-placed, right-here, below-sequence, below-choice, below-list}
 use Rattle.model.specs.Theorems.Tools.{one-plus}
 use Rattle.model.specs.Theorems.Placing.{under-same, under-all}
+use Rattle.growing.specs.Parts.{fits-positive}
 
 -- the symbols that some paths can add
 unfoldable pub weight : List (Placement Shape) → ℕ
@@ -130,14 +131,7 @@ module _ (T : Table) (few : (τ : ℕ) (ms : List ℕ) → kindOf T τ ≡ seque
   -- the row of what an element holds is no longer than its paths allow
   pub grow-bound : (n τ : ℕ) {ps : List (Placement Shape)} → Fits T n τ ps → All IsGap ps → isPlaced ps ≡ true → length (rowOf (content n τ ps)) ≤ weight ps
   unfolding isPlaced weight
-  grow-bound zero τ fits gaps there = absurd (omega (arith, never fits))
-    where
-      never : {n : ℕ} {ps : List (Placement Shape)} → Fits T n τ ps → 0 < n
-      never nothing-placed = omega arith
-      never right-here = omega arith
-      never (below-sequence ms kind starts fits) = omega arith
-      never (below-choice ms kind step starts fits) = omega arith
-      never (below-list m kind starts fits) = omega arith
+  grow-bound zero τ fits gaps there = absurd (omega (arith, fits-positive fits))
   grow-bound (suc n) τ nothing-placed gaps there = let z : _≡_ {A = ℕ} 0 1 = cc in absurd (omega arith)
   grow-bound (suc n) τ (right-here {a = a}) (all-more h rest) there = rw (ends-here n τ a) (omega (arith, h))
   grow-bound (suc n) τ (below-sequence {q = q} {path} {a} {ps} ms kind starts fits) gaps there =

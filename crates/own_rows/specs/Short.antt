@@ -18,23 +18,22 @@ use Rattle.rows.specs.Laws.{code-sequence}
 use Rattle.growing.specs.declared.Edges.{Edges}
 use Rattle.growing.specs.Growing.{placementOf, placementsOf, Task, elementRow}
 use Rattle.growing.specs.Parts.{held, first-path, row-built}
-use Rattle.own_rows.specs.Making.{edgePlacements}
+use Rattle.own_rows.specs.Making.{edgePlacements, edgeRoom}
 use Rattle.own_rows.specs.Bounds.{weight, IsGap, grow-bound}
-
--- the symbols that the paths of n edges from a place on can add
-unfoldable pub edgeWeight : List ℕ → ℕ → ℕ → ℕ
-edgeWeight map i zero = 0
-edgeWeight map i (suc n) = 18 * getD (lengthsOf map) i 0 + 1 + edgeWeight map (suc i) n
 
 pub steps-long : (em : List ℕ) (o n : ℕ) → length (stepsFrom em o n) ≡ n
 unfolding stepsFrom
 steps-long em o zero = refl
 steps-long em o (suc n) = ap suc (steps-long em (o + 2) n)
 
-pub edges-weight : (em map : List ℕ) (i h n : ℕ) → weight (edgePlacements em map i h n) ≡ edgeWeight map i n
-unfolding weight edgePlacements edgeWeight placementOf
-edges-weight em map i h zero = refl
-edges-weight em map i h (suc n) = rw (steps-long em (getD (startsOf map) i 0 + 2) (getD (lengthsOf map) i 0), edges-weight em map (suc i) (suc h) n) refl
+-- w edges have room for 3 symbols each and what the paths of some of them can add
+pub edges-room : (em map : List ℕ) (i h n w : ℕ) → n ≤ w → weight (edgePlacements em map i h n) + 3 * w ≤ edgeRoom map i w
+unfolding weight edgePlacements edgeRoom placementOf
+edges-room em map i h zero zero few = omega arith
+edges-room em map i h zero (suc w) few = omega (arith, edges-room em map (suc i) h zero w (omega arith))
+edges-room em map i h (suc n) zero few = absurd (omega arith)
+edges-room em map i h (suc n) (suc w) few =
+    rw (steps-long em (getD (startsOf map) i 0 + 2) (getD (lengthsOf map) i 0)) (omega (arith, edges-room em map (suc i) (suc h) n w (omega arith)))
 
 pub edges-gaps : (em map : List ℕ) (i h n : ℕ) → All IsGap (edgePlacements em map i h n)
 unfolding edgePlacements placementOf rowOf
