@@ -7,20 +7,23 @@ use native.Mathlib.Omega.{arith}
 use lib.ListN.{length, getD}
 use Rattle.model.specs.Definitions.Embedding.{divide}
 use Rattle.model.specs.Definitions.Image.{Setting}
-use Rattle.model.specs.Definitions.Templates.{Symbol, template, itemTemplate, dividedOf}
-use Rattle.loaded_table.specs.Loaded.{tableBy, typesIn, kindsOf}
+use Rattle.model.specs.Definitions.Templates.{Symbol, template, itemTemplate, dividedOf, fillerRow}
+use Rattle.loaded_table.specs.Loaded.{tableBy, typesIn, kindsOf, length-of}
 use Rattle.loaded_embedding.specs.Loaded.{startsOf, lengthsOf, targetsOf, stepsFrom}
 use Rattle.loaded_setting.specs.Ready.{settingIn, Ready}
 use Rattle.paths.specs.declared.Cut.{Cut}
 use Rattle.paths.specs.Following.{Followable, Cuts}
 use Rattle.paths.specs.Edges.{list-follows}
+use Rattle.rows.specs.Rows.{rowsBefore, HasRow, IsWord}
 use Rattle.growing.specs.declared.Edges.{Edges}
 use Rattle.growing.specs.Growing.{Puts, Task, elementRow, stepBound}
 use Rattle.growing.specs.Laws.{puts-after}
-use Rattle.filler_rows.specs.Storing.{PlacedRow, RowMade}
+use Rattle.filler_rows.specs.Storing.{PlacedRow, RowMade, Stored}
 use Rattle.filler_rows.specs.Laws.{made-as-written, puts-as}
-use Rattle.own_rows.specs.Made.{made-end, made-new}
-use Rattle.list_rows.specs.Lists.{onePath, beforePath, restPath, one-some, CutAt, beforeRoom, restRoom, depth-is, before-task, before-row, before-short, rest-task, rest-row, rest-short}
+use Rattle.own_rows.specs.Making.{heldRow}
+use Rattle.own_rows.specs.Wanted.{done-filler}
+use Rattle.own_rows.specs.Progress.{Next}
+use Rattle.list_rows.specs.Lists.{onePath, beforePath, restPath, CutAt, beforeRoom, restRoom, depth-is, before-task, before-row, before-short, rest-task, rest-row, rest-short, list-room}
 
 -- the path from an item on
 pub rest-path-is : (map : List ℕ) (s : ℕ) (r : Cut) {start steps : ℕ} → start ≡ getD (startsOf map) (s * 16) 0 → steps ≡ getD (lengthsOf map) (s * 16) 0
@@ -42,28 +45,25 @@ module _ {source target map em : List ℕ} (ready : Ready source target map em) 
   module _ {r : Cut} (cuts : CutAt target map em s r) {e : Edges} where
     -- its own row
     module _ {t : ℕ} (is-path : e ≡ beforePath map s r) (is-type : t ≡ getD (targetsOf map) s 0) where
-      pub own-task : Task target em e stepBound t
-      own-task = rw (is-path, is-type) (before-task ready exists code cuts)
-
-      own-some : e .count ≡ 0 → ⊥
-      own-some = rw is-path (one-some em _ _ 145)
-
-      pub own-short : length (elementRow target em e stepBound t) ≤ beforeRoom X s
+      own-short : length (elementRow target em e stepBound t) ≤ beforeRoom X s
       own-short = rw (is-path, is-type) (before-short ready exists code cuts)
 
-      module _ {pool pool′ : List ℕ} {at end : ℕ} (puts : Puts pool pool′ at (elementRow target em e stepBound t) end) (room : at + beforeRoom X s ≤ length pool) where
-        own-fits : at + length (elementRow target em e stepBound t) ≤ length pool
-        own-fits = omega (arith, own-short)
+      pub own-needs : {pool places : List ℕ} {at : ℕ} → Next source target map em pool places s at → {row : ℕ} → row ≡ rowsBefore s
+          → Task target em e stepBound t × (Stored pool places at t (fillerRow (tableBy target) t) 0
+          × ((at + length (elementRow target em e stepBound t) ≤ length pool) × IsWord (length pool) × HasRow places row × HasRow places t))
+      own-needs {pool} {places} {at} next {row} is-row =
+          let task : Task target em e stepBound t = rw (is-path, is-type) (before-task ready exists code cuts) in
+          let small : t < 64 = omega (arith, task .is-type, task .bounded .few-types) in
+          let long = next .makeable .long in
+          let room : at + length (elementRow target em e stepBound t) ≤ length pool = omega (arith, own-short, list-room ready exists code (next .progress)) in
+          let own : HasRow places row = omega (arith, is-row, long) in
+          let filler : HasRow places t = omega (arith, long) in
+          (task, (done-filler (next .progress .done) t (omega (arith, task .is-type, length-of target)) (omega arith), (room, next .makeable .small, own, filler)))
 
-        pub own-end : (at + 2 ≤ end) × (end ≤ length pool) × (end ≤ at + beforeRoom X s)
-        own-end =
-            let ends = made-end own-task own-some own-fits puts in
-            (ends .0, ends .1, omega (arith, puts-after puts, own-short))
-
-        pub own-made : {places places′ : List ℕ} {row : ℕ} → PlacedRow places places′ row (at + 1) (end - 1) 0 → RowMade pool places at row (template X s 0) 0 pool′ places′ end
-        own-made {places} {places′} {row} placed =
-            subst (λ (content : List Symbol). RowMade pool places at row content 0 pool′ places′ end) (rw (is-path, is-type) (before-row ready exists code cuts))
-            (made-new own-task own-some own-fits puts placed)
+      pub own-made : {pool places : List ℕ} {at row : ℕ} {pool′ places′ : List ℕ} {end : ℕ} → RowMade pool places at row (heldRow target em e t) 0 pool′ places′ end × (end ≤ at + length (elementRow target em e stepBound t))
+          → RowMade pool places at row (template X s 0) 0 pool′ places′ end × (end ≤ at + beforeRoom X s)
+      own-made {pool} {places} {at} {row} {pool′} {places′} {end} made =
+          (subst (λ (content : List Symbol). RowMade pool places at row content 0 pool′ places′ end) (rw (is-path, is-type) (before-row ready exists code cuts)) (made .0), omega (arith, made .1, own-short))
 
     -- the row of an item
     module _ (is-path : e ≡ restPath map s r) where

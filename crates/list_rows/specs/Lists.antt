@@ -69,7 +69,7 @@ module _ (em : List ℕ) (next left hole : ℕ) where
   unfolding onePath noEdges
   one-readable within is-hole = push-readable (none-readable em) (omega arith) next left hole within is-hole
 
-  pub one-some : onePath next left hole .count ≡ 0 → ⊥
+  one-some : onePath next left hole .count ≡ 0 → ⊥
   unfolding onePath noEdges push
   one-some e = omega (arith, e)
 

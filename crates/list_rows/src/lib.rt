@@ -20,6 +20,7 @@ use growing::no_edges;
 use growing::pushed;
 use loaded_embedding::MAP;
 use loaded_table::TABLE;
+use own_rows::own_row;
 use paths::Cut;
 use paths::list_depth;
 use rows::CHILD;
@@ -85,18 +86,24 @@ fn before_row(
     places: &mut [u32],
     at: usize,
 ) -> usize
-    requires makeable { ⌜ Makeable (now source) (now target) (now map) (now em) (now pool) (now places) s ⌝ }
+    requires next { ⌜ Next (now source) (now target) (now map) (now em) (now pool) (now places) s at ⌝ }
     requires list { ⌜ 4 ≤ getD (kindsOf (now source)) s 0 ⌝ }
-    requires room { ⌜ at + beforeRoom (settingIn (now source) (now target) (now map) (now em)) s ≤ length (now pool) ⌝ }
     ensures made { λ r. ⌜ RowMade (now (pool .entry)) (now (places .entry)) at (rowsBefore s) (template (settingIn (now (source .entry)) (now (target .entry)) (now (map .entry)) (now (em .entry))) s 0) 0 (now (pool .exit)) (now (places .exit)) r ⌝ }
     ensures short { λ r. ⌜ r ≤ at + beforeRoom (settingIn (now (source .entry)) (now (target .entry)) (now (map .entry)) (now (em .entry))) s ⌝ }
 {
     let cut = list_cut(source, target, map, em, s);
     let path = before_path(map, s, cut);
     let t = loaded_embedding::target(map, s);
-    let end = element(target, em, path, MAX_STEPS + 1, t, pool, at);
-    place(places, MAX_TYPES + s * TYPE_ROWS, at + 1, end - 1, 0);
-    end
+    own_row(
+        target,
+        em,
+        path,
+        t,
+        pool,
+        places,
+        MAX_TYPES + s * TYPE_ROWS,
+        at,
+    )
 }
 
 // Writes and places the row of an item of the source list s.

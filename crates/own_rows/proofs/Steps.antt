@@ -27,7 +27,7 @@ use Rattle.filler_rows.specs.Laws.{whole-more}
 use Rattle.own_rows.specs.Making.{edgePlacements, EdgesFrom, OwnEdges, heldRow, edgeRoom}
 use Rattle.own_rows.specs.Bounds.{weight}
 use Rattle.own_rows.specs.Short.{edges-room, edges-gaps, element-short}
-use Rattle.own_rows.specs.Wanted.{Wanted, of-filler, of-type, of-item, Done, done-more, done-past, wanted-type}
+use Rattle.own_rows.specs.Wanted.{Wanted, of-filler, of-type, of-item, Done, done-filler, done-more, done-past, wanted-type}
 use Rattle.own_rows.specs.Holes.{text-holes, empty-holes, sequence-holes, choice-holes, type-task, type-template}
 use Rattle.own_rows.specs.Progress.{Progress}
 use Rattle.own_rows.specs.Laws.{room-split}
@@ -202,7 +202,7 @@ module _ {source target map em : List ℕ} (ready : Ready source target map em) 
       partly-filler : Stored pool places at τ (fillerRow (tableBy target) τ) 0
       partly-filler =
           let small : τ < 64 = omega (arith, target-small, ready .target-bounded .few-types) in
-          now .done .stored τ (fillerRow (tableBy target) τ) 0 (of-filler τ (omega (arith, target-small, length-of target)) refl refl refl) (omega arith)
+          done-filler (now .done) τ (omega (arith, target-small, length-of target)) (omega arith)
 
       module _ {w : ℕ} {e : Edges} (row : RowEdges source target map em s j k w e) (wide : k + w ≤ 16) where
         abbrev rest : ℕ

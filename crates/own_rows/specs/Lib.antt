@@ -1,6 +1,5 @@
 pub mod Making
 pub mod Laws
-pub mod Made
 pub mod Bounds
 pub mod Wanted
 pub mod Holes

@@ -27,6 +27,10 @@ pub data Wanted (X : Setting) (r : ℕ) (row : List Symbol) (d : ℕ) : Type 0 w
 pub record Done (X : Setting) (k : ℕ) (pool places : List ℕ) (at : ℕ) : Type 0 where
   pub stored : (r : ℕ) (row : List Symbol) (d : ℕ) → Wanted X r row d → r < k → Stored pool places at r row d
 
+-- a row of filler is there
+pub done-filler : {X : Setting} {k : ℕ} {pool places : List ℕ} {at : ℕ} → Done X k pool places at → (τ : ℕ) → τ < length (X .target) → τ < k → Stored pool places at τ (fillerRow (X .target) τ) 0
+done-filler now τ exists less = now .stored τ _ 0 (of-filler τ exists refl refl refl) less
+
 -- one row more, where it is what is wanted
 pub done-more : {X : Setting} {k : ℕ} {pool places : List ℕ} {at : ℕ} {content : List Symbol} {depth : ℕ} {pool′ places′ : List ℕ} {end : ℕ} → Done X k pool places at
     → RowMade pool places at k content depth pool′ places′ end → ((row : List Symbol) (d : ℕ) → Wanted X k row d → (content ≡ row) × (depth ≡ d)) → Done X (k + 1) pool′ places′ end

@@ -54,7 +54,7 @@ fn edges(map: &[u16; MAP], first: usize, hole: u8, count: usize) -> Edges
 
 // Writes and places the row of what an element of type t holds, given the paths below it; where there is none, the row of its
 // filler is placed again.
-fn own_row(
+pub fn own_row(
     target: &[u16; TABLE],
     em: &[u8],
     e: Edges,

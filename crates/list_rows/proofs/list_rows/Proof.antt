@@ -6,12 +6,6 @@ use Rattle.list_rows.specs.Lists.{list-room, list-progress}
 use Rattle.list_rows.proofs.list_rows.Statement.{statement}
 use Rattle.list_rows.proofs.list_rows.Tie as tie
 
-before-row-requires : tie.Need-before-row-requires
-before-row-requires c κs =
-    let pre = c .before .before .before .before .before .pre in
-    let can = pre .0 .makeable in
-    (can, (pre .1, omega (arith, list-room (can .ready) (can .exists) (pre .1) (pre .0 .progress))))
-
 rest-row-requires : tie.Need-rest-row-requires
 rest-row-requires c κs =
     let pre = c .before .before .before .before .before .before .before .before .before .before .before .before .pre in
@@ -35,4 +29,4 @@ returns c =
 
 pub list-rows-spec : {M : Type 1} → statement M
 list-rows-spec =
-    tie.close (tie.spec before-row-requires rest-row-requires same-length same-length-2 returns)
+    tie.close (tie.spec (λ c κs. c .before .before .before .before .before .pre) rest-row-requires same-length same-length-2 returns)

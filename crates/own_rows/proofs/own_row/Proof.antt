@@ -3,7 +3,7 @@ use Prim.Native.Nat.{_+_, _*_}
 use native.Mathlib.Omega.{arith}
 use Rattle.growing.specs.Laws.{puts-length, puts-after}
 use Rattle.filler_rows.specs.Laws.{placed-length}
-use Rattle.own_rows.specs.Made.{made-again, made-end, made-new}
+use Rattle.own_rows.proofs.Made.{made-again, made-end, made-new}
 use borrow.Author.Needs.{needs}
 use Rattle.own_rows.proofs.own_row.Statement.{statement}
 use Rattle.own_rows.proofs.own_row.Tie as tie
