@@ -46,7 +46,7 @@ pub puts-as : {old new : List ℕ} {at : ℕ} {row row′ : List Symbol} {next :
 puts-as same puts = record { numbers = puts .numbers; written = puts .written; after = puts .after; means = puts .means ∙ same }
 
 -- rows before it stay
-pub row-kept : {old new : List ℕ} {at : ℕ} {row : List Symbol} {next : ℕ} → Puts old new at row next → (from to : ℕ) → to ≤ at → rowIn new from to ≡ rowIn old from to
+row-kept : {old new : List ℕ} {at : ℕ} {row : List Symbol} {next : ℕ} → Puts old new at row next → (from to : ℕ) → to ≤ at → rowIn new from to ≡ rowIn old from to
 unfolding rowIn
 row-kept {old} {new} {at} puts from to before =
     ap (map symbolOf)
@@ -97,7 +97,7 @@ module _ {places after : List ℕ} {r from to depth : ℕ} (placed : PlacedRow p
   placed-length = ap length (placed .is) ∙ three-length places r from to depth (placed .long)
 
   -- all rows still end within the pool
-  pub placed-within : {long : ℕ} → to ≤ long → ((s : ℕ) → toOf places s ≤ long) → (s : ℕ) → toOf after s ≤ long
+  placed-within : {long : ℕ} → to ≤ long → ((s : ℕ) → toOf places s ≤ long) → (s : ℕ) → toOf after s ≤ long
   placed-within {long} fits within s = go (eqb s r) refl
     where
       go : (b : Bool) → eqb s r ≡ b → toOf after s ≤ long

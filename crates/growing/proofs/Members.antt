@@ -52,7 +52,7 @@ module _ (target em : List ℕ) (e : Edges) (n t : ℕ) (some : e .count ≡ 0 �
   others = placementsFrom em (e .next) (e .left) (e .hole) 1 (e .count - 1)
 
   -- the first path ends here
-  pub held-hole : 0 < n → left ≡ 0 → held target em e n t ≡ hole (holeOf goal) ∷ []
+  held-hole : 0 < n → left ≡ 0 → held target em e n t ≡ hole (holeOf goal) ∷ []
   unfolding rowOf grow placementOf stepsFrom
   held-hole positive ends = rw (first-path target em e n t some) (rw ends (go n positive))
     where
@@ -61,7 +61,7 @@ module _ (target em : List ℕ) (e : Edges) (n t : ℕ) (some : e .count ≡ 0 �
       go (suc k) h = refl
 
   -- it goes on
-  pub path-goes-on : (left ≡ 0 → ⊥) → placementsOf em e ≡ placed (firstOf (stepsFrom em next left) ∷ stepsFrom em (next + 2) (left - 1)) (gap (holeOf goal)) ∷ others
+  path-goes-on : (left ≡ 0 → ⊥) → placementsOf em e ≡ placed (firstOf (stepsFrom em next left) ∷ stepsFrom em (next + 2) (left - 1)) (gap (holeOf goal)) ∷ others
   unfolding placementOf
   path-goes-on more = first-path target em e n t some ∙ ap (λ (path : List ℕ). placed path (gap (holeOf goal)) ∷ others) (steps-first em next left more)
 

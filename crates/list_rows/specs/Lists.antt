@@ -129,16 +129,16 @@ module _ {source target map em : List ℕ} (ready : Ready source target map em) 
   unfolding dividedOf onlyPath pathsFrom
   divided-is = rw (target-is ready exists, paths-are ready exists, list-edge-one ready exists code) refl
 
-  pub before-less : length (dividedOf X s .before) < getD (lengthsOf map) (s * 16) 0
+  before-less : length (dividedOf X s .before) < getD (lengthsOf map) (s * 16) 0
   before-less = rw divided-is (list-less ready exists code)
 
   -- the two rows take room for the steps of the one edge
-  pub both-room : beforeRoom X s + restRoom map X s ≤ 18 * getD (lengthsOf map) (s * 16) 0
+  both-room : beforeRoom X s + restRoom map X s ≤ 18 * getD (lengthsOf map) (s * 16) 0
   unfolding beforeRoom restRoom
   both-room = omega (arith, before-less)
 
   -- all templates of a list are one
-  pub template-same : (t : ℕ) → template X s 0 ≡ template X s t
+  template-same : (t : ℕ) → template X s 0 ≡ template X s t
   unfolding template templateBy holesOf
   template-same t = rw (is-list ready exists code) refl
 

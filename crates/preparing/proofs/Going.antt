@@ -53,7 +53,7 @@ done-all {source} {target} {map} {em} {pool₀} {places₀} {pool} {places} {at}
 
 module _ {source target map em : List ℕ} where
   -- of the pool and the places that there were, only the lengths matter
-  pub progress-from : {pool₀ places₀ pool₁ places₁ : List ℕ} {s : ℕ} {pool places : List ℕ} {at : ℕ} → length pool₀ ≡ length pool₁ → length places₀ ≡ length places₁
+  progress-from : {pool₀ places₀ pool₁ places₁ : List ℕ} {s : ℕ} {pool places : List ℕ} {at : ℕ} → length pool₀ ≡ length pool₁ → length places₀ ≡ length places₁
       → Progress source target map em pool₀ places₀ s pool places at → Progress source target map em pool₁ places₁ s pool places at
   progress-from same same′ now =
       let whole = now .whole in
