@@ -64,22 +64,18 @@ module _ (X : Setting) (tr old : List ℕ) where
 
   -- a 129th level
   pub too-deep : (high : ℕ) → high ≡ min 60001 (imageLevels X k) → 128 < high → Carries X tr old old Carried.TooDeep
-  unfolding maxLevels
   too-deep high is far = outcome old Carried.TooDeep (content-too-deep X old k (omega (arith, image-levels X k))) refl refl
 
   module _ (high size : ℕ) (high-is : high ≡ min 60001 (imageLevels X k)) (size-is : size ≡ min 60001 (imageLength X k)) (low : high ≤ 128) where
     within-levels : suc (levels (image X k)) ≤ maxLevels
-    unfolding maxLevels
     within-levels = omega (arith, image-levels X k)
 
     -- more than 60,000 bytes
     pub too-long : 60000 < size → Carries X tr old old Carried.TooLong
-    unfolding maxLength
     too-long long = outcome old Carried.TooLong (content-too-long X old k within-levels (omega (arith, image-length X k))) refl refl
 
     module _ (short : size ≤ 60000) where
       within-bytes : length (document 0 (image X k)) ≤ maxLength
-      unfolding maxLength
       within-bytes = omega (arith, image-length X k)
 
       -- no room

@@ -69,22 +69,22 @@ module _ (S T : Table) (bs map : List ℕ) where
   refused f g = record { judgement = sym g; loaded = λ accepted. has-sound g accepted }
 
   pub length-refused : 60000 < length bs → EmbeddingJudged S T bs (Judged.Has Fault.TooLong) map
-  unfolding judgedEmbedding faultUnless fits maxLength
+  unfolding judgedEmbedding faultUnless fits
   length-refused long = refused Fault.TooLong (rw (lt-leb (length bs) 60000 long) refl)
 
   module _ (short : length bs ≤ 60000) where
     pub form-refused : (at : ℕ) → embeddingForm S bs ≡ fails at → EmbeddingJudged S T bs (Judged.Has (Fault.BadForm at)) map
-    unfolding judgedEmbedding faultUnless faultAt fits maxLength
+    unfolding judgedEmbedding faultUnless faultAt fits
     form-refused at e = refused (Fault.BadForm at) (rw (le-leb (length bs) 60000 short, e) refl)
 
     module _ (f : embeddingForm S bs ≡ passes) where
       pub limit-refused : (at : ℕ) → embeddingLimits bs ≡ fails at → EmbeddingJudged S T bs (Judged.Has (Fault.OverLimit at)) map
-      unfolding judgedEmbedding faultUnless faultAt fits maxLength
+      unfolding judgedEmbedding faultUnless faultAt fits
       limit-refused at e = refused (Fault.OverLimit at) (rw (le-leb (length bs) 60000 short, f, e) refl)
 
       module _ (l : embeddingLimits bs ≡ passes) where
         pub operand-refused : (at : ℕ) → embeddingOperands T bs ≡ fails at → EmbeddingJudged S T bs (Judged.Has (Fault.BadOperand at)) map
-        unfolding judgedEmbedding faultUnless faultAt fits maxLength
+        unfolding judgedEmbedding faultUnless faultAt fits
         operand-refused at e = refused (Fault.BadOperand at) (rw (le-leb (length bs) 60000 short, f, l, e) refl)
 
         -- after the first four checks those of the paths decide
@@ -93,7 +93,7 @@ module _ (S T : Table) (bs map : List ℕ) where
             record { judgement = e ∙ ap (pathChecks S T) (loaded .same-embedding) ∙ sym same; loaded = λ accepted. loaded }
           where
             same : judgedEmbedding S T bs ≡ pathChecks S T (embeddingOf bs)
-            same = unfold judgedEmbedding pathChecks edgeChecks faultUnless faultAt fits maxLength in rw (le-leb (length bs) 60000 short, f, l, o) refl
+            same = unfold judgedEmbedding pathChecks edgeChecks faultUnless faultAt fits in rw (le-leb (length bs) 60000 short, f, l, o) refl
 
 -- what the path checks ask, once the operands are right
 pub paths-ready : {source target em map : List ℕ} → Judgeable source target → embeddingOperands (tableBy target) em ≡ passes → LoadedAs em (tableBy source) map

@@ -269,7 +269,7 @@ module _ {em : List ℕ} {S : Table} (source : Source em S) where
       → at < length em → at + embeddingWidth c ≤ length em → c ≡ embeddingCommand (rawAt em at)
       → embeddingStep s c ≡ goes then → stepCount n c ≡ goes later → Loaded em S s n a at (withEmbeddingCommand at c r) E
       → Room a at c × Loaded em S then later (puts a at c) (at + embeddingWidth c) r E
-  unfolding embeddingStep stepCount withEmbeddingCommand puts embeddingWidth maxSteps
+  unfolding embeddingStep stepCount withEmbeddingCommand puts embeddingWidth
   put-loaded c embeddingEnded inside ends reads e f h = goes-stops e (ended-stops c)
   put-loaded (mapsTo t) (due zero [] on) inside ends reads e f h = goes-stops e refl
   put-loaded (mapsTo t) (due zero (m ∷ ns) on) {then} {n} {later} inside ends reads e f h =

@@ -182,7 +182,7 @@ module _ {source target map em : List ℕ} (ready : Ready source target map em) 
         ∙ ap₂ (λ (path : List ℕ) (h : Hole). placed path (gap h) ∷ []) (cuts .rest ∙ ap (λ (x : Divided). x .rest) (sym divided-is)) (child-hole 0 (omega arith))
 
     pub rest-task : Task target em (restPath map s r) stepBound (r .item)
-    unfolding maxSteps dividedOf
+    unfolding dividedOf
     rest-task =
         let fits : Fits (X .target) stepBound (dividedOf X s .item) (placed (dividedOf X s .rest) (gap (child 0)) ∷ []) =
         rest-always-fits X (ready .valid) s _ in-source (is-list ready exists code) (gap (child 0)) in
@@ -195,7 +195,7 @@ module _ {source target map em : List ℕ} (ready : Ready source target map em) 
         }
 
     pub rest-row : elementRow target em (restPath map s r) stepBound (r .item) ≡ itemTemplate X s
-    unfolding elementRow itemTemplate itemBy place maxSteps shaped isPlaced
+    unfolding elementRow itemTemplate itemBy place shaped isPlaced
     rest-row = rw (rest-placed, item-is) refl
 
     pub rest-short : length (elementRow target em (restPath map s r) stepBound (r .item)) ≤ restRoom map X s

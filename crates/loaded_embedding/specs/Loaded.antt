@@ -7,6 +7,8 @@ use lib.ListN.{length, getD, replicate}
 use Rattle.loaded_table.specs.Loaded.{section, getD-replicate}
 use Rattle.model.specs.Definitions.Table.{edgesOf}
 use Rattle.model.specs.Definitions.Table as table
+use Rattle.model.specs.Definitions.TableChecks.{maxTypes}
+use Rattle.model.specs.Definitions.EmbeddingChecks.{maxSteps}
 use Rattle.model.specs.Definitions.Embedding as model
 use Rattle.model.specs.Definitions.Embedding.{Edge, TypeMap}
 
@@ -36,14 +38,28 @@ embeddingIn em S targets starts lengths = mapsFrom em targets starts lengths 0 S
 
 -- ---- one array with sections: 64 targets, 1024 starts, 1024 lengths
 
+-- how many numbers a loaded embedding has, and where its sections begin
+abbrev pub mapSize : ℕ
+mapSize = 2112
+
+abbrev pub startsStart : ℕ
+startsStart = 64
+
+abbrev pub lengthsStart : ℕ
+lengthsStart = 1088
+
+-- how many edges have a place
+abbrev pub edgePlaces : ℕ
+edgePlaces = 1024
+
 abbrev pub targetsOf : List ℕ → List ℕ
-targetsOf map = section 0 64 map
+targetsOf map = section 0 maxTypes map
 
 abbrev pub startsOf : List ℕ → List ℕ
-startsOf map = section 64 1024 map
+startsOf map = section startsStart edgePlaces map
 
 abbrev pub lengthsOf : List ℕ → List ℕ
-lengthsOf map = section 1088 1024 map
+lengthsOf map = section lengthsStart edgePlaces map
 
 -- the embedding of source table S that one array and the document stand for
 abbrev pub embeddingBy : List ℕ → table.Table → List ℕ → model.Embedding
@@ -51,8 +67,8 @@ embeddingBy em S map = embeddingIn em S (targetsOf map) (startsOf map) (lengthsO
 
 -- the array has all its places; every path is within the document and has at most 12 steps
 pub record Bounded (em map : List ℕ) : Type 0 where
-  pub size : length map ≡ 2112
-  pub short : (i : ℕ) → getD (lengthsOf map) i 0 ≤ 12
+  pub size : length map ≡ mapSize
+  pub short : (i : ℕ) → getD (lengthsOf map) i 0 ≤ maxSteps
   pub within : (i : ℕ) → getD (startsOf map) i 0 + 1 + 2 * getD (lengthsOf map) i 0 ≤ length em
 
 -- ---- laws
@@ -67,8 +83,8 @@ steps-more em at (suc n) rest =
 
 -- an array that holds nothing yet
 pub record Cleared (map : List ℕ) : Type 0 where
-  pub size : length map ≡ 2112
+  pub size : length map ≡ mapSize
   pub zeros : (i : ℕ) → getD map i 0 ≡ 0
 
-pub cleared-map : Cleared (replicate 2112 0)
-cleared-map = record { size = refl; zeros = getD-replicate 2112 }
+pub cleared-map : Cleared (replicate mapSize 0)
+cleared-map = record { size = refl; zeros = getD-replicate mapSize }

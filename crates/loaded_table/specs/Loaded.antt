@@ -11,6 +11,7 @@ use lib.Dec.{eqb, ltb}
 use borrow.Author.Tests.{eqb-true, eqb-false, ltb-true, ltb-false}
 use mathlib.Core.Logic.{_⊎_, inl, inr}
 use Rattle.model.specs.Definitions.Table as model
+use Rattle.model.specs.Definitions.TableChecks.{maxTypes, maxMembers}
 use Rattle.model.specs.Definitions.Table.{Kind, text, empty, sequence, choice, list, kindOf}
 use Rattle.model.specs.Definitions.Heights.{heightOf}
 use Rattle.model.specs.Definitions.Filler.{fillerLength}
@@ -37,6 +38,30 @@ unfoldable pub tableIn : ℕ → List ℕ → List ℕ → List ℕ → model.Ta
 tableIn types kinds counts members = tableFrom kinds counts members 0 types
 
 -- ---- one array with sections: 64 kinds, 64 counts, 64 heights, 64 filler lengths, 1024 members, the number of types
+
+-- how many numbers a loaded table has, and where its sections begin
+abbrev pub tableSize : ℕ
+tableSize = 1281
+
+abbrev pub countsStart : ℕ
+countsStart = 64
+
+abbrev pub heightsStart : ℕ
+heightsStart = 128
+
+abbrev pub fillStart : ℕ
+fillStart = 192
+
+abbrev pub membersStart : ℕ
+membersStart = 256
+
+-- how many members have a place, and the place of member i of type t
+abbrev pub memberPlaces : ℕ
+memberPlaces = 1024
+
+abbrev pub memberPlace : ℕ → ℕ → ℕ
+memberPlace t i = t * maxMembers + i
+
 abbrev pub typesIn : List ℕ → ℕ
 typesIn rows = getD rows 1280 0
 
@@ -44,19 +69,19 @@ abbrev pub section : ℕ → ℕ → List ℕ → List ℕ
 section from many rows = take many (drop from rows)
 
 abbrev pub kindsOf : List ℕ → List ℕ
-kindsOf rows = section 0 64 rows
+kindsOf rows = section 0 maxTypes rows
 
 abbrev pub countsOf : List ℕ → List ℕ
-countsOf rows = section 64 64 rows
+countsOf rows = section countsStart maxTypes rows
 
 abbrev pub heightsOf : List ℕ → List ℕ
-heightsOf rows = section 128 64 rows
+heightsOf rows = section heightsStart maxTypes rows
 
 abbrev pub fillOf : List ℕ → List ℕ
-fillOf rows = section 192 64 rows
+fillOf rows = section fillStart maxTypes rows
 
 abbrev pub membersIn : List ℕ → List ℕ
-membersIn rows = section 256 1024 rows
+membersIn rows = section membersStart memberPlaces rows
 
 -- the table that one array stands for
 abbrev pub tableBy : List ℕ → model.Table

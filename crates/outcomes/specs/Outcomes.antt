@@ -65,7 +65,7 @@ afterTree T tr out done = unlessFaulty (untouched out) tree (judgedTree T tr) λ
 
 -- an accepted tree is a conforming document
 pub sound-tree : (bs rows tr : List ℕ) {r : JudgedTree} → judgedTable bs ≡ sound → Stands rows (tableOf bs) → TreeJudged (loaded_table.tableBy rows) tr r → r .judged ≡ Judged.Sound → SoundTree (loaded_table.tableBy rows) tr
-unfolding fits maxLength
+unfolding fits
 sound-tree bs rows tr accepted stands h e =
     let S : Table = loaded_table.tableBy rows in
     let found : judgedTree S tr ≡ sound = sym (h .same-judgement) ∙ ap judged e in

@@ -20,7 +20,7 @@ use Rattle.own_rows.specs.Laws.{row-inside}
 
 -- an element below which nothing is placed holds what filler holds
 held-filler : (target em : List ℕ) (e : Edges) (t : ℕ) → e .count ≡ 0 → heldRow target em e t ≡ fillerRow (tableBy target) t
-unfolding heldRow place grow placementsFrom fillerRow maxSteps
+unfolding heldRow place grow placementsFrom fillerRow
 held-filler target em e t none = rw none refl
 
 pub made-again : {target em : List ℕ} {e : Edges} {t : ℕ} {pool places places′ : List ℕ} {at row from to : ℕ} → Task target em e stepBound t → e .count ≡ 0
@@ -38,7 +38,7 @@ made-again {target} {em} {e} {t} {pool} {places} {places′} {at} {row} {from} {
     }
 
 held-place : (target em : List ℕ) (e : Edges) (t : ℕ) → held target em e stepBound t ≡ heldRow target em e t
-unfolding heldRow place maxSteps
+unfolding heldRow place
 held-place target em e t = refl
 
 module _ {target em : List ℕ} {e : Edges} {t : ℕ} {pool : List ℕ} {at : ℕ} (task : Task target em e stepBound t) (some : e .count ≡ 0 → ⊥) (room : at + length (elementRow target em e stepBound t) ≤ length pool)

@@ -96,7 +96,6 @@ module _ {source target map em : List ℕ} (ready : Ready source target map em) 
   placed-are = rw (target-is ready exists, paths-are ready exists) holes
 
   pub type-task : Readable em e → Task target em e stepBound (getD (targetsOf map) s 0)
-  unfolding maxSteps
   type-task readable =
       let fits : Fits (X .target) stepBound (targetOf (X .embedding) s) (holesOf gap (X .target) (kindOf (X .source) s) (targetOf (X .embedding) s) (pathsOf (X .embedding) s) t) =
       holes-fit shaped X (targetOf (X .embedding) s) t gap (ready .valid .edges s in-source) in

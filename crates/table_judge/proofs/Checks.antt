@@ -104,14 +104,14 @@ judging bs f rows g = record { judgement = sym g; loaded = λ accepted. has-soun
 
 module _ (bs rows : List ℕ) where
   pub length-refused : 60000 < length bs → TableJudged bs (Judged.Has Fault.TooLong) rows
-  length-refused long = judging bs Fault.TooLong rows (unfold judgedTable faultUnless fits maxLength in rw (lt-leb (length bs) 60000 long))
+  length-refused long = judging bs Fault.TooLong rows (unfold judgedTable faultUnless fits in rw (lt-leb (length bs) 60000 long))
 
   pub form-refused : (at : ℕ) → length bs ≤ 60000 → tableForm bs ≡ fails at → TableJudged bs (Judged.Has (Fault.BadForm at)) rows
-  form-refused at short e = judging bs (Fault.BadForm at) rows (unfold judgedTable faultUnless faultAt fits maxLength in rw (le-leb (length bs) 60000 short, e))
+  form-refused at short e = judging bs (Fault.BadForm at) rows (unfold judgedTable faultUnless faultAt fits in rw (le-leb (length bs) 60000 short, e))
 
   pub limit-refused : (at : ℕ) → length bs ≤ 60000 → tableForm bs ≡ passes → tableLimits bs ≡ fails at → TableJudged bs (Judged.Has (Fault.OverLimit at)) rows
   limit-refused at short f e =
-      judging bs (Fault.OverLimit at) rows (unfold judgedTable faultUnless faultAt fits maxLength in rw (le-leb (length bs) 60000 short, f, e))
+      judging bs (Fault.OverLimit at) rows (unfold judgedTable faultUnless faultAt fits in rw (le-leb (length bs) 60000 short, f, e))
 
 -- after the first three checks the others decide
 pub later-decides : (bs : List ℕ) (r : Judged) (rows : List ℕ) → length bs ≤ 60000 → tableForm bs ≡ passes → tableLimits bs ≡ passes → AfterLimits bs r rows → TableJudged bs r rows
@@ -119,4 +119,4 @@ later-decides bs r rows short f l h =
     record { judgement = h .judgement ∙ sym same; loaded = λ accepted. h .loaded (sym same ∙ accepted) (table-sound bs accepted) }
   where
     same : judgedTable bs ≡ laterChecks bs
-    same = unfold judgedTable laterChecks faultUnless faultAt fits maxLength in rw (le-leb (length bs) 60000 short, f, l)
+    same = unfold judgedTable laterChecks faultUnless faultAt fits in rw (le-leb (length bs) 60000 short, f, l)

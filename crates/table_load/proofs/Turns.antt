@@ -93,7 +93,7 @@ loaded-at {then = then} {n} {a = a} {r} {T} p q h = subst (λ k. Loaded then k a
 -- a type may begin
 begins-there : {s : TableState} {n : TableCount} {a : Arrays} {r : TableTail} {T : Table} {then : TableCount}
     → oneTypeMore n ≡ goes then → Loaded s n a r T → Begins a × (then ≡ record { types = suc (n .types); members = 0 })
-unfolding oneTypeMore maxTypes
+unfolding oneTypeMore
 begins-there {s} {n} {a} {r} {T} {then} e h =
     let facts = goes-if (ltb (n .types) 64) (record { types = suc (n .types); members = 0 }) e in
     let room : n .types < 64 = ltb-true (n .types) 64 (facts .0) in
@@ -200,7 +200,6 @@ loaded-joined : {s then : TableState} {n later : TableCount} {a : Arrays} {r : T
     → goesIf (ltb (n .members) maxMembers) (record { types = n .types; members = suc (n .members) }) ≡ goes later
     → Loaded s n a (record { members = m ∷ r .members; kinds = r .kinds }) T
     → Joins a × Loaded then later (joined a m) r T
-unfolding maxMembers
 loaded-joined {s} {then} {n} {later} {a} {r} {T} m e f h =
     let facts = goes-if (ltb (n .members) 16) (record { types = n .types; members = suc (n .members) }) f in
     let few : n .members < 16 = ltb-true (n .members) 16 (facts .0) in

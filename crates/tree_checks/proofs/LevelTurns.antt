@@ -44,12 +44,12 @@ levels-end bs n at h i = sym (left-ends treeCommands treeWidth alienT levelStep 
 
 -- an element is opened
 pub levels-opens : {bs : List ℕ} {t : ℕ} (n at : ℕ) → n < 128 → InLevels bs n at → Reads bs at (opens t) → InLevels bs (n + 1) (at + 2)
-unfolding levelStep maxLevels goesIf treeWidth
+unfolding levelStep goesIf treeWidth
 levels-opens n at h i r = levels-goes n (n + 1) r (rw (lt-ltb n 128 h, add-one n)) (omega arith) i
 
 -- the 129th level is the verdict
 pub levels-deep : {bs : List ℕ} {t : ℕ} (n at : ℕ) → 128 ≤ n → InLevels bs n at → Reads bs at (opens t) → fails at ≡ treeLevels bs
-unfolding levelStep maxLevels goesIf
+unfolding levelStep goesIf
 levels-deep n at h i r = levels-stops n r (rw (le-ltb n 128 h)) i
 
 -- a character leaves the number of open elements as it is

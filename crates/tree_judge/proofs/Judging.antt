@@ -40,25 +40,25 @@ sound-has {j = j} {f} p q = let z : _≡_ {A = ℕ} 0 1 = cc in absurd (omega ar
 module _ (types : ℕ) (bs : List ℕ) where
   -- a document that is too long has that fault
   pub judged-long : 60000 < length bs → has too-long ≡ judgedBefore types bs
-  unfolding judgedBefore fits maxLength faultUnless
+  unfolding judgedBefore fits faultUnless
   judged-long h = rw (lt-leb (length bs) 60000 h)
 
   module _ (short : length bs ≤ 60000) where
     -- a check that fails names the fault, one that passes leaves it to the later ones
     pub judged-form : {at : ℕ} → fails at ≡ treeForm bs → has (bad-form at) ≡ judgedBefore types bs
-    unfolding judgedBefore fits maxLength faultUnless faultAt
+    unfolding judgedBefore fits faultUnless faultAt
     judged-form f = rw (le-leb (length bs) 60000 short, ← f)
 
     pub judged-levels : {at : ℕ} → passes ≡ treeForm bs → fails at ≡ treeLevels bs → has (over-limit at) ≡ judgedBefore types bs
-    unfolding judgedBefore fits maxLength faultUnless faultAt
+    unfolding judgedBefore fits faultUnless faultAt
     judged-levels f l = rw (le-leb (length bs) 60000 short, ← f, ← l)
 
     pub judged-operands : {at : ℕ} → passes ≡ treeForm bs → passes ≡ treeLevels bs → fails at ≡ treeOperands types bs → has (bad-operand at) ≡ judgedBefore types bs
-    unfolding judgedBefore fits maxLength faultUnless faultAt
+    unfolding judgedBefore fits faultUnless faultAt
     judged-operands f l o = rw (le-leb (length bs) 60000 short, ← f, ← l, ← o)
 
     pub judged-sound : passes ≡ treeForm bs → passes ≡ treeLevels bs → passes ≡ treeOperands types bs → sound ≡ judgedBefore types bs
-    unfolding judgedBefore fits maxLength faultUnless faultAt
+    unfolding judgedBefore fits faultUnless faultAt
     judged-sound f l o = rw (le-leb (length bs) 60000 short, ← f, ← l, ← o)
 
 -- what the checks before say of the whole judgement: their fault is its fault
@@ -124,7 +124,7 @@ fault-not-sound h s = sound-has s (sym h)
 
 -- a document that the pass accepts is sound
 accepted-judged : (rows bs : List ℕ) {n : ℕ} → Accepted rows bs n → sound ≡ judgedTree (tableBy rows) bs
-unfolding judgedTree fits maxLength faultUnless faultAt
+unfolding judgedTree fits faultUnless faultAt
 accepted-judged rows bs a = rw (le-leb (length bs) 60000 (a .short), ← a .form, ← a .levels, length-of rows, ← a .operands, ← a .expected)
 
 -- and it has as many elements as were counted

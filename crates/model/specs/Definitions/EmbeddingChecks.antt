@@ -44,7 +44,7 @@ embeddingForm S bs = run embeddingWidth embeddingStep embeddingComplete (due 0 (
 
 -- ---- 3, limits
 
-unfoldable pub maxSteps : ℕ
+abbrev pub maxSteps : ℕ
 maxSteps = 12
 
 unfoldable pub stepCount : ℕ → EmbeddingCommand → Next ℕ

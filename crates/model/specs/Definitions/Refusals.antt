@@ -95,7 +95,7 @@ faultUnless f true later = later tt
 faultUnless f false later = has f
 
 -- no document is longer than 60,000 bytes
-unfoldable pub maxLength : ℕ
+abbrev pub maxLength : ℕ
 maxLength = 60000
 
 unfoldable pub fits : List ℕ → Bool

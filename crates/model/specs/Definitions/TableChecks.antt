@@ -68,10 +68,10 @@ tableForm bs = run tableWidth tableStep tableComplete noType 0 (tableCommands bs
 
 -- ---- 3, limits
 
-unfoldable pub maxTypes : ℕ
+abbrev pub maxTypes : ℕ
 maxTypes = 64
 
-unfoldable pub maxMembers : ℕ
+abbrev pub maxMembers : ℕ
 maxMembers = 16
 
 -- types so far, and members of the last one

@@ -55,7 +55,7 @@ treeForm bs = run treeWidth treeStep treeComplete noRoot 0 (treeCommands bs)
 
 -- ---- 3, levels
 
-unfoldable pub maxLevels : ℕ
+abbrev pub maxLevels : ℕ
 maxLevels = 128
 
 unfoldable pub levelStep : ℕ → TreeCommand → Next ℕ

@@ -71,7 +71,7 @@ levels-then (elem t k r) n cs h =
 
 levels-document : (t : ℕ) (k : Content) → suc (levels k) ≤ maxLevels → reach levelStep 0 (documentCommands t k) ≡ goes 0
 unfolding documentCommands reach followed levelStep goesIf
-levels-document t k h = rw (lt-ltb 0 maxLevels (omega arith)) (levels-then k 1 (closes ∷ treeEnd ∷ []) (omega arith))
+levels-document t k h = levels-then k 1 (closes ∷ treeEnd ∷ []) (omega arith)
 
 pub levels-accept : (t : ℕ) (k : Content) → suc (levels k) ≤ maxLevels → treeLevels (document t k) ≡ passes
 unfolding treeLevels

@@ -26,27 +26,27 @@ enum-told-5 : tie.Need-enum-told-5
 enum-told-5 c = search needs
 
 returns : tie.Need-returns
-unfolding stepCount maxSteps goesIf
+unfolding stepCount goesIf
 returns c = rw (c .enum-told .given .1)
 
 returns-2 : tie.Need-returns-2
-unfolding stepCount maxSteps goesIf
+unfolding stepCount goesIf
 returns-2 c = rw (c .enum-told2 .given .1)
 
 returns-3 : tie.Need-returns-3
-unfolding stepCount maxSteps goesIf
+unfolding stepCount goesIf
 returns-3 c = rw (c .before .enum-told3 .given .1, lt-ltb _ _ (c .if1 .taken), add-one (c .before .before .before .args .n))
 
 returns-4 : tie.Need-returns-4
-unfolding stepCount maxSteps goesIf
+unfolding stepCount goesIf
 returns-4 c = rw (c .before .enum-told3 .given .1, le-ltb _ _ (c .if1 .left))
 
 returns-5 : tie.Need-returns-5
-unfolding stepCount maxSteps goesIf
+unfolding stepCount goesIf
 returns-5 c = rw (c .enum-told4 .given .1)
 
 returns-6 : tie.Need-returns-6
-unfolding stepCount maxSteps goesIf
+unfolding stepCount goesIf
 returns-6 c = rw (c .enum-told5 .given .1)
 
 pub step-count-spec : {M : Type 1} → statement M

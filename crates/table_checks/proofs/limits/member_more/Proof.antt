@@ -9,5 +9,5 @@ use Rattle.table_checks.proofs.limits.member_more.Statement.{statement}
 use Rattle.table_checks.proofs.limits.member_more.Tie as tie
 
 pub member-more-spec : {M : Type 1} → statement M
-unfolding oneMemberMore maxMembers goesIf
+unfolding oneMemberMore goesIf
 member-more-spec = tie.close (tie.spec (λ c. search needs) (λ c. rw (lt-ltb _ 16 (c .if1 .taken), add-one)) (λ c. rw (le-ltb _ 16 (c .if1 .left))))

@@ -8,5 +8,5 @@ use Rattle.table_checks.proofs.limits.type_more.Statement.{statement}
 use Rattle.table_checks.proofs.limits.type_more.Tie as tie
 
 pub type-more-spec : {M : Type 1} → statement M
-unfolding oneTypeMore maxTypes goesIf
+unfolding oneTypeMore goesIf
 type-more-spec = tie.close (tie.spec (λ c. search needs) (λ c. rw (lt-ltb _ 64 (c .if1 .taken), add-one)) (λ c. rw (le-ltb _ 64 (c .if1 .left))))
