@@ -6,6 +6,7 @@ ghost use Rattle.loaded_table.specs.Loaded.{tableBy};
 ghost use Rattle.loaded_setting.specs.Ready.{settingIn, Ready};
 ghost use Rattle.loaded_setting.specs.Trees.{SoundTree};
 ghost use Rattle.bringing.specs.Bringing.{ReadFrom, Brings};
+ghost use Rattle.model.specs.Definitions.Refusals.{maxLength};
 use answers::Brought;
 use codes::MAX_BYTES;
 use comparing::is_image;
@@ -63,7 +64,7 @@ fn bring_through<'a>(
 ) -> Brought
     requires setting { ⌜ Ready (now from) (now to) (now map) (now em) ⌝ }
     requires target { ⌜ SoundTree (tableBy (now to)) (now tr) ⌝ }
-    requires within { ⌜ (length (now tr) ≤ length (now buffer)) × (length (now buffer) ≤ 60000) × (length (now buffer) ≤ length (now spans)) ⌝ }
+    requires within { ⌜ (length (now tr) ≤ length (now buffer)) × (length (now buffer) ≤ maxLength) × (length (now buffer) ≤ length (now spans)) ⌝ }
     ensures { λ r. ⌜ Brings (settingIn (now (from .entry)) (now (to .entry)) (now (map .entry)) (now (em .entry))) (now (tr .entry)) (now (out .entry)) (now (out .exit)) r ⌝ }
 {
     fill_spans(tr, spans);

@@ -18,7 +18,7 @@ use Rattle.loaded_setting.specs.Trees.{SoundTree}
 use Rattle.rows.specs.Rows.{Rows, Sizes}
 use Rattle.measuring.specs.Measured.{Measurable, ImageSize}
 use Rattle.writing.specs.Writing.{Writes}
-use Rattle.filling.specs.Asked.{Fits, ImageAsked}
+use Rattle.filling.specs.Asked.{ImageFits, ImageAsked}
 use Rattle.model.specs.Definitions.Content.{Content, bytes, contentOf, document, levels}
 use Rattle.model.specs.Definitions.TreeChecks.{maxLevels}
 use Rattle.model.specs.Definitions.Image.{Setting, image, imageBy, imageLevels, imageLength, imageFiller}
@@ -126,7 +126,7 @@ module _ {source map pool places sizes tr : List ℕ} (g : Carriable source map 
     pub carry-no-room : high ≤ 128 → size ≤ 60000 → length old < size → Carries Y tr old old Carried.NoRoom
     carry-no-room low short less = no-room Y tr old high size (sizes-are .levels-are) (sizes-are .bytes-are) low short less
 
-    pub carry-fits : high ≤ 128 → size ≤ 60000 → size ≤ length old → Fits (ImageAsked source pool places tr) 0 (length old)
+    pub carry-fits : high ≤ 128 → size ≤ 60000 → size ≤ length old → ImageFits (ImageAsked source pool places tr) 0 (length old)
     carry-fits low short enough =
         record { bytes = document 0 (image Y (contentOf tr)); asked = image-asked; room = omega (arith, has-room Y tr old high size (sizes-are .levels-are) (sizes-are .bytes-are) low short enough) }
 

@@ -5,8 +5,9 @@ ghost use Prim.Native.Nat.{ℕ, _≤_};
 ghost use lib.ListN.{length};
 ghost use Rattle.loaded_setting.specs.Ready.{settingIn};
 ghost use Rattle.writing.specs.Writing.{Writes};
-ghost use Rattle.filling.specs.Asked.{Fits, ImageAsked};
+ghost use Rattle.filling.specs.Asked.{ImageFits, ImageAsked};
 ghost use Rattle.carry_prepared.specs.Carrying.{Carriable, Carries};
+ghost use Rattle.model.specs.Definitions.Refusals.{maxLength};
 use answers::Carried;
 use codes::ELEMENT_BYTES;
 use codes::MAX_BYTES;
@@ -29,8 +30,8 @@ fn write_with<'a>(
     spans: &mut [u16],
     out: &mut [u8],
 ) -> usize
-    requires task { ⌜ Fits (ImageAsked (now source) (now pool) (now places) (now tr)) 0 (length (now out)) ⌝ }
-    requires short { ⌜ (length (now tr) ≤ 60000) × (length (now tr) ≤ length (now spans)) ⌝ }
+    requires task { ⌜ ImageFits (ImageAsked (now source) (now pool) (now places) (now tr)) 0 (length (now out)) ⌝ }
+    requires short { ⌜ (length (now tr) ≤ maxLength) × (length (now tr) ≤ length (now spans)) ⌝ }
     ensures { λ r. ⌜ ((bs : List ℕ) → ImageAsked (now (source .entry)) (now (pool .entry)) (now (places .entry)) (now (tr .entry)) bs → Writes (now (out .entry)) (now (out .exit)) 0 bs r) ⌝ }
 {
     fill_spans(tr, spans);
@@ -45,8 +46,8 @@ fn write<'a>(
     tr: &'a [u8],
     out: &mut [u8],
 ) -> usize
-    requires task { ⌜ Fits (ImageAsked (now source) (now pool) (now places) (now tr)) 0 (length (now out)) ⌝ }
-    requires short { ⌜ length (now tr) ≤ 60000 ⌝ }
+    requires task { ⌜ ImageFits (ImageAsked (now source) (now pool) (now places) (now tr)) 0 (length (now out)) ⌝ }
+    requires short { ⌜ length (now tr) ≤ maxLength ⌝ }
     ensures { λ r. ⌜ ((bs : List ℕ) → ImageAsked (now (source .entry)) (now (pool .entry)) (now (places .entry)) (now (tr .entry)) bs → Writes (now (out .entry)) (now (out .exit)) 0 bs r) ⌝ }
 {
     if tr.len() <= SHORT {

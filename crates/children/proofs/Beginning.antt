@@ -15,7 +15,7 @@ use Rattle.model.specs.Definitions.Inverse.{follow}
 use Rattle.loaded_table.specs.Loaded.{kindFrom, typesIn, kindsOf, countsOf, membersIn}
 use Rattle.loaded_embedding.specs.Loaded.{targetsOf, startsOf, lengthsOf, stepsFrom}
 use Rattle.loaded_setting.specs.Ready.{settingIn, Ready}
-use Rattle.scanning.specs.Finding.{Begins}
+use Rattle.scanning.specs.Finding.{FoundContent}
 use Rattle.paths.specs.declared.Cut.{Cut}
 use Rattle.paths.specs.Following.{Followable, Cuts, pathsFrom}
 use Rattle.paths.specs.Cutting.{before-follows, rest-follows}
@@ -110,7 +110,7 @@ module _ {source target map em : List ℕ} (ready : Ready source target map em) 
           let gone : follow (X .target) τ (d .before) k ≡ none = rw (sym (cut .before)) miss in
           begin-parts k ∙ rw gone
 
-      pub begin-items : (k : Content) {tr : List ℕ} {o : ℕ} → Begins tr o (follow (X .target) τ (stepsFrom em (first + 2) (r .depth)) k) → {m : ℕ} → m ≡ getD (membersIn source) (σ * 16 + 0) 0
+      pub begin-items : (k : Content) {tr : List ℕ} {o : ℕ} → FoundContent tr o (follow (X .target) τ (stepsFrom em (first + 2) (r .depth)) k) → {m : ℕ} → m ≡ getD (membersIn source) (σ * 16 + 0) 0
           → LeftItems source target em tr (record { at = o; item = r .item; start = first + 2 * (r .depth + 1); steps = steps - (r .depth + 1); child = m }) (childParts X σ k)
       unfolding listParts
       begin-items k found {m} is =

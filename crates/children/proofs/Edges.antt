@@ -10,8 +10,8 @@ use Rattle.model.specs.Definitions.Content.{Content}
 use Rattle.loaded_table.specs.Loaded.{typesIn, kindsOf, countsOf, membersIn}
 use Rattle.loaded_embedding.specs.Loaded.{targetsOf, startsOf, lengthsOf}
 use Rattle.loaded_setting.specs.Ready.{Ready}
-use Rattle.scanning.specs.Scanning.{At}
-use Rattle.scanning.specs.Finding.{Begins}
+use Rattle.scanning.specs.Scanning.{ContentAt}
+use Rattle.scanning.specs.Finding.{FoundContent}
 use Rattle.paths.specs.Following.{Followable, pathAt, pathsFrom}
 use Rattle.paths.specs.Edges.{small, members-long, few, row-follows, row-member}
 use Rattle.children.specs.declared.Cursor.the-variants as cursor
@@ -21,7 +21,7 @@ use Rattle.children.proofs.Finding.{part-none, part-some, there-none, t
 
 -- the invariant of the loop over the edges of a choice: the paths before edge i are not there
 pub record Choosing (source target map em : List ℕ) (σ : ℕ) (tr : List ℕ) (from i : ℕ) : Type 0 where
-  pub left : (k : Content) (parts : Parts) → At tr from k → LeftChoice source target map em σ k parts
+  pub left : (k : Content) (parts : Parts) → ContentAt tr from k → LeftChoice source target map em σ k parts
       → parts ≡ choiceParts (along target map σ k) (membersLeft source σ i) (pathsLeft source map em σ i)
 
 module _ {source target map em : List ℕ} (ready : Ready source target map em) {σ : ℕ} (exists : σ < typesIn source) where
@@ -85,7 +85,7 @@ module _ {source target map em : List ℕ} (ready : Ready source target map em) 
       pub edges-broken : F k (pathAt em map (σ * 16 + i)) ≡ none → parts ≡ broken
       edges-broken e = now .are ∙ sequence-here i edges-less k ∙ part-none _ _ e
 
-      pub edges-one : {tr : List ℕ} {o : ℕ} → Begins tr o (F k (pathAt em map (σ * 16 + i)))
+      pub edges-one : {tr : List ℕ} {o : ℕ} → FoundContent tr o (F k (pathAt em map (σ * 16 + i)))
           → GivesOne source target map em σ tr k (17 - i) (getD (membersIn source) (σ * 16 + i) 0) o (cursor.Edges (i + 1)) parts
       edges-one found =
           record {
@@ -111,7 +111,7 @@ module _ {source target map em : List ℕ} (ready : Ready source target map em) 
     pub choice-on : (k : Content) → F k (pathAt em map (σ * 16 + i)) ≡ none → choiceParts (F k) (ms i) (ps i) ≡ choiceParts (F k) (ms (i + 1)) (ps (i + 1))
     choice-on k e = choice-here i less k ∙ there-none _ _ e
 
-    pub choice-one : {tr : List ℕ} {o : ℕ} {k : Content} {parts : Parts} → parts ≡ choiceParts (F k) (ms i) (ps i) → Begins tr o (F k (pathAt em map (σ * 16 + i)))
+    pub choice-one : {tr : List ℕ} {o : ℕ} {k : Content} {parts : Parts} → parts ≡ choiceParts (F k) (ms i) (ps i) → FoundContent tr o (F k (pathAt em map (σ * 16 + i)))
         → GivesOne source target map em σ tr k 1 (getD (membersIn source) (σ * 16 + i) 0) o cursor.Last parts
     choice-one {k = k} are found =
         record {

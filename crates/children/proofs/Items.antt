@@ -9,9 +9,9 @@ use Rattle.model.specs.Definitions.Content.{Content, bytes}
 use Rattle.model.specs.Definitions.Inverse.{follow}
 use Rattle.loaded_table.specs.Loaded.{tableBy}
 use Rattle.loaded_embedding.specs.Loaded.{stepsFrom}
-use Rattle.scanning.specs.Scanning.{At}
-use Rattle.scanning.specs.Finding.{Begins}
-use Rattle.scanning.specs.Laws.{content-within, Opens, opens, opens-next, letters, ends}
+use Rattle.scanning.specs.Scanning.{ContentAt}
+use Rattle.scanning.specs.Finding.{FoundContent}
+use Rattle.scanning.specs.Laws.{content-within, OpensElement, opens, opens-next, letters, ends}
 use Rattle.children.specs.declared.Rest.{Rest}
 use Rattle.children.specs.declared.Cursor.the-variants as cursor
 use Rattle.children.specs.Parts.{Parts, done, broken, partOf, itemParts}
@@ -36,24 +36,24 @@ module _ {source target em tr : List ℕ} {r : Rest} {parts : Parts} (now : Left
   items-done other another = now .are ∙ ap (itemParts G (r .child)) (ends (now .items) (now .there) other another)
 
   module _ (first : getD tr (r .at) 0 ≡ 0x30) where
-    abbrev o : Opens tr (r .at) (now .items) (now .there .rest)
+    abbrev o : OpensElement tr (r .at) (now .items) (now .there .rest)
     o = opens (now .items) (now .there) first
 
-    pub items-inside : (r .at + 1 < length tr) × ((j : Content) × At tr (r .at + 2) j)
+    pub items-inside : (r .at + 1 < length tr) × ((j : Content) × ContentAt tr (r .at + 2) j)
     items-inside = (o .two, (o .inside, o .within))
 
     item-here : parts ≡ partOf (r .child) (G (o .inside)) (itemParts G (r .child) (o .next))
     unfolding itemParts
     item-here = now .are ∙ ap (itemParts G (r .child)) (o .is)
 
-    pub items-broken : ((j : Content) → At tr (r .at + 2) j → G j ≡ none) → parts ≡ broken
+    pub items-broken : ((j : Content) → ContentAt tr (r .at + 2) j → G j ≡ none) → parts ≡ broken
     items-broken miss = item-here ∙ part-none _ _ (miss (o .inside) (o .within))
 
-    module _ (close : ℕ) (skips : (j : Content) → At tr (r .at + 2) j → close ≡ r .at + 2 + length (bytes j)) where
+    module _ (close : ℕ) (skips : (j : Content) → ContentAt tr (r .at + 2) j → close ≡ r .at + 2 + length (bytes j)) where
       pub items-close : close < length tr
       items-close = omega (arith, skips (o .inside) (o .within), content-within (o .within))
 
-      pub items-one : {q : ℕ} → ((j : Content) → At tr (r .at + 2) j → Begins tr q (G j)) → (map : List ℕ) (σ : ℕ) (k : Content)
+      pub items-one : {q : ℕ} → ((j : Content) → ContentAt tr (r .at + 2) j → FoundContent tr q (G j)) → (map : List ℕ) (σ : ℕ) (k : Content)
           → GivesOne source target map em σ tr k (1 + (length tr - r .at)) (r .child) q (cursor.Items (record { at = close + 1; item = r .item; start = r .start; steps = r .steps; child = r .child })) parts
       items-one goes map σ k =
           let found = goes (o .inside) (o .within) in

@@ -12,8 +12,8 @@ use Rattle.model.specs.Definitions.Embedding.{next}
 use Rattle.model.specs.Definitions.Inverse.{enter, follow}
 use Rattle.loaded_table.specs.Loaded.{kindFrom, tableBy, kindsOf, countsOf, membersIn}
 use Rattle.loaded_embedding.specs.Loaded.{stepsFrom}
-use Rattle.scanning.specs.Scanning.{At}
-use Rattle.scanning.specs.Finding.{Begins}
+use Rattle.scanning.specs.Scanning.{ContentAt}
+use Rattle.scanning.specs.Finding.{FoundContent}
 use Rattle.paths.specs.Following.{Followable, Taken}
 use Rattle.paths.specs.Stepping.{steps-here, kind-here, next-here, follow-on, follow-start}
 
@@ -34,13 +34,13 @@ follow-end T τ k = refl
 -- the content at offset `here` leads by the given steps to what is sought
 pub record PathLeft (T : Table) (tr : List ℕ) (here τ : ℕ) (steps : List ℕ) (sought : Option Content) : Type 0 where
   pub content : Content
-  pub there : At tr here content
+  pub there : ContentAt tr here content
   pub same : sought ≡ follow T τ steps content
 
 -- the loop's invariant: i steps are taken, and `sought` is what the whole path leads to from k
 pub record Onward (target em : List ℕ) (start steps tau : ℕ) (tr : List ℕ) (at i here τ : ℕ) : Type 0 where
   pub walk : Taken target em start steps i τ
-  pub reached : (k : Content) → At tr at k
+  pub reached : (k : Content) → ContentAt tr at k
       → PathLeft (tableBy target) tr here τ (stepsFrom em (start + 2 * i + 2) (steps - i)) (follow (tableBy target) tau (stepsFrom em (start + 2) steps) k)
 
 -- before the first step
@@ -58,7 +58,7 @@ module _ {target em : List ℕ} {start steps tau : ℕ} {tr : List ℕ} {at i he
   whole = follow T tau (stepsFrom em (start + 2) steps)
 
   -- no step is left
-  pub onward-done : (k : Content) → At tr at k → steps ≤ i → Begins tr here (whole k)
+  pub onward-done : (k : Content) → ContentAt tr at k → steps ≤ i → FoundContent tr here (whole k)
   unfolding stepsFrom
   onward-done k a over =
       let l = now .reached k a in
@@ -86,14 +86,14 @@ module _ {target em : List ℕ} {start steps tau : ℕ} {tr : List ℕ} {at i he
     same-steps j e = e ∙ ap (λ (l : List ℕ). follow T τ l j) (steps-here (now .walk) less read)
 
     -- the step is missing
-    pub onward-missing : ((j : Content) → At tr here j → (count : ℕ) (row : List ℕ) → enter (kindFrom code count row) p r j ≡ none) → (k : Content) → At tr at k → whole k ≡ none
+    pub onward-missing : ((j : Content) → ContentAt tr here j → (count : ℕ) (row : List ℕ) → enter (kindFrom code count row) p r j ≡ none) → (k : Content) → ContentAt tr at k → whole k ≡ none
     onward-missing miss k a =
         let l = now .reached k a in
         same-steps (l .content) (l .same)
         ∙ follow-missing T τ p later (l .content) (same-enter (l .content) ∙ miss (l .content) (l .there) count row)
 
     -- the step leads to offset o
-    pub onward-there : {o : ℕ} → ((j : Content) → At tr here j → (count : ℕ) (row : List ℕ) → Begins tr o (enter (kindFrom code count row) p r j))
+    pub onward-there : {o : ℕ} → ((j : Content) → ContentAt tr here j → (count : ℕ) (row : List ℕ) → FoundContent tr o (enter (kindFrom code count row) p r j))
         → Onward target em start steps tau tr at (i + 1) o r
     onward-there {o} goes =
         record {

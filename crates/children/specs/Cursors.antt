@@ -9,7 +9,7 @@ use Rattle.model.specs.Definitions.Inverse.{follow}
 use Rattle.loaded_table.specs.Loaded.{typesIn, kindsOf, countsOf, membersIn, tableBy}
 use Rattle.loaded_embedding.specs.Loaded.{targetsOf, stepsFrom}
 use Rattle.paths.specs.Following.{Followable, pathsFrom}
-use Rattle.scanning.specs.Scanning.{At}
+use Rattle.scanning.specs.Scanning.{ContentAt}
 use Rattle.scanning.specs.Spanning.{Spans}
 use Rattle.loaded_setting.specs.Ready.{settingIn, Ready}
 use Rattle.children.specs.declared.Image.{Image}
@@ -25,7 +25,7 @@ pub record ImageThere (source target map em tr sp : List ℕ) (image : Image) : 
   pub spans : Spans tr sp
   pub ready : Ready source target map em
   pub known-type : image .sigma < typesIn source
-  pub content : (k : Content) × At tr (image .from) k
+  pub content : (k : Content) × ContentAt tr (image .from) k
 
 -- ---- the children of an element of source type σ, whose image holds k
 
@@ -54,7 +54,7 @@ pub record LeftChoice (source target map em : List ℕ) (σ : ℕ) (k : Content)
 -- the items of the target list from an offset on are left
 pub record LeftItems (source target em tr : List ℕ) (r : Rest) (parts : Parts) : Type 0 where
   pub items : Content
-  pub there : At tr (r .at) items
+  pub there : ContentAt tr (r .at) items
   pub child-type : r .child < typesIn source
   pub followable : Followable target em (r .start) (r .steps) (r .item)
   pub are : parts ≡ itemParts (follow (tableBy target) (r .item) (stepsFrom em (r .start + 2) (r .steps))) (r .child) items
@@ -70,7 +70,7 @@ Shows source target map em σ tr k cursor.Lost parts = parts ≡ broken
 -- at first all are left
 abbrev pub ShowsAll : List ℕ → List ℕ → List ℕ → List ℕ → List ℕ → Image → Cursor → Type 0
 ShowsAll source target map em tr image r =
-    (k : Content) → At tr (image .from) k → Shows source target map em (image .sigma) tr k r (childParts (settingIn source target map em) (image .sigma) k)
+    (k : Content) → ContentAt tr (image .from) k → Shows source target map em (image .sigma) tr k r (childParts (settingIn source target map em) (image .sigma) k)
 
 -- a number that falls with each child
 abbrev pub cursorWeight : List ℕ → Cursor → ℕ
@@ -85,7 +85,7 @@ pub record GivesOne (source target map em : List ℕ) (σ : ℕ) (tr : List ℕ)
   pub inside : Content
   pub rest : Parts
   pub is : parts ≡ part m inside rest
-  pub there : At tr o inside
+  pub there : ContentAt tr o inside
   pub on : Shows source target map em σ tr k then rest
   pub less : cursorWeight tr then < bound
   pub is-type : m < typesIn source

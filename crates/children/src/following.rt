@@ -16,16 +16,17 @@ ghost use Rattle.paths.specs.Following.{Followable};
 ghost use Rattle.model.specs.Definitions.Content.{Content};
 ghost use Rattle.model.specs.Definitions.Inverse as model;
 ghost use Rattle.scanning.specs.Finding.{Finds};
-ghost use Rattle.scanning.specs.Scanning.{At};
+ghost use Rattle.scanning.specs.Scanning.{ContentAt};
 ghost use Rattle.scanning.specs.Spanning.{Spans};
+ghost use Rattle.model.specs.Definitions.TableChecks.{maxTypes};
 
 // Where step p leads from the element whose content begins at `at`, by the code of its kind; `next` is the type that the
 // step goes to.
 fn enter<'a>(kind: usize, p: usize, next: usize, tr: &'a [u8], sp: &'a [u16], at: usize) -> Found
     requires spans { ⌜ Spans (now tr) (now sp) ⌝ }
-    requires small { ⌜ next < 64 ⌝ }
-    requires content { ⌜ ((k : Content) × At (now tr) at k) ⌝ }
-    ensures { λ r. ⌜ ((k : Content) → At (now (tr .entry)) at k → (count : _) (row : _) → Finds (now (tr .entry)) r (model.enter (kindFrom kind count row) p next k)) ⌝ }
+    requires small { ⌜ next < maxTypes ⌝ }
+    requires content { ⌜ ((k : Content) × ContentAt (now tr) at k) ⌝ }
+    ensures { λ r. ⌜ ((k : Content) → ContentAt (now (tr .entry)) at k → (count : _) (row : _) → Finds (now (tr .entry)) r (model.enter (kindFrom kind count row) p next k)) ⌝ }
 {
     match kind {
         TEXT => Found::Missing,
@@ -50,8 +51,8 @@ pub fn follow<'a>(
 ) -> Found
     requires spans { ⌜ Spans (now tr) (now sp) ⌝ }
     requires path { ⌜ Followable (now target) (now em) start steps tau ⌝ }
-    requires content { ⌜ ((k : Content) × At (now tr) at k) ⌝ }
-    ensures { λ r. ⌜ ((k : Content) → At (now (tr .entry)) at k → Finds (now (tr .entry)) r (model.follow (tableBy (now (target .entry))) tau (stepsFrom (now (em .entry)) (start + 2) steps) k)) ⌝ }
+    requires content { ⌜ ((k : Content) × ContentAt (now tr) at k) ⌝ }
+    ensures { λ r. ⌜ ((k : Content) → ContentAt (now (tr .entry)) at k → Finds (now (tr .entry)) r (model.follow (tableBy (now (target .entry))) tau (stepsFrom (now (em .entry)) (start + 2) steps) k)) ⌝ }
 {
     let mut i = 0;
     let mut here = at;

@@ -26,8 +26,9 @@ ghost use Rattle.children.specs.Cursors.{ImageThere, LeftEdges, LeftChoi
 ghost use Rattle.model.specs.Definitions.Content.{Content};
 ghost use Rattle.model.specs.Definitions.Inverse as model;
 ghost use Rattle.scanning.specs.Finding.{Finds};
-ghost use Rattle.scanning.specs.Scanning.{At};
+ghost use Rattle.scanning.specs.Scanning.{ContentAt};
 ghost use Rattle.scanning.specs.Spanning.{Spans};
+ghost use Rattle.model.specs.Definitions.TableChecks.{maxMembers, maxTypes};
 
 pub mod following;
 
@@ -75,10 +76,10 @@ pub fn along<'a>(
     i: usize,
 ) -> Found
     requires spans { ⌜ Spans (now tr) (now sp) ⌝ }
-    requires place { ⌜ (image .sigma < 64) × (i < 16) ⌝ }
-    requires path { ⌜ Followable (now target) (now em) (getD (startsOf (now map)) (image .sigma * 16 + i) 0) (getD (lengthsOf (now map)) (image .sigma * 16 + i) 0) (getD (targetsOf (now map)) (image .sigma) 0) ⌝ }
-    requires content { ⌜ ((k : Content) × At (now tr) (image .from) k) ⌝ }
-    ensures { λ r. ⌜ ((k : Content) → At (now (tr .entry)) (image .from) k → Finds (now (tr .entry)) r (model.follow (tableBy (now (target .entry))) (getD (targetsOf (now (map .entry))) (image .sigma) 0) (pathAt (now (em .entry)) (now (map .entry)) (image .sigma * 16 + i)) k)) ⌝ }
+    requires place { ⌜ (image .sigma < maxTypes) × (i < maxMembers) ⌝ }
+    requires path { ⌜ Followable (now target) (now em) (getD (startsOf (now map)) (image .sigma * maxMembers + i) 0) (getD (lengthsOf (now map)) (image .sigma * maxMembers + i) 0) (getD (targetsOf (now map)) (image .sigma) 0) ⌝ }
+    requires content { ⌜ ((k : Content) × ContentAt (now tr) (image .from) k) ⌝ }
+    ensures { λ r. ⌜ ((k : Content) → ContentAt (now (tr .entry)) (image .from) k → Finds (now (tr .entry)) r (model.follow (tableBy (now (target .entry))) (getD (targetsOf (now (map .entry))) (image .sigma) 0) (pathAt (now (em .entry)) (now (map .entry)) (image .sigma * maxMembers + i)) k)) ⌝ }
 {
     let sigma = image.sigma;
     let edge = sigma * MAX_MEMBERS + i;
@@ -100,8 +101,8 @@ fn next_member<'a>(
     i: usize,
 ) -> Part
     requires image { ⌜ ImageThere (now source) (now target) (now map) (now em) (now tr) (now sp) image ⌝ }
-    requires left { ⌜ ((k : Content) × (parts : Parts) × At (now tr) (image .from) k × LeftEdges (now source) (now target) (now map) (now em) (image .sigma) k i parts) ⌝ }
-    ensures { λ r. ⌜ ((k : Content) (parts : Parts) → At (now (tr .entry)) (image .from) k → LeftEdges (now (source .entry)) (now (target .entry)) (now (map .entry)) (now (em .entry)) (image .sigma) k i parts → Gives (now (source .entry)) (now (target .entry)) (now (map .entry)) (now (em .entry)) (image .sigma) (now (tr .entry)) k (17 - i) r parts) ⌝ }
+    requires left { ⌜ ((k : Content) × (parts : Parts) × ContentAt (now tr) (image .from) k × LeftEdges (now source) (now target) (now map) (now em) (image .sigma) k i parts) ⌝ }
+    ensures { λ r. ⌜ ((k : Content) (parts : Parts) → ContentAt (now (tr .entry)) (image .from) k → LeftEdges (now (source .entry)) (now (target .entry)) (now (map .entry)) (now (em .entry)) (image .sigma) k i parts → Gives (now (source .entry)) (now (target .entry)) (now (map .entry)) (now (em .entry)) (image .sigma) (now (tr .entry)) k (17 - i) r parts) ⌝ }
 {
     let sigma = image.sigma;
     if i == count(source, sigma) {
@@ -129,8 +130,8 @@ fn next_choice<'a>(
     image: Image,
 ) -> Part
     requires image { ⌜ ImageThere (now source) (now target) (now map) (now em) (now tr) (now sp) image ⌝ }
-    requires left { ⌜ ((k : Content) × (parts : Parts) × At (now tr) (image .from) k × LeftChoice (now source) (now target) (now map) (now em) (image .sigma) k parts) ⌝ }
-    ensures { λ r. ⌜ ((k : Content) (parts : Parts) → At (now (tr .entry)) (image .from) k → LeftChoice (now (source .entry)) (now (target .entry)) (now (map .entry)) (now (em .entry)) (image .sigma) k parts → Gives (now (source .entry)) (now (target .entry)) (now (map .entry)) (now (em .entry)) (image .sigma) (now (tr .entry)) k 1 r parts) ⌝ }
+    requires left { ⌜ ((k : Content) × (parts : Parts) × ContentAt (now tr) (image .from) k × LeftChoice (now source) (now target) (now map) (now em) (image .sigma) k parts) ⌝ }
+    ensures { λ r. ⌜ ((k : Content) (parts : Parts) → ContentAt (now (tr .entry)) (image .from) k → LeftChoice (now (source .entry)) (now (target .entry)) (now (map .entry)) (now (em .entry)) (image .sigma) k parts → Gives (now (source .entry)) (now (target .entry)) (now (map .entry)) (now (em .entry)) (image .sigma) (now (tr .entry)) k 1 r parts) ⌝ }
 {
     let sigma = image.sigma;
     let members = count(source, sigma);
@@ -192,8 +193,8 @@ pub fn next<'a>(
     cursor: Cursor,
 ) -> Part
     requires image { ⌜ ImageThere (now source) (now target) (now map) (now em) (now tr) (now sp) image ⌝ }
-    requires left { ⌜ ((k : Content) × (parts : Parts) × At (now tr) (image .from) k × Shows (now source) (now target) (now map) (now em) (image .sigma) (now tr) k cursor parts) ⌝ }
-    ensures { λ r. ⌜ ((k : Content) (parts : Parts) → At (now (tr .entry)) (image .from) k → Shows (now (source .entry)) (now (target .entry)) (now (map .entry)) (now (em .entry)) (image .sigma) (now (tr .entry)) k cursor parts → Gives (now (source .entry)) (now (target .entry)) (now (map .entry)) (now (em .entry)) (image .sigma) (now (tr .entry)) k (cursorWeight (now (tr .entry)) cursor) r parts) ⌝ }
+    requires left { ⌜ ((k : Content) × (parts : Parts) × ContentAt (now tr) (image .from) k × Shows (now source) (now target) (now map) (now em) (image .sigma) (now tr) k cursor parts) ⌝ }
+    ensures { λ r. ⌜ ((k : Content) (parts : Parts) → ContentAt (now (tr .entry)) (image .from) k → Shows (now (source .entry)) (now (target .entry)) (now (map .entry)) (now (em .entry)) (image .sigma) (now (tr .entry)) k cursor parts → Gives (now (source .entry)) (now (target .entry)) (now (map .entry)) (now (em .entry)) (image .sigma) (now (tr .entry)) k (cursorWeight (now (tr .entry)) cursor) r parts) ⌝ }
 {
     match cursor {
         Cursor::Edges(i) => next_member(source, target, map, em, tr, sp, image, i),

@@ -3,6 +3,7 @@ ghost use mathlib.Core.Path.{_≡_};
 ghost use Prim.Native.Nat.{_<_, _≤_};
 ghost use Rattle.loaded_table.specs.Loaded.{tableBy, typesIn, Bounded};
 ghost use Rattle.model.specs.Definitions.Table.{kindOf, edgesOf};
+ghost use Rattle.model.specs.Definitions.TableChecks.{maxMembers};
 use loaded_table::CHOICE;
 use loaded_table::EMPTY;
 use loaded_table::SEQUENCE;
@@ -15,7 +16,7 @@ pub fn edges_of(table: &[u16; TABLE], t: usize) -> usize
     requires { ⌜ Bounded (now table) ⌝ }
     requires { ⌜ t < typesIn (now table) ⌝ }
     ensures same { λ r. ⌜ r ≡ edgesOf (kindOf (tableBy (now (table .entry))) t) ⌝ }
-    ensures few { λ r. ⌜ r ≤ 16 ⌝ }
+    ensures few { λ r. ⌜ r ≤ maxMembers ⌝ }
 {
     let kind = loaded_table::kind(table, t);
     match kind {

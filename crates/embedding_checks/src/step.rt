@@ -6,6 +6,7 @@ ghost use Rattle.loaded_table.specs.Loaded.{tableBy, typesIn, countsOf, members
 ghost use Rattle.embedding_checks.specs.States.{stepped};
 ghost use Rattle.model.specs.Definitions.Basics.{entry};
 ghost use Rattle.model.specs.Definitions.Table.{kindOf, stepFrom};
+ghost use Rattle.model.specs.Definitions.TableChecks.{maxMembers, maxTypes};
 use loaded_table::CHOICE;
 use loaded_table::EMPTY;
 use loaded_table::SEQUENCE;
@@ -21,8 +22,8 @@ pub enum Stepped {
 // Member p of type t, counted from 1, if it has as many.
 fn member_at(table: &[u16; TABLE], t: usize, p: usize) -> Stepped
     requires { ⌜ Bounded (now table) ⌝ }
-    requires { ⌜ t < 64 ⌝ }
-    ensures { λ r. ⌜ stepped r ≡ entry p (take (getD (countsOf (now (table .entry))) t 0) (drop (t * 16) (membersIn (now (table .entry))))) ⌝ }
+    requires { ⌜ t < maxTypes ⌝ }
+    ensures { λ r. ⌜ stepped r ≡ entry p (take (getD (countsOf (now (table .entry))) t 0) (drop (t * maxMembers) (membersIn (now (table .entry))))) ⌝ }
 {
     if p == 0 {
         return Stepped::Nowhere;

@@ -11,7 +11,7 @@ use Rattle.model.specs.Theorems.Facts.{Walks, All, all-none, all-more}
 use Rattle.loaded_table.specs.Loaded.{tableBy, typesIn, kindsOf, countsOf, membersIn, kindIn, length-of, kind-of}
 use Rattle.loaded_embedding.specs.Loaded.{targetsOf, startsOf, lengthsOf, stepsFrom, edgeIn, edgesFrom, mapsFrom, embeddingIn}
 use Rattle.embedding_clash.specs.Paths.{pathOf, Walkable}
-use Rattle.embedding_clash.specs.Ready.{mapOf, Ready}
+use Rattle.embedding_clash.specs.Ready.{mapOf, Checkable}
 use Rattle.embedding_clash.specs.Edges.{noEdge, edgeOf}
 use Rattle.embedding_checks.proofs.Types.{few-edges}
 use Rattle.embedding_clash.proofs.Following.{path-steps}
@@ -91,7 +91,7 @@ module _ (source target em map : List ℕ) where
     pub walkable : Walkable target (getD (targetsOf map) s 0) (pathOf em map (s * 16 + i)) (getD (lengthsOf map) (s * 16 + i) 0)
 
 module _ {source target em map : List ℕ} where
-  pub type-at : Ready source target em map → (s : ℕ) → s < typesIn source → TypeAt source target em map s
+  pub type-at : Checkable source target em map → (s : ℕ) → s < typesIn source → TypeAt source target em map s
   unfolding targetOf
   type-at r s h =
       let inside : s < length (tableBy source) = rw (length-of source) h in
@@ -107,7 +107,7 @@ module _ {source target em map : List ℕ} where
         target-exists = rw (ap (λ (f : TypeMap). f .target) here) at (r .targets-exist s h);
       }
 
-  pub edge-at : Ready source target em map → (s i : ℕ) → s < typesIn source
+  pub edge-at : Checkable source target em map → (s i : ℕ) → s < typesIn source
       → i < edgesOf (kindOf (tableBy source) s) → EdgeAt source target em map s i
   unfolding edgeOf targetOf edgeIn
   edge-at r s i hs hi =

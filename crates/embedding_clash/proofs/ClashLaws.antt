@@ -17,7 +17,7 @@ use Rattle.model.specs.Theorems.Tools.{pick-true, pick-false}
 use Rattle.loaded_table.specs.Loaded.{kindFrom, tableBy, typesIn, kindsOf, countsOf, membersIn, kind-of}
 use Rattle.loaded_embedding.specs.Loaded.{targetsOf, startsOf, lengthsOf, edgeIn}
 use Rattle.embedding_clash.specs.Paths.{pathOf, PathsAt}
-use Rattle.embedding_clash.specs.Ready.{mapOf, Ready}
+use Rattle.embedding_clash.specs.Ready.{mapOf, Checkable}
 use Rattle.embedding_clash.specs.Edges.{edgeOf}
 use Rattle.embedding_clash.proofs.Arrays.{type-at, edge-at}
 use Rattle.embedding_clash.proofs.Following.{StepAt, path-steps, goes-on, rest-none}
@@ -149,27 +149,27 @@ paths-more {em} {map} {b} {i} {paths} {path} h room e = record { path-at = at }
             getD-set-other paths i j path [] other ∙ h .path-at j (omega (arith, other))
 
 -- on the way through the edges of a type: the array of paths, and those stored in it so far
-pub record Stored (em map : List ℕ) (b i : ℕ) (paths : List (List ℕ)) : Type 0 where
+pub record PathsStored (em map : List ℕ) (b i : ℕ) (paths : List (List ℕ)) : Type 0 where
   pub long : length paths ≡ 16
   pub right : PathsAt em map b i paths
 
-pub stored-none : {em map : List ℕ} {b : ℕ} {paths : List (List ℕ)} → length paths ≡ 16 → Stored em map b 0 paths
+pub stored-none : {em map : List ℕ} {b : ℕ} {paths : List (List ℕ)} → length paths ≡ 16 → PathsStored em map b 0 paths
 stored-none e = record { long = e; right = record { path-at = λ j h. absurd (omega arith) } }
 
-pub stored-more : {em map : List ℕ} {b i : ℕ} {paths : List (List ℕ)} {path : List ℕ} → Stored em map b i paths
-    → i < 16 → path ≡ pathOf em map (b + i) → Stored em map b (i + 1) (set paths i path)
+pub stored-more : {em map : List ℕ} {b i : ℕ} {paths : List (List ℕ)} {path : List ℕ} → PathsStored em map b i paths
+    → i < 16 → path ≡ pathOf em map (b + i) → PathsStored em map b (i + 1) (set paths i path)
 stored-more {i = i} {paths} {path} w h e = record {
   long = length-set paths i path ∙ w .long;
   right = paths-more (w .right) (rw (w .long) h) e;
 }
 
-pub stored-all : {em map : List ℕ} {b i n : ℕ} {paths : List (List ℕ)} → Stored em map b i paths → i ≡ n → PathsAt em map b n paths
+pub stored-all : {em map : List ℕ} {b i n : ℕ} {paths : List (List ℕ)} → PathsStored em map b i paths → i ≡ n → PathsAt em map b n paths
 stored-all {em} {map} {b} {paths = paths} w e = rw e at (w .right)
 
 -- ---- two edges of a type
 
 module _ {source target em map : List ℕ}
-    (r : Ready source target em map)
+    (r : Checkable source target em map)
     (s i : ℕ) (hs : s < typesIn source) (hi : i < edgesOf (kindOf (tableBy source) s)) where
   -- the steps of an edge of the model
   pub same-steps : {path : List ℕ} {count : ℕ} → count ≡ getD (lengthsOf map) (s * 16 + i) 0
@@ -180,7 +180,7 @@ module _ {source target em map : List ℕ}
       rw (ec, ep, path-steps em (getD (startsOf map) (s * 16 + i) 0) (getD (lengthsOf map) (s * 16 + i) 0), edge-at r s i hs hi .edge-is)
 
 module _ {source target em map : List ℕ}
-    (r : Ready source target em map)
+    (r : Checkable source target em map)
     (s i j : ℕ) (hs : s < typesIn source) (hi : i < edgesOf (kindOf (tableBy source) s)) (hj : j < edgesOf (kindOf (tableBy source) s)) where
   -- what the code decides of two edges
   pub pair-clash : {kind from : ℕ} {a b : List ℕ} {la lb : ℕ} {v : Bool}

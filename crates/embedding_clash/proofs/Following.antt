@@ -17,7 +17,7 @@ use Rattle.model.specs.Theorems.Facts.{Walks, onward}
 use Rattle.model.specs.Theorems.Tools.{some-none}
 use Rattle.loaded_table.specs.Loaded.{tableBy, typesIn, kindsOf, countsOf, membersIn, kindFrom, length-of, kind-of}
 use Rattle.loaded_embedding.specs.Loaded.{stepsFrom, steps-more}
-use Rattle.embedding_clash.specs.Paths.{pathIn, Steps}
+use Rattle.embedding_clash.specs.Paths.{pathIn, StepExists}
 
 -- ---- paths as values
 
@@ -117,7 +117,7 @@ pub record StepAt (target : List ℕ) (t p : ℕ) : Type 0 where
   pub last : p ≤ 16
   pub leads : getD (membersIn target) (t * 16 + (p - 1)) 0 ≡ next (tableBy target) t p
 
-pub step-at : {target : List ℕ} {t p : ℕ} → Steps target t p → StepAt target t p
+pub step-at : {target : List ℕ} {t p : ℕ} → StepExists target t p → StepAt target t p
 step-at {target} {t} {p} s = go (ltb t (typesIn target)) refl
   where
     go : (b : Bool) → ltb t (typesIn target) ≡ b → StepAt target t p

@@ -19,7 +19,7 @@ abbrev pub pathOf : List ℕ → List ℕ → ℕ → List ℕ
 pathOf em map edge = pathIn em (getD (startsOf map) edge 0) (getD (lengthsOf map) edge 0)
 
 -- step p leads on from type t
-pub record Steps (target : List ℕ) (t p : ℕ) : Type 0 where
+pub record StepExists (target : List ℕ) (t p : ℕ) : Type 0 where
   pub bounded : Bounded target
   pub exists : stepFrom (kindOf (tableBy target) t) p ≡ some (next (tableBy target) t p)
 

@@ -17,10 +17,10 @@ mapOf source em map s = getD (embeddingBy em (tableBy source) map) s noMap
 
 -- A source table, a target table, and an embedding with its document, loaded: both tables are well formed, every path's
 -- steps exist, and every target type does.
-pub record Ready (source target em map : List ℕ) : Type 0 where
+pub record Checkable (source target em map : List ℕ) : Type 0 where
   pub source-bounded : loaded_table.Bounded source
   pub target-bounded : loaded_table.Bounded target
-  pub paths-bounded : loaded_embedding.Bounded em map
+  pub paths-bounded : loaded_embedding.PathsBounded em map
   pub source-formed : WellFormed (tableBy source)
   pub target-formed : WellFormed (tableBy target)
   pub walks : (s : ℕ) → s < typesIn source
@@ -28,8 +28,8 @@ pub record Ready (source target em map : List ℕ) : Type 0 where
   pub targets-exist : (s : ℕ) → s < typesIn source → targetOf (embeddingBy em (tableBy source) map) s < typesIn target
 
 -- The same at edge i of source type s, with the paths of all its edges as values.
-pub record ReadyAt (source target em map : List ℕ) (s i : ℕ) (paths : List (List ℕ)) : Type 0 where
-  pub ready : Ready source target em map
+pub record CheckableAt (source target em map : List ℕ) (s i : ℕ) (paths : List (List ℕ)) : Type 0 where
+  pub ready : Checkable source target em map
   pub type-exists : s < typesIn source
   pub edge-exists : i < edgesOf (kindOf (tableBy source) s)
   pub stored : PathsAt em map (s * 16) (edgesOf (kindOf (tableBy source) s)) paths

@@ -14,10 +14,10 @@ ghost use Rattle.loaded_table.specs.Loaded.{tableBy, kindFrom};
 ghost use Rattle.model.specs.Definitions.Table.{kindOf};
 ghost use Rattle.model.specs.Definitions.Embedding.{beginning, apart};
 ghost use Rattle.model.specs.Definitions.EmbeddingChecks as checks;
-ghost use Rattle.model.specs.Definitions.EmbeddingChecks.{clashing};
+ghost use Rattle.model.specs.Definitions.EmbeddingChecks.{clashing, maxSteps};
 ghost use Rattle.embedding_clash.specs.Edges.{clashesAt};
 ghost use Rattle.embedding_clash.specs.Paths.{Walkable};
-ghost use Rattle.embedding_clash.specs.Ready.{mapOf, ReadyAt};
+ghost use Rattle.embedding_clash.specs.Ready.{mapOf, CheckableAt};
 
 // Whether the path of edge `i` of source type `s` clashes with an earlier one. The loop goes back over those before it.
 pub fn clashes_before(
@@ -29,7 +29,7 @@ pub fn clashes_before(
     i: usize,
     paths: &[[u8; MAX_STEPS]; MAX_MEMBERS],
 ) -> bool
-    requires { ⌜ ReadyAt (now source) (now target) (now em) (now map) s i (now paths) ⌝ }
+    requires { ⌜ CheckableAt (now source) (now target) (now em) (now map) s i (now paths) ⌝ }
     ensures { λ r. ⌜ r ≡ clashesAt (tableBy (now (target .entry))) (kindOf (tableBy (now (source .entry))) s) (mapOf (now (source .entry)) (now (em .entry)) (now (map .entry)) s) i ⌝ }
 {
     let kind = loaded_table::kind(source, s);
@@ -67,7 +67,7 @@ fn clash(
     lb: usize,
 ) -> bool
     requires { ⌜ Walkable (now target) from a la ⌝ }
-    requires { ⌜ lb ≤ 12 ⌝ }
+    requires { ⌜ lb ≤ maxSteps ⌝ }
     ensures { λ r. ⌜ r ≡ checks.clash (tableBy (now (target .entry))) (kindFrom kind 0 []) from (take la a) (take lb b) ⌝ }
 {
     let n = lesser(la, lb);

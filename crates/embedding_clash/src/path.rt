@@ -5,12 +5,14 @@ use loaded_embedding::MAP;
 ghost use mathlib.Core.Path.{_≡_};
 ghost use Prim.Native.Nat.{_+_, _*_, _≤_, _<_};
 ghost use lib.ListN.{length};
-ghost use Rattle.loaded_embedding.specs.Loaded.{Bounded};
+ghost use Rattle.loaded_embedding.specs.Loaded.{PathsBounded, edgePlaces};
 ghost use Rattle.embedding_clash.specs.Paths.{pathIn, pathOf, PathsAt};
+ghost use Rattle.model.specs.Definitions.TableChecks.{maxMembers};
+ghost use Rattle.model.specs.Definitions.EmbeddingChecks.{maxSteps};
 
 // The steps of the path whose 21 stands at `start`, in order, and then zeros. The loop stores one step a turn.
 fn path_at(em: &[u8], start: usize, count: usize) -> [u8; MAX_STEPS]
-    requires { ⌜ (count ≤ 12) × (start + 1 + 2 * count ≤ length (now em)) ⌝ }
+    requires { ⌜ (count ≤ maxSteps) × (start + 1 + 2 * count ≤ length (now em)) ⌝ }
     ensures { λ r. ⌜ r ≡ pathIn (now (em .entry)) start count ⌝ }
 {
     let mut path = [0u8; MAX_STEPS];
@@ -24,8 +26,8 @@ fn path_at(em: &[u8], start: usize, count: usize) -> [u8; MAX_STEPS]
 
 // The path of the edge at a place, as a value.
 fn edge_path(em: &[u8], map: &[u16; MAP], edge: usize) -> [u8; MAX_STEPS]
-    requires { ⌜ Bounded (now em) (now map) ⌝ }
-    requires { ⌜ edge < 1024 ⌝ }
+    requires { ⌜ PathsBounded (now em) (now map) ⌝ }
+    requires { ⌜ edge < edgePlaces ⌝ }
     ensures { λ r. ⌜ r ≡ pathOf (now (em .entry)) (now (map .entry)) edge ⌝ }
 {
     path_at(
@@ -37,9 +39,9 @@ fn edge_path(em: &[u8], map: &[u16; MAP], edge: usize) -> [u8; MAX_STEPS]
 
 // The paths of `n` edges, the first of them edge `b`. The loop stores one path a turn.
 pub fn paths_of(em: &[u8], map: &[u16; MAP], b: usize, n: usize) -> [[u8; MAX_STEPS]; MAX_MEMBERS]
-    requires { ⌜ Bounded (now em) (now map) ⌝ }
-    requires { ⌜ n ≤ 16 ⌝ }
-    requires { ⌜ b + n ≤ 1024 ⌝ }
+    requires { ⌜ PathsBounded (now em) (now map) ⌝ }
+    requires { ⌜ n ≤ maxMembers ⌝ }
+    requires { ⌜ b + n ≤ edgePlaces ⌝ }
     ensures { λ r. ⌜ PathsAt (now (em .entry)) (now (map .entry)) b n r ⌝ }
 {
     let mut paths = [[0u8; MAX_STEPS]; MAX_MEMBERS];

@@ -5,11 +5,11 @@ ghost use mathlib.Core.Path.{_≡_};
 ghost use lib.ListN.{take};
 ghost use Rattle.loaded_table.specs.Loaded.{tableBy};
 ghost use Rattle.model.specs.Definitions.Embedding.{next, endOf};
-ghost use Rattle.embedding_clash.specs.Paths.{Steps, Walkable};
+ghost use Rattle.embedding_clash.specs.Paths.{StepExists, Walkable};
 
 // The type that step `p` goes to from type `t`, where there is such a step.
 pub fn next_type(target: &[u16; TABLE], t: usize, p: u8) -> usize
-    requires { ⌜ Steps (now target) t p ⌝ }
+    requires { ⌜ StepExists (now target) t p ⌝ }
     ensures { λ r. ⌜ r ≡ next (tableBy (now (target .entry))) t p ⌝ }
 {
     loaded_table::member(target, t, p as usize - 1)

@@ -15,7 +15,7 @@ use Rattle.model.specs.Definitions.EmbeddingChecks.{eachType, firstEdge, endsAt
 use Rattle.model.specs.Theorems.Tools.{pick-true, pick-false, and-left, and-right}
 use Rattle.loaded_table.specs.Loaded.{tableBy, length-of}
 use Rattle.loaded_embedding.specs.Loaded.{targetsOf, startsOf, lengthsOf, embeddingBy}
-use Rattle.embedding_clash.specs.Ready.{Ready}
+use Rattle.embedding_clash.specs.Ready.{Checkable}
 use Rattle.embedding_clash.proofs.Arrays.{in-length, type-at}
 use Rattle.embedding_clash.specs.Edges.{noEdge, edgeOf, passed, clashesBelow, clashesAt}
 use Rattle.embedding_ends.specs.declared.checks.Check.{Check}
@@ -219,7 +219,7 @@ all-implies check S T E same due e =
     (sym (all-each All S T E same) ∙ e)
 
 -- so it is for loaded tables and a loaded embedding
-pub all-right : {source target em map : List ℕ} → Ready source target em map → firstFault All (tableBy source) (tableBy target) (embeddingBy em (tableBy source) map) ≡ passes → (check : Check)
+pub all-right : {source target em map : List ℕ} → Checkable source target em map → firstFault All (tableBy source) (tableBy target) (embeddingBy em (tableBy source) map) ≡ passes → (check : Check)
     → firstFault check (tableBy source) (tableBy target) (embeddingBy em (tableBy source) map) ≡ passes
 all-right {source} {target} {em} {map} r e check =
     all-implies check (tableBy source) (tableBy target) (embeddingBy em (tableBy source) map) (in-length em (tableBy source) (targetsOf map) (startsOf map) (lengthsOf map))

@@ -13,7 +13,7 @@ use Rattle.model.specs.Theorems.Facts.{WellFormed, Walks, arrived, onward}
 use Rattle.model.specs.Theorems.Tools.{entry-member}
 use Rattle.loaded_table.specs.Loaded.{kindFrom, kindIn, tableBy, typesIn, kindsOf, countsOf, membersIn, length-of, kind-of}
 use Rattle.loaded_embedding.specs.Loaded.{targetsOf, edgeIn, embeddingBy}
-use Rattle.embedding_clash.specs.Ready.{mapOf, Ready}
+use Rattle.embedding_clash.specs.Ready.{mapOf, Checkable}
 use Rattle.embedding_clash.specs.Edges.{edgeOf}
 use Rattle.embedding_ends.specs.Tests.{endRight}
 use Rattle.embedding_clash.proofs.Arrays.{type-at, edge-at}
@@ -74,7 +74,7 @@ by-text E T f zero count row i e = refl
 by-text E T f (suc code) count row i e = absurd (omega arith)
 
 module _ {source target em map : List ℕ}
-    (r : Ready source target em map)
+    (r : Checkable source target em map)
     (s i : ℕ) (hs : s < typesIn source) (hi : i < edgesOf (kindOf (tableBy source) s)) where
   -- what is known of the end of the edge's path: it is a type
   pub record Found (end : ℕ) : Type 0 where

@@ -6,10 +6,10 @@ use native.Mathlib.Omega.{arith}
 use lib.ListN.{getD}
 use Rattle.loaded_embedding.specs.Loaded.{targetsOf, lengthsOf}
 use Rattle.embedding_clash.specs.Paths.{Walkable, pathOf}
-use Rattle.embedding_clash.specs.Ready.{ReadyAt}
+use Rattle.embedding_clash.specs.Ready.{CheckableAt}
 use Rattle.embedding_clash.proofs.Arrays.{TypeAt, EdgeAt, type-at, edge-at}
 
-module _ {source target em map : List ℕ} {s i : ℕ} {paths : List (List ℕ)} (h : ReadyAt source target em map s i paths) where
+module _ {source target em map : List ℕ} {s i : ℕ} {paths : List (List ℕ)} (h : CheckableAt source target em map s i paths) where
   pub type-here : TypeAt source target em map s
   type-here = type-at (h .ready) _ (h .type-exists)
 

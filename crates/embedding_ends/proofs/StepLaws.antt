@@ -17,7 +17,7 @@ use Rattle.model.specs.Theorems.Facts.{Walks, arrived, onward}
 use Rattle.loaded_table.specs.Loaded.{kindFrom, kindIn, tableBy, typesIn, kindsOf, countsOf, membersIn, kind-of}
 use Rattle.embedding_ends.specs.declared.steps.Left.{Left}
 use Rattle.embedding_clash.specs.Paths.{pathOf}
-use Rattle.embedding_clash.specs.Ready.{mapOf, Ready}
+use Rattle.embedding_clash.specs.Ready.{mapOf, Checkable}
 use Rattle.embedding_clash.specs.Edges.{edgeOf}
 use Rattle.embedding_ends.specs.Tests.{stepsRight}
 use Rattle.embedding_clash.proofs.Arrays.{type-at, edge-at}
@@ -132,7 +132,7 @@ right-by w l (suc (suc (suc zero))) count row = rw (l .choices, l .lists, only-c
 right-by w l (suc (suc (suc (suc code)))) count row = rw (l .choices, l .lists, only-lists w)
 
 module _ {source target em map : List ℕ}
-    (r : Ready source target em map)
+    (r : Checkable source target em map)
     (s i : ℕ) (hs : s < typesIn source) (hi : i < edgesOf (kindOf (tableBy source) s)) where
   -- the kinds that an edge leaves in the model
   same-leaves : leaves (tableBy target)

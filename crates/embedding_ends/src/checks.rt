@@ -17,7 +17,7 @@ ghost use Rattle.answers.specs.Answers.{verdict};
 ghost use Rattle.loaded_table.specs.Loaded.{tableBy, typesIn};
 ghost use Rattle.loaded_embedding.specs.Loaded.{embeddingBy};
 ghost use Rattle.model.specs.Definitions.Table.{kindOf};
-ghost use Rattle.embedding_clash.specs.Ready.{mapOf, Ready, ReadyAt};
+ghost use Rattle.embedding_clash.specs.Ready.{mapOf, Checkable, CheckableAt};
 ghost use Rattle.embedding_ends.specs.declared.checks.Check.the-variants as check;
 ghost use Rattle.embedding_ends.specs.Tests.{edgeRight, typeFault, firstFault};
 
@@ -38,7 +38,7 @@ pub fn first_fault(
     em: &[u8],
     map: &[u16; MAP],
 ) -> Verdict
-    requires { ⌜ Ready (now source) (now target) (now em) (now map) ⌝ }
+    requires { ⌜ Checkable (now source) (now target) (now em) (now map) ⌝ }
     ensures { λ r. ⌜ verdict r ≡ firstFault check (tableBy (now (source .entry))) (tableBy (now (target .entry))) (embeddingBy (now (em .entry)) (tableBy (now (source .entry))) (now (map .entry))) ⌝ }
 {
     let types = loaded_table::types(source);
@@ -65,7 +65,7 @@ fn type_fault(
     map: &[u16; MAP],
     s: usize,
 ) -> Verdict
-    requires { ⌜ Ready (now source) (now target) (now em) (now map) ⌝ }
+    requires { ⌜ Checkable (now source) (now target) (now em) (now map) ⌝ }
     requires { ⌜ s < typesIn (now source) ⌝ }
     ensures { λ r. ⌜ verdict r ≡ typeFault check (embeddingBy (now (em .entry)) (tableBy (now (source .entry))) (now (map .entry))) (tableBy (now (target .entry))) (kindOf (tableBy (now (source .entry))) s) (mapOf (now (source .entry)) (now (em .entry)) (now (map .entry)) s) ⌝ }
 {
@@ -91,7 +91,7 @@ fn ends_right(
     i: usize,
     paths: &[[u8; MAX_STEPS]; MAX_MEMBERS],
 ) -> bool
-    requires { ⌜ ReadyAt (now source) (now target) (now em) (now map) s i (now paths) ⌝ }
+    requires { ⌜ CheckableAt (now source) (now target) (now em) (now map) s i (now paths) ⌝ }
     ensures { λ r. ⌜ r ≡ edgeRight check.Ends (embeddingBy (now (em .entry)) (tableBy (now (source .entry))) (now (map .entry))) (tableBy (now (target .entry))) (kindOf (tableBy (now (source .entry))) s) (mapOf (now (source .entry)) (now (em .entry)) (now (map .entry)) s) i ⌝ }
 {
     let path = paths[i];
@@ -111,7 +111,7 @@ fn steps_right(
     i: usize,
     paths: &[[u8; MAX_STEPS]; MAX_MEMBERS],
 ) -> bool
-    requires { ⌜ ReadyAt (now source) (now target) (now em) (now map) s i (now paths) ⌝ }
+    requires { ⌜ CheckableAt (now source) (now target) (now em) (now map) s i (now paths) ⌝ }
     ensures { λ r. ⌜ r ≡ edgeRight check.Steps (embeddingBy (now (em .entry)) (tableBy (now (source .entry))) (now (map .entry))) (tableBy (now (target .entry))) (kindOf (tableBy (now (source .entry))) s) (mapOf (now (source .entry)) (now (em .entry)) (now (map .entry)) s) i ⌝ }
 {
     let path = paths[i];
@@ -132,7 +132,7 @@ fn edge_right(
     i: usize,
     paths: &[[u8; MAX_STEPS]; MAX_MEMBERS],
 ) -> bool
-    requires { ⌜ ReadyAt (now source) (now target) (now em) (now map) s i (now paths) ⌝ }
+    requires { ⌜ CheckableAt (now source) (now target) (now em) (now map) s i (now paths) ⌝ }
     ensures { λ r. ⌜ r ≡ edgeRight check (embeddingBy (now (em .entry)) (tableBy (now (source .entry))) (now (map .entry))) (tableBy (now (target .entry))) (kindOf (tableBy (now (source .entry))) s) (mapOf (now (source .entry)) (now (em .entry)) (now (map .entry)) s) i ⌝ }
 {
     match check {

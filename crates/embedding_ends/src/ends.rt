@@ -9,7 +9,7 @@ ghost use Rattle.loaded_embedding.specs.Loaded.{embeddingBy};
 ghost use Rattle.model.specs.Definitions.Table.{kindOf, edgesOf};
 ghost use Rattle.model.specs.Definitions.Embedding.{endOf};
 ghost use Rattle.embedding_clash.specs.Edges.{edgeOf};
-ghost use Rattle.embedding_clash.specs.Ready.{mapOf, Ready};
+ghost use Rattle.embedding_clash.specs.Ready.{mapOf, Checkable};
 ghost use Rattle.embedding_ends.specs.Tests.{endRight};
 
 // Whether the path of edge `i` of source type `s` may end where it does, at type `end`: characters at a text type, a member
@@ -23,7 +23,7 @@ pub fn right_end(
     i: usize,
     end: usize,
 ) -> bool
-    requires { ⌜ Ready (now source) (now target) (now em) (now map) ⌝ }
+    requires { ⌜ Checkable (now source) (now target) (now em) (now map) ⌝ }
     requires { ⌜ s < typesIn (now source) ⌝ }
     requires { ⌜ i < edgesOf (kindOf (tableBy (now source)) s) ⌝ }
     requires { ⌜ end ≡ endOf (tableBy (now target)) (mapOf (now source) (now em) (now map) s .target) (edgeOf (mapOf (now source) (now em) (now map) s) i .steps) ⌝ }

@@ -13,8 +13,8 @@ use Rattle.answers.specs.declared.Fault.{Fault}
 use Rattle.answers.specs.declared.Judged.{Judged}
 use Rattle.loaded_table.specs.Loaded.{tableBy, length-of}
 use Rattle.loaded_embedding.specs.Loaded.{embeddingBy}
-use Rattle.embedding_clash.specs.Ready.{Ready}
-use Rattle.embedding_load.specs.Loading.{LoadedAs}
+use Rattle.embedding_clash.specs.Ready.{Checkable}
+use Rattle.embedding_load.specs.Loading.{EmbeddingLoaded}
 use Rattle.model.specs.Definitions.Basics as model
 use Rattle.model.specs.Definitions.Basics.{passes, fails}
 use Rattle.model.specs.Definitions.Table.{Table}
@@ -88,7 +88,7 @@ module _ (S T : Table) (bs map : List ℕ) where
         operand-refused at e = refused (Fault.BadOperand at) (rw (le-leb (length bs) 60000 short, f, l, e) refl)
 
         -- after the first four checks those of the paths decide
-        pub paths-decide : (r : Judged) → embeddingOperands T bs ≡ passes → LoadedAs bs S map → judged r ≡ pathChecks S T (embeddingBy bs S map) → EmbeddingJudged S T bs r map
+        pub paths-decide : (r : Judged) → embeddingOperands T bs ≡ passes → EmbeddingLoaded bs S map → judged r ≡ pathChecks S T (embeddingBy bs S map) → EmbeddingJudged S T bs r map
         paths-decide r o loaded e =
             record { judgement = e ∙ ap (pathChecks S T) (loaded .same-embedding) ∙ sym same; loaded = λ accepted. loaded }
           where
@@ -96,8 +96,8 @@ module _ (S T : Table) (bs map : List ℕ) where
             same = unfold judgedEmbedding pathChecks edgeChecks faultUnless faultAt fits in rw (le-leb (length bs) 60000 short, f, l, o) refl
 
 -- what the path checks ask, once the operands are right
-pub paths-ready : {source target em map : List ℕ} → Judgeable source target → embeddingOperands (tableBy target) em ≡ passes → LoadedAs em (tableBy source) map
-    → Ready source target em map
+pub paths-ready : {source target em map : List ℕ} → Judgeable source target → embeddingOperands (tableBy target) em ≡ passes → EmbeddingLoaded em (tableBy source) map
+    → Checkable source target em map
 paths-ready {source} {target} {em} {map} h o loaded =
     record {
       source-bounded = h .source-bounded;

@@ -6,7 +6,7 @@ use Rattle.answers.specs.Answers.{judged}
 use Rattle.answers.specs.declared.Judged as answers
 use Rattle.loaded_table.specs.Loaded as loaded_table
 use Rattle.loaded_table.specs.Loaded.{tableBy}
-use Rattle.embedding_load.specs.Loading.{LoadedAs}
+use Rattle.embedding_load.specs.Loading.{EmbeddingLoaded}
 use Rattle.model.specs.Definitions.Table.{Table}
 use Rattle.model.specs.Definitions.Embedding.{Embedding}
 use Rattle.model.specs.Definitions.EmbeddingChecks.{rootToRoot, wrongEnd, wrongSteps, pathClash}
@@ -38,4 +38,4 @@ pub record Judgeable (source target : List ℕ) : Type 0 where
 -- the model's judgement, and where it accepts, the embedding loaded into the array
 pub record EmbeddingJudged (S T : Table) (bs : List ℕ) (r : answers.Judged) (map : List ℕ) : Type 0 where
   pub judgement : judged r ≡ judgedEmbedding S T bs
-  pub loaded : judgedEmbedding S T bs ≡ sound → LoadedAs bs S map
+  pub loaded : judgedEmbedding S T bs ≡ sound → EmbeddingLoaded bs S map

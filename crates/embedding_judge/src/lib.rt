@@ -18,12 +18,12 @@ ghost use lib.ListN.{length};
 ghost use Rattle.answers.specs.Answers.{judged};
 ghost use Rattle.loaded_table.specs.Loaded.{tableBy};
 ghost use Rattle.loaded_embedding.specs.Loaded.{embeddingBy, Cleared};
-ghost use Rattle.embedding_clash.specs.Ready.{Ready};
+ghost use Rattle.embedding_clash.specs.Ready.{Checkable};
 ghost use Rattle.embedding_judge.specs.Judging.{edgeChecks, pathChecks, Judgeable, EmbeddingJudged};
 
 // Checks 8 to 10 of a loaded embedding, one after the other.
 fn judge_each(source: &[u16; TABLE], target: &[u16; TABLE], em: &[u8], map: &[u16; MAP]) -> Judged
-    requires { ⌜ Ready (now source) (now target) (now em) (now map) ⌝ }
+    requires { ⌜ Checkable (now source) (now target) (now em) (now map) ⌝ }
     ensures { λ r. ⌜ judged r ≡ edgeChecks (tableBy (now (source .entry))) (tableBy (now (target .entry))) (embeddingBy (now (em .entry)) (tableBy (now (source .entry))) (now (map .entry))) ⌝ }
 {
     let ends = first_fault(Check::Ends, source, target, em, map);
@@ -44,7 +44,7 @@ fn judge_each(source: &[u16; TABLE], target: &[u16; TABLE], em: &[u8], map: &[u1
 // Checks 7 to 10 of a loaded embedding. Where nothing is wrong one pass over the edges shows it; else the checks are made one
 // after the other.
 fn judge_paths(source: &[u16; TABLE], target: &[u16; TABLE], em: &[u8], map: &[u16; MAP]) -> Judged
-    requires { ⌜ Ready (now source) (now target) (now em) (now map) ⌝ }
+    requires { ⌜ Checkable (now source) (now target) (now em) (now map) ⌝ }
     ensures { λ r. ⌜ judged r ≡ pathChecks (tableBy (now (source .entry))) (tableBy (now (target .entry))) (embeddingBy (now (em .entry)) (tableBy (now (source .entry))) (now (map .entry))) ⌝ }
 {
     if !root_to_root(map) {

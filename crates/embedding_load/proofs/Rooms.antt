@@ -10,27 +10,27 @@ use Rattle.loaded_table.specs.Loaded.{section-kept, section-set}
 use Rattle.loaded_embedding.specs.Loaded.{lengthsOf}
 use Rattle.embedding_checks.specs.declared.command.EmbeddingCommand.{EmbeddingCommand}
 use Rattle.embedding_checks.specs.Commands.{command}
-use Rattle.embedding_load.specs.Loading.{Arrays, loadedIn, mapped, begun, stepped, puts, Begins, Steps, Room}
+use Rattle.embedding_load.specs.Loading.{MapArrays, loadedIn, mapped, begun, stepped, puts, PathMayBegin, StepMayFollow, MapRoom}
 
 -- there is room for a command, known as another term
-pub told-room : (a : Arrays) (at : ℕ) {c d : EmbeddingCommand} → c ≡ d → Room a at (command c) → Room a at (command d)
-told-room a at e h = subst (λ x. Room a at (command x)) e h
+pub told-room : (a : MapArrays) (at : ℕ) {c d : EmbeddingCommand} → c ≡ d → MapRoom a at (command c) → MapRoom a at (command d)
+told-room a at e h = subst (λ x. MapRoom a at (command x)) e h
 
 -- what a command does, known as another term
-pub told-puts : (a : Arrays) (at : ℕ) {c d : EmbeddingCommand} {r : Arrays} → c ≡ d → r ≡ puts a at (command d) → r ≡ puts a at (command c)
+pub told-puts : (a : MapArrays) (at : ℕ) {c d : EmbeddingCommand} {r : MapArrays} → c ≡ d → r ≡ puts a at (command d) → r ≡ puts a at (command c)
 told-puts a at e h = h ∙ ap (λ x. puts a at (command x)) (sym e)
 
 -- the place of a path that begins, and of one that goes on
-pub path-room : {a : Arrays} {at : ℕ} → Begins a at → (a .maps - 1) * 16 + a .edges < 1024
+pub path-room : {a : MapArrays} {at : ℕ} → PathMayBegin a at → (a .maps - 1) * 16 + a .edges < 1024
 path-room h = let some = h .some in let few = h .few in let room = h .room in omega arith
 
-pub step-room : {a : Arrays} → Steps a → (a .maps - 1) * 16 + (a .edges - 1) < 1024
+pub step-room : {a : MapArrays} → StepMayFollow a → (a .maps - 1) * 16 + (a .edges - 1) < 1024
 step-room h = let some = h .some in let few = h .few in let some-edge = h .some-edge in let few-edges = h .few-edges in omega arith
 
 -- arrays of equal sections
 same-arrays : (maps edges : ℕ) {targets targets′ starts starts′ lengths lengths′ : List ℕ}
     → targets ≡ targets′ → starts ≡ starts′ → lengths ≡ lengths′
-    → _≡_ {A = Arrays}
+    → _≡_ {A = MapArrays}
     (record { maps = maps; edges = edges; targets = targets; starts = starts; lengths = lengths })
     (record { maps = maps; edges = edges; targets = targets′; starts = starts′; lengths = lengths′ })
 same-arrays maps edges p q r = rw (p, q, r) refl

@@ -10,10 +10,10 @@ use lib.Dec.{eqb, ltb}
 use borrow.Author.Tests.{eqb-true, eqb-false, ltb-true, ltb-false}
 use Rattle.loaded_table.specs.Loaded.{section, in-section, section-long}
 use Rattle.loaded_embedding.specs.Loaded.{Cleared}
-use Rattle.embedding_load.specs.Loading.{Arrays, loadedIn, mapped}
+use Rattle.embedding_load.specs.Loading.{MapArrays, loadedIn, mapped}
 
 -- the arrays have their lengths, and every path is within the document and has at most 12 steps
-pub record Shaped (em : List ℕ) (a : Arrays) : Type 0 where
+pub record MapShaped (em : List ℕ) (a : MapArrays) : Type 0 where
   pub targets-long : length (a .targets) ≡ 64
   pub starts-long : length (a .starts) ≡ 1024
   pub lengths-long : length (a .lengths) ≡ 1024
@@ -28,7 +28,7 @@ section-zeros map h from many fits i = go (ltb i many) refl
     go true e = in-section from many map i (ltb-true i many e) ∙ h .zeros (from + i)
     go false e = List·getD-eq-default (section from many map) 0 (rw (section-long from many map (rw (h .size) fits)) (ltb-false i many e))
 
-pub shaped-cleared : (em map : List ℕ) → 1 ≤ length em → Cleared map → Shaped em (loadedIn 0 0 map)
+pub shaped-cleared : (em map : List ℕ) → 1 ≤ length em → Cleared map → MapShaped em (loadedIn 0 0 map)
 shaped-cleared em map some h =
     let size = h .size in
     record {
@@ -40,7 +40,7 @@ shaped-cleared em map some h =
     }
 
 -- each command keeps it
-pub shaped-mapped : (em : List ℕ) (a : Arrays) (t : ℕ) → Shaped em a → Shaped em (mapped a t)
+pub shaped-mapped : (em : List ℕ) (a : MapArrays) (t : ℕ) → MapShaped em a → MapShaped em (mapped a t)
 unfolding mapped
 shaped-mapped em a t h =
     record {
@@ -52,7 +52,7 @@ shaped-mapped em a t h =
     }
 
 -- The arrays with a path written at a place: its start and its number of steps.
-module _ (em : List ℕ) (a : Arrays) (h : Shaped em a) (place start count : ℕ) (room : place < 1024) (few : count ≤ 12) (inside : start + 1 + 2 * count ≤ length em) where
+module _ (em : List ℕ) (a : MapArrays) (h : MapShaped em a) (place start count : ℕ) (room : place < 1024) (few : count ≤ 12) (inside : start + 1 + 2 * count ≤ length em) where
   short-written : (i : ℕ) → getD (set (a .lengths) place count) i 0 ≤ 12
   short-written i = go (eqb i place) refl
     where
@@ -69,7 +69,7 @@ module _ (em : List ℕ) (a : Arrays) (h : Shaped em a) (place start count : ℕ
           rw (eqb-true i place e, getD-set-same (a .starts) place start 0 (rw (h .starts-long) room), getD-set-same (a .lengths) place count 0 (rw (h .lengths-long) room)) inside
 
   pub shaped-written : (maps edges : ℕ)
-      → Shaped em (record { maps = maps; edges = edges; targets = a .targets; starts = set (a .starts) place start; lengths = set (a .lengths) place count })
+      → MapShaped em (record { maps = maps; edges = edges; targets = a .targets; starts = set (a .starts) place start; lengths = set (a .lengths) place count })
   shaped-written maps edges =
       record {
         targets-long = h .targets-long;

@@ -17,13 +17,13 @@ use Rattle.model.specs.Theorems.Runs.{passes-fails}
 use Rattle.model.specs.Theorems.Reading.{rawAt, rawWith, left-ends, no-embedding-commands}
 
 -- a source table and a document whose numbers fit the arrays
-pub record Source (em : List ℕ) (S : Table) : Type 0 where
+pub record SourceTable (em : List ℕ) (S : Table) : Type 0 where
   pub few-types : length S ≤ 64
   pub few-edges : (i : ℕ) → edgesOf (kindOf S i) ≤ 16
   pub fits : length em ≤ 60000
 
 -- a loaded table and a document that is not too long are such
-pub source-in : (rows em : List ℕ) → Bounded rows → length em ≤ 60000 → Source em (tableBy rows)
+pub source-in : (rows em : List ℕ) → Bounded rows → length em ≤ 60000 → SourceTable em (tableBy rows)
 source-in rows em bounded fits = record { few-types = rw (length-of rows) (bounded .few-types); few-edges = few-edges rows bounded; fits = fits }
 
 -- a document of the right form has a byte

@@ -24,10 +24,10 @@ use Rattle.model.specs.Theorems.JudgedTables.{goes-if, pick-passes}
 use Rattle.model.specs.Theorems.Runs.{passes-fails, goes-stops}
 use Rattle.model.specs.Theorems.Tools.{true-false}
 use Rattle.model.specs.Theorems.Reading.{rawAt, ReadsAt, left-stops, left-goes, left-ends, embedding-reads, no-embedding-commands}
-use Rattle.embedding_load.specs.Loading.{Arrays, loadedIn, mapped, begun, stepped, puts, Maps, Begins, Steps, Room, LoadedAs}
+use Rattle.embedding_load.specs.Loading.{MapArrays, loadedIn, mapped, begun, stepped, puts, TypeMayFollow, PathMayBegin, StepMayFollow, MapRoom, EmbeddingLoaded}
 use Rattle.embedding_load.proofs.Continuation.{continued, edgesDue, continued-mapped, continued-begun, continued-stepped, continued-full}
-use Rattle.embedding_load.proofs.Shapes.{Shaped, shaped-cleared, shaped-mapped, shaped-written}
-use Rattle.embedding_load.proofs.Sources.{Source, some-bytes, next-type, none-next, operand-behind}
+use Rattle.embedding_load.proofs.Shapes.{MapShaped, shaped-cleared, shaped-mapped, shaped-written}
+use Rattle.embedding_load.proofs.Sources.{SourceTable, some-bytes, next-type, none-next, operand-behind}
 
 -- ---- the two machines
 
@@ -53,7 +53,7 @@ module _
 -- ---- what is loaded at a place
 
 -- the last path has so many steps, which end at an offset
-record OnPath (a : Arrays) (steps at : ℕ) : Type 0 where
+record OnPath (a : MapArrays) (steps at : ℕ) : Type 0 where
   last : ℕ
   edge : ℕ
   is-last : a .maps ≡ suc last
@@ -62,42 +62,42 @@ record OnPath (a : Arrays) (steps at : ℕ) : Type 0 where
   ends-here : at ≡ getD (a .starts) (last * 16 + edge) 0 + 1 + 2 * steps
 
 -- what a state of the form's machine says: the types to come, the paths due of the last type, and the path that a step goes on
-record Due (S : Table) (a : Arrays) (k : ℕ) (ns : List ℕ) (on : Bool) (steps at : ℕ) : Type 0 where
+record Due (S : Table) (a : MapArrays) (k : ℕ) (ns : List ℕ) (on : Bool) (steps at : ℕ) : Type 0 where
   to-come : ns ≡ drop (a .maps) (each edgesOf S)
   counted : a .edges + k ≡ edgesDue S (a .maps)
   on-path : on ≡ true → OnPath a steps at
 
 -- all types are mapped, and the last has all its paths
-record Done (S : Table) (a : Arrays) : Type 0 where
+record Done (S : Table) (a : MapArrays) : Type 0 where
   all-maps : a .maps ≡ length S
   all-edges : a .edges ≡ edgesDue S (a .maps)
 
-abbrev InState : Table → EmbeddingState → Arrays → ℕ → ℕ → Type 0
+abbrev InState : Table → EmbeddingState → MapArrays → ℕ → ℕ → Type 0
 InState S (due k ns on) a steps at = Due S a k ns on steps at
 InState S embeddingEnded a steps at = Done S a
 
-abbrev continuedBy : List ℕ → Table → Arrays → EmbeddingTail → Embedding
+abbrev continuedBy : List ℕ → Table → MapArrays → EmbeddingTail → Embedding
 continuedBy em S a r = continued em S (a .maps) (a .edges) (a .targets) (a .starts) (a .lengths) r
 
 -- at an offset, in these states of the machines, the arrays, continued by what r says, are the embedding E
-record Loaded (em : List ℕ) (S : Table) (s : EmbeddingState) (steps : ℕ) (a : Arrays) (at : ℕ) (r : EmbeddingTail) (E : Embedding) : Type 0 where
-  shaped : Shaped em a
+record Loaded (em : List ℕ) (S : Table) (s : EmbeddingState) (steps : ℕ) (a : MapArrays) (at : ℕ) (r : EmbeddingTail) (E : Embedding) : Type 0 where
+  shaped : MapShaped em a
   few-maps : a .maps ≤ length S
   in-state : InState S s a steps at
   whole : continuedBy em S a r ≡ E
 
 -- the states, known as other terms
-loaded-at : {em : List ℕ} {S : Table} {s then : EmbeddingState} {n later : ℕ} {a : Arrays} {at : ℕ} {r : EmbeddingTail} {E : Embedding}
+loaded-at : {em : List ℕ} {S : Table} {s then : EmbeddingState} {n later : ℕ} {a : MapArrays} {at : ℕ} {r : EmbeddingTail} {E : Embedding}
     → s ≡ then → n ≡ later → Loaded em S s n a at r E → Loaded em S then later a at r E
 loaded-at {em} {S} {s} {then} {n} {later} {a} {at} {r} {E} p q h = subst (λ k. Loaded em S then k a at r E) q (subst (λ x. Loaded em S x n a at r E) p h)
 
 -- ---- one command
 
-module _ {em : List ℕ} {S : Table} (source : Source em S) where
+module _ {em : List ℕ} {S : Table} (source : SourceTable em S) where
   -- A type is mapped, where one is to come and no path is due.
-  loaded-mapped : {a : Arrays} {at : ℕ} {r : EmbeddingTail} {E : Embedding} (m : ℕ) (ns : List ℕ) (on : Bool) (steps t : ℕ)
+  loaded-mapped : {a : MapArrays} {at : ℕ} {r : EmbeddingTail} {E : Embedding} (m : ℕ) (ns : List ℕ) (on : Bool) (steps t : ℕ)
       → Loaded em S (due zero (m ∷ ns) on) steps a at (record { steps = []; edges = []; maps = record { target = t; edges = r .edges } ∷ r .maps }) E
-      → Maps a × Loaded em S (due m ns false) 0 (mapped a t) (at + 2) r E
+      → TypeMayFollow a × Loaded em S (due m ns false) 0 (mapped a t) (at + 2) r E
   unfolding mapped edgesDue
   loaded-mapped {a} {at} {r} {E} m ns on steps t h =
       let next = next-type S (a .maps) m ns (h .in-state .to-come) in
@@ -126,7 +126,7 @@ module _ {em : List ℕ} {S : Table} (source : Source em S) where
   some-type (suc n) e k h = let few = source .few-edges n in (n, refl, omega arith)
 
   -- the arrays after a path begins of type l, the last
-  begun-is : (a : Arrays) (at l : ℕ) → a .maps ≡ suc l
+  begun-is : (a : MapArrays) (at l : ℕ) → a .maps ≡ suc l
       → begun a at
       ≡ record {
         maps = suc l;
@@ -139,9 +139,9 @@ module _ {em : List ℕ} {S : Table} (source : Source em S) where
   begun-is a at l e = let before : suc l - 1 ≡ l = omega arith in rw (e, before, add-one (a .edges)) refl
 
   -- A path begins, where one is due.
-  loaded-begun : {a : Arrays} {at : ℕ} {r : EmbeddingTail} {E : Embedding} (k : ℕ) (ns : List ℕ) (on : Bool) (steps : ℕ) → at < length em
+  loaded-begun : {a : MapArrays} {at : ℕ} {r : EmbeddingTail} {E : Embedding} (k : ℕ) (ns : List ℕ) (on : Bool) (steps : ℕ) → at < length em
       → Loaded em S (due (suc k) ns on) steps a at (record { steps = []; edges = record { at = at; steps = r .steps } ∷ r .edges; maps = r .maps }) E
-      → Begins a at × Loaded em S (due k ns true) 0 (begun a at) (at + 1) r E
+      → PathMayBegin a at × Loaded em S (due k ns true) 0 (begun a at) (at + 1) r E
   loaded-begun {a} {at} {r} {E} k ns on steps inside h =
       let counted = h .in-state .counted in
       let type = some-type (a .maps) (a .edges) k counted in
@@ -184,7 +184,7 @@ module _ {em : List ℕ} {S : Table} (source : Source em S) where
       )
 
   -- the arrays after a step of path e of type l, the last
-  stepped-is : (a : Arrays) (l e : ℕ) → a .maps ≡ suc l → a .edges ≡ suc e
+  stepped-is : (a : MapArrays) (l e : ℕ) → a .maps ≡ suc l → a .edges ≡ suc e
       → stepped a
       ≡ record {
         maps = suc l;
@@ -203,10 +203,10 @@ module _ {em : List ℕ} {S : Table} (source : Source em S) where
   due-few (suc n) = source .few-edges n
 
   -- A step is taken on a path.
-  loaded-stepped : {a : Arrays} {at : ℕ} {r : EmbeddingTail} {E : Embedding} (k : ℕ) (ns : List ℕ) (steps p : ℕ)
+  loaded-stepped : {a : MapArrays} {at : ℕ} {r : EmbeddingTail} {E : Embedding} (k : ℕ) (ns : List ℕ) (steps p : ℕ)
       → at + 2 ≤ length em → getD em (suc at) 0 ≡ p → steps < 12
       → Loaded em S (due k ns true) steps a at (record { steps = p ∷ r .steps; edges = r .edges; maps = r .maps }) E
-      → Steps a × Loaded em S (due k ns true) (suc steps) (stepped a) (at + 2) r E
+      → StepMayFollow a × Loaded em S (due k ns true) (suc steps) (stepped a) (at + 2) r E
   loaded-stepped {a} {at} {r} {E} k ns steps p inside reads few-steps h =
       let on = h .in-state .on-path refl in
       let l = on .last in
@@ -252,7 +252,7 @@ module _ {em : List ℕ} {S : Table} (source : Source em S) where
       )
 
   -- Where all types are mapped and the last has all its paths, the end leaves all as it is.
-  loaded-ended : {a : Arrays} {at : ℕ} {r : EmbeddingTail} {E : Embedding} (on : Bool) (steps : ℕ)
+  loaded-ended : {a : MapArrays} {at : ℕ} {r : EmbeddingTail} {E : Embedding} (on : Bool) (steps : ℕ)
       → Loaded em S (due zero [] on) steps a at r E → Loaded em S embeddingEnded steps a (at + 1) r E
   loaded-ended {a} {at} {r} {E} on steps h =
       let past = none-next S (a .maps) (h .in-state .to-come) in
@@ -265,10 +265,10 @@ module _ {em : List ℕ} {S : Table} (source : Source em S) where
       }
 
   -- A command that both machines take has room in the arrays, and leaves the embedding that they stand for.
-  put-loaded : (c : EmbeddingCommand) (s : EmbeddingState) {then : EmbeddingState} {n later : ℕ} {a : Arrays} {at : ℕ} {r : EmbeddingTail} {E : Embedding}
+  put-loaded : (c : EmbeddingCommand) (s : EmbeddingState) {then : EmbeddingState} {n later : ℕ} {a : MapArrays} {at : ℕ} {r : EmbeddingTail} {E : Embedding}
       → at < length em → at + embeddingWidth c ≤ length em → c ≡ embeddingCommand (rawAt em at)
       → embeddingStep s c ≡ goes then → stepCount n c ≡ goes later → Loaded em S s n a at (withEmbeddingCommand at c r) E
-      → Room a at c × Loaded em S then later (puts a at c) (at + embeddingWidth c) r E
+      → MapRoom a at c × Loaded em S then later (puts a at c) (at + embeddingWidth c) r E
   unfolding embeddingStep stepCount withEmbeddingCommand puts embeddingWidth
   put-loaded c embeddingEnded inside ends reads e f h = goes-stops e (ended-stops c)
   put-loaded (mapsTo t) (due zero [] on) inside ends reads e f h = goes-stops e refl
@@ -303,16 +303,16 @@ module _ {em : List ℕ} {S : Table} (source : Source em S) where
 -- ---- the loop
 
 -- what holds at offset `at` of the document em with the arrays a loaded
-pub record Loading (em : List ℕ) (S : Table) (a : Arrays) (at : ℕ) : Type 0 where
+pub record EmbeddingLoading (em : List ℕ) (S : Table) (a : MapArrays) (at : ℕ) : Type 0 where
   pub within : at ≤ length em
-  source : Source em S
+  source : SourceTable em S
   form-state : EmbeddingState
   count-state : ℕ
   form-left : run embeddingWidth embeddingStep embeddingComplete form-state at (embeddingCommands (drop at em)) ≡ passes
   limits-left : run embeddingWidth stepCount (λ n. true) count-state at (embeddingCommands (drop at em)) ≡ passes
   loaded : Loaded em S form-state count-state a at (embeddingTail at (embeddingCommands (drop at em))) (embeddingOf em)
 
-pub loading-starts : {em : List ℕ} {S : Table} (map : List ℕ) → Cleared map → Source em S → embeddingForm S em ≡ passes → embeddingLimits em ≡ passes → Loading em S (loadedIn 0 0 map) 0
+pub loading-starts : {em : List ℕ} {S : Table} (map : List ℕ) → Cleared map → SourceTable em S → embeddingForm S em ≡ passes → embeddingLimits em ≡ passes → EmbeddingLoading em S (loadedIn 0 0 map) 0
 unfolding embeddingForm embeddingLimits embeddingOf continued edgesDue
 loading-starts {em} {S} map cleared source form limits =
     record {
@@ -332,18 +332,18 @@ loading-starts {em} {S} map cleared source form limits =
     }
 
 -- what a turn needs and gives
-pub record Turn (em : List ℕ) (S : Table) (a : Arrays) (at : ℕ) (c : EmbeddingCommand) : Type 0 where
-  pub room : Room a at c
+pub record EmbeddingTurn (em : List ℕ) (S : Table) (a : MapArrays) (at : ℕ) (c : EmbeddingCommand) : Type 0 where
+  pub room : MapRoom a at c
   pub moves : 0 < embeddingWidth c
-  pub next : Loading em S (puts a at c) (at + embeddingWidth c)
+  pub next : EmbeddingLoading em S (puts a at c) (at + embeddingWidth c)
 
 -- a command that the form's machine takes is not alien
 not-alien : (s then : EmbeddingState) (c : EmbeddingCommand) → embeddingStep s c ≡ goes then → c ≡ alienE → ⊥
 not-alien s then c e same = goes-stops (rw same at e) (form-stops s)
 
 -- One command is put: the loop's invariant holds behind it.
-turn-at : (em : List ℕ) (S : Table) (a : Arrays) (at : ℕ) (c : EmbeddingCommand) → at < length em → c ≡ embeddingCommand (rawAt em at)
-    → ReadsAt embeddingCommands embeddingWidth alienE em at c → Loading em S a at → Turn em S a at c
+turn-at : (em : List ℕ) (S : Table) (a : MapArrays) (at : ℕ) (c : EmbeddingCommand) → at < length em → c ≡ embeddingCommand (rawAt em at)
+    → ReadsAt embeddingCommands embeddingWidth alienE em at c → EmbeddingLoading em S a at → EmbeddingTurn em S a at c
 unfolding embeddingTail
 turn-at em S a at c more is reads h =
     let form = left-passes embeddingStep embeddingComplete form-stops em at c reads (h .form-state) (h .form-left) in
@@ -367,21 +367,21 @@ turn-at em S a at c more is reads h =
           };
     }
 
-pub turn : {em : List ℕ} {S : Table} {a : Arrays} {at : ℕ} {c : EmbeddingCommand} → at < length em → c ≡ embeddingCommand (rawAt em at) → Loading em S a at → Turn em S a at c
+pub turn : {em : List ℕ} {S : Table} {a : MapArrays} {at : ℕ} {c : EmbeddingCommand} → at < length em → c ≡ embeddingCommand (rawAt em at) → EmbeddingLoading em S a at → EmbeddingTurn em S a at c
 turn {em} {S} {a} {at} {c} more e h = turn-at em S a at c more e (subst (ReadsAt embeddingCommands embeddingWidth alienE em at) (sym e) (embedding-reads em at more)) h
 
 -- the invariant behind a command, at the values that the code has
-pub turned : {em : List ℕ} {S : Table} {a : Arrays} {at : ℕ} {c : EmbeddingCommand} {r : Arrays} {w : ℕ} → Turn em S a at c → r ≡ puts a at c → w ≡ embeddingWidth c → Loading em S r (at + w)
+pub turned : {em : List ℕ} {S : Table} {a : MapArrays} {at : ℕ} {c : EmbeddingCommand} {r : MapArrays} {w : ℕ} → EmbeddingTurn em S a at c → r ≡ puts a at c → w ≡ embeddingWidth c → EmbeddingLoading em S r (at + w)
 turned h p q = rw (p, q) (h .next)
 
 -- in the last state all types are mapped
-done-there : (S : Table) (s : EmbeddingState) (a : Arrays) (steps at : ℕ) → embeddingComplete s ≡ true → InState S s a steps at → Done S a
+done-there : (S : Table) (s : EmbeddingState) (a : MapArrays) (steps at : ℕ) → embeddingComplete s ≡ true → InState S s a steps at → Done S a
 unfolding embeddingComplete
 done-there S (due k ns on) a steps at e h = true-false e refl
 done-there S embeddingEnded a steps at e h = h
 
 -- behind the last command the array stands for the whole embedding
-pub loading-ends : {em : List ℕ} {S : Table} (maps edges : ℕ) (map : List ℕ) {at : ℕ} → length em ≤ at → length map ≡ 2112 → Loading em S (loadedIn maps edges map) at → LoadedAs em S map
+pub loading-ends : {em : List ℕ} {S : Table} (maps edges : ℕ) (map : List ℕ) {at : ℕ} → length em ≤ at → length map ≡ 2112 → EmbeddingLoading em S (loadedIn maps edges map) at → EmbeddingLoaded em S map
 unfolding embeddingIn embeddingTail
 loading-ends {em} {S} maps edges map {at} last size h =
     let a = loadedIn maps edges map in

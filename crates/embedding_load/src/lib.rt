@@ -19,7 +19,8 @@ ghost use Rattle.loaded_embedding.specs.Loaded.{Cleared};
 ghost use Rattle.embedding_checks.specs.Commands.{command};
 ghost use Rattle.model.specs.Definitions.Basics.{passes};
 ghost use Rattle.model.specs.Definitions.EmbeddingChecks.{embeddingForm, embeddingLimits};
-ghost use Rattle.embedding_load.specs.Loading.{loadedAt, Room, Put, LoadedAs};
+ghost use Rattle.embedding_load.specs.Loading.{loadedAt, MapRoom, MapPut, EmbeddingLoaded};
+ghost use Rattle.model.specs.Definitions.Refusals.{maxLength};
 
 // How many types are loaded so far, and how many paths of the last of them.
 pub struct Place {
@@ -29,8 +30,8 @@ pub struct Place {
 
 // What the command at an offset does to the array and the place reached.
 fn put(map: &mut [u16; MAP], p: Place, at: usize, c: EmbeddingCommand) -> Place
-    requires { ⌜ Room (loadedAt p (now map)) at (command c) ⌝ }
-    ensures { λ r. ⌜ Put p (now (map .entry)) at (command c) r (now (map .exit)) ⌝ }
+    requires { ⌜ MapRoom (loadedAt p (now map)) at (command c) ⌝ }
+    ensures { λ r. ⌜ MapPut p (now (map .entry)) at (command c) r (now (map .exit)) ⌝ }
 {
     let types = p.types;
     let edges = p.edges;
@@ -70,9 +71,9 @@ pub fn load(source: &[u16; TABLE], em: &[u8], map: &mut [u16; MAP])
     requires { ⌜ Bounded (now source) ⌝ }
     requires { ⌜ embeddingForm (tableBy (now source)) (now em) ≡ passes ⌝ }
     requires { ⌜ embeddingLimits (now em) ≡ passes ⌝ }
-    requires { ⌜ length (now em) ≤ 60000 ⌝ }
+    requires { ⌜ length (now em) ≤ maxLength ⌝ }
     requires { ⌜ Cleared (now map) ⌝ }
-    ensures { λ r. ⌜ LoadedAs (now (em .entry)) (tableBy (now (source .entry))) (now (map .exit)) ⌝ }
+    ensures { λ r. ⌜ EmbeddingLoaded (now (em .entry)) (tableBy (now (source .entry))) (now (map .exit)) ⌝ }
 {
     let mut at: usize = 0;
     let mut place = Place { types: 0, edges: 0 };

@@ -6,6 +6,7 @@ ghost use Rattle.loaded_table.specs.Loaded.{tableBy, typesIn};
 ghost use Rattle.growing.specs.Growing.{Puts};
 ghost use Rattle.rows.specs.Rows.{toOf, HasRow, HasRows, IsWord};
 ghost use Rattle.filler_rows.specs.Storing.{Sound, PlacedRow, FillersStored};
+ghost use Rattle.model.specs.Definitions.TableChecks.{maxMembers};
 use growing::put;
 use loaded_table::CHOICE;
 use loaded_table::SEQUENCE;
@@ -16,8 +17,8 @@ use table_heights::least_member;
 // Writes the row of what filler of type t holds: a filler element for each member of a sequence, one for the least of a choice.
 fn hollow(target: &[u16; TABLE], t: usize, pool: &mut [u8], at: usize) -> usize
     requires sound { ⌜ Sound (now target) ⌝ }
-    requires { ⌜ (t < typesIn (now target)) × (at + 16 ≤ length (now pool)) ⌝ }
-    ensures { λ r. ⌜ Puts (now (pool .entry)) (now (pool .exit)) at (fillerRow (tableBy (now (target .entry))) t) r × (r ≤ at + 16) ⌝ }
+    requires { ⌜ (t < typesIn (now target)) × (at + maxMembers ≤ length (now pool)) ⌝ }
+    ensures { λ r. ⌜ Puts (now (pool .entry)) (now (pool .exit)) at (fillerRow (tableBy (now (target .entry))) t) r × (r ≤ at + maxMembers) ⌝ }
 {
     let kind = loaded_table::kind(target, t);
     if kind == CHOICE {
@@ -49,7 +50,7 @@ pub fn place(places: &mut [u32], row: usize, from: usize, to: usize, depth: usiz
 // Writes and places the rows of filler of all types, from the pool's start, and returns the place after them.
 pub fn filler_rows(target: &[u16; TABLE], pool: &mut [u8], places: &mut [u32]) -> usize
     requires sound { ⌜ Sound (now target) ⌝ }
-    requires room { ⌜ (16 * typesIn (now target) ≤ length (now pool)) × IsWord (length (now pool)) × HasRows (now places) 0 ⌝ }
+    requires room { ⌜ (maxMembers * typesIn (now target) ≤ length (now pool)) × IsWord (length (now pool)) × HasRows (now places) 0 ⌝ }
     requires within { ⌜ ((row : ℕ) → toOf (now places) row ≤ length (now pool)) ⌝ }
     ensures { λ r. ⌜ FillersStored (now (target .entry)) (now (pool .entry)) (now (places .entry)) (typesIn (now (target .entry))) (now (pool .exit)) (now (places .exit)) r ⌝ }
 {

@@ -5,14 +5,14 @@ use Prim.Native.Nat.{ℕ, zero, suc, _+_, _-_, _≤_, _<_}
 use native.Mathlib.Omega.{arith}
 use lib.ListN.{length}
 use Rattle.model.specs.Definitions.Content.{Content, end, char, elem, bytes}
-use Rattle.scanning.specs.Scanning.{At}
+use Rattle.scanning.specs.Scanning.{ContentAt}
 use Rattle.scanning.specs.Laws.{content-within}
 use Rattle.filling.specs.Contents.{afterFirst, ChildThere, ElementAt, element-at, element-next}
 
 -- element number i is element number `left` of the content at offset o
 pub record ToPass {tr : List ℕ} {i : ℕ} (c : ChildThere tr i) (o left : ℕ) : Type 0 where
   pub content : Content
-  pub there : At tr o content
+  pub there : ContentAt tr o content
   pub is : afterFirst left content ≡ elem (c .type) (c .inside) (c .rest)
 
 pub ahead-starts : {tr : List ℕ} {i : ℕ} (c : ChildThere tr i) → ToPass c 0 i
@@ -23,14 +23,14 @@ pub record OneToPass {tr : List ℕ} {i : ℕ} (c : ChildThere tr i) (o left : �
   pub type : ℕ
   pub inside : Content
   pub next : Content
-  pub there : At tr o (elem type inside next)
+  pub there : ContentAt tr o (elem type inside next)
   pub is : afterFirst (left - 1) next ≡ elem (c .type) (c .inside) (c .rest)
 
 pub ahead-next : {tr : List ℕ} {i : ℕ} {c : ChildThere tr i} {o left : ℕ} → ToPass c o left → 0 < left → OneToPass c o left
 unfolding afterFirst
 ahead-next {tr} {i} {c} {o} {left} a more = go left (a .content) (a .there) (a .is) more
   where
-    go : (n : ℕ) (k : Content) → At tr o k → afterFirst n k ≡ elem (c .type) (c .inside) (c .rest) → 0 < n → OneToPass c o n
+    go : (n : ℕ) (k : Content) → ContentAt tr o k → afterFirst n k ≡ elem (c .type) (c .inside) (c .rest) → 0 < n → OneToPass c o n
     go zero k there e some = absurd (omega arith)
     go (suc n) end there e some = let z : _≡_ {A = ℕ} 0 1 = cc in absurd (omega arith)
     go (suc n) (char c r) there e some = let z : _≡_ {A = ℕ} 0 1 = cc in absurd (omega arith)
@@ -42,13 +42,13 @@ next-within n = content-within (element-at (n .there) .within)
 
 -- behind it one less is to be passed
 pub ahead-further : {tr : List ℕ} {i : ℕ} {c : ChildThere tr i} {o left : ℕ} (n : OneToPass c o left) (close : ℕ) → close ≡ o + 2 + length (bytes (n .inside)) → ToPass c (close + 1) (left - 1)
-ahead-further {tr} n close e = record { content = n .next; there = subst (λ (x : ℕ). At tr (x + 1) (n .next)) (sym e) (element-next (n .there)); is = n .is }
+ahead-further {tr} n close e = record { content = n .next; there = subst (λ (x : ℕ). ContentAt tr (x + 1) (n .next)) (sym e) (element-next (n .there)); is = n .is }
 
 -- none is to be passed
 pub ahead-ends : {tr : List ℕ} {i : ℕ} {c : ChildThere tr i} {o left : ℕ} → ToPass c o left → left ≤ 0 → ElementAt tr o (c .type) (c .inside)
 ahead-ends {tr} {i} {c} {o} {left} a none =
     let last : left ≡ 0 = omega arith in
-    element-at (subst (At tr o) (sym none-passed ∙ subst (λ (n : ℕ). afterFirst n (a .content) ≡ elem (c .type) (c .inside) (c .rest)) last (a .is)) (a .there))
+    element-at (subst (ContentAt tr o) (sym none-passed ∙ subst (λ (n : ℕ). afterFirst n (a .content) ≡ elem (c .type) (c .inside) (c .rest)) last (a .is)) (a .there))
   where
     none-passed : afterFirst 0 (a .content) ≡ a .content
     none-passed = unfold afterFirst in refl

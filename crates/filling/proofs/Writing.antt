@@ -8,7 +8,7 @@ use lib.Seq.{sets}
 use Rattle.rows.specs.Rows.{fromOf}
 use Rattle.writing.specs.Writing.{Writes}
 use Rattle.writing.specs.Laws.{writes-left, writes-length, writes-then}
-use Rattle.filling.specs.Asked.{Fits, FillerAsked}
+use Rattle.filling.specs.Asked.{ImageFits, FillerAsked}
 use Rattle.filling.specs.FillerRows.{fillerLeft, filler-starts}
 use Rattle.filling.specs.Loops.{Advance, Roomy, FillerGoes, filler-last, RowGoes, SymbolDone, row-on}
 
@@ -48,10 +48,10 @@ module _ {old : List ℕ} {at : ℕ} {out : List ℕ} {next : ℕ} where
 -- ---- a filler element
 
 -- there is room for its first two bytes, and behind them for the others
-pub filler-opens : {pool places : List ℕ} {t : ℕ} (at long : ℕ) → Fits (FillerAsked pool places t) at long → at + 2 ≤ long
+pub filler-opens : {pool places : List ℕ} {t : ℕ} (at long : ℕ) → ImageFits (FillerAsked pool places t) at long → at + 2 ≤ long
 filler-opens at long f = omega (arith, f .room, ap length (filler-starts (f .asked)))
 
-pub filler-inside : {pool places : List ℕ} {t : ℕ} (old : List ℕ) (at : ℕ) (f : Fits (FillerAsked pool places t) at (length old)) {out : List ℕ} {next : ℕ}
+pub filler-inside : {pool places : List ℕ} {t : ℕ} (old : List ℕ) (at : ℕ) (f : ImageFits (FillerAsked pool places t) at (length old)) {out : List ℕ} {next : ℕ}
     → Writes old out at (0x30 ∷ t ∷ []) next → next + length (fillerLeft (f .asked) (fromOf places t)) ≤ length out
 filler-inside old at f w = omega (arith, f .room, ap length (filler-starts (f .asked)), w .after, writes-length w)
 

@@ -12,7 +12,7 @@ use Rattle.model.specs.Definitions.Templates.{fillerRow, fillerBytes, filledRow
 use Rattle.model.specs.Theorems.Facts.{SoundTable}
 use Rattle.loaded_table.specs.Loaded.{tableBy}
 use Rattle.rows.specs.Rows.{Rows, rowAt, toOf, sourceRow, itemRow}
-use Rattle.scanning.specs.Scanning.{At}
+use Rattle.scanning.specs.Scanning.{ContentAt}
 use Rattle.loaded_setting.specs.Ready.{settingIn, Ready}
 use Rattle.filling.specs.Contents.{NumberedChild}
 
@@ -50,14 +50,14 @@ pub record FillerAsked (pool places : List ℕ) (t : ℕ) (bs : List ℕ) : Type
 pub data PlainAsked (pool places tr : List ℕ) (x : ℕ) (bs : List ℕ) : Type 0 where
   an-opening : x < 64 → bs ≡ 0x30 ∷ x ∷ [] → PlainAsked pool places tr x bs
   a-filler : 64 ≤ x → x < 128 → FillerAsked pool places (x - 64) bs → PlainAsked pool places tr x bs
-  the-characters : {k : Content} → x ≡ 144 → At tr 0 k → bs ≡ bytes k → PlainAsked pool places tr x bs
+  the-characters : {k : Content} → x ≡ 144 → ContentAt tr 0 k → bs ≡ bytes k → PlainAsked pool places tr x bs
   a-closing : 145 < x → bs ≡ 0x32 ∷ [] → PlainAsked pool places tr x bs
 
 -- what the image of child i holds, of the content that begins the document tr
 pub record ChildAsked (source pool places tr : List ℕ) (i : ℕ) (bs : List ℕ) : Type 0 where
   pub prepared : Prepared source pool places
   pub around : Content
-  pub there : At tr 0 around
+  pub there : ContentAt tr 0 around
   pub type : ℕ
   pub inside : Content
   pub child : NumberedChild (tableBy source) around i type inside
@@ -80,7 +80,7 @@ itemBytes l k = overChildren (λ t inner. filledRow (preparedSetting (l .prepare
 pub record ItemsAsked (source pool places tr : List ℕ) (r : ℕ) (bs : List ℕ) : Type 0 where
   pub listed : ListOf source pool places r
   pub inside : Content
-  pub there : At tr 0 inside
+  pub there : ContentAt tr 0 inside
   pub holds : Holds (tableBy source) (list (listed .item)) inside
   pub is : bs ≡ itemBytes listed inside
 
@@ -94,7 +94,7 @@ pub record RowAsked (source pool places tr : List ℕ) (r : ℕ) (bs : List ℕ)
   pub prepared : Prepared source pool places
   pub type : ℕ
   pub inside : Content
-  pub there : At tr 0 inside
+  pub there : ContentAt tr 0 inside
   pub is-type : type < length (tableBy source)
   pub row-of : RowOf (tableBy source) type inside r
   pub is : bs ≡ filledRow (preparedSetting prepared .target) (heldBy (preparedSetting prepared) type inside) (rowAt pool places r)
@@ -116,5 +116,5 @@ pub record SomeAsked (Asked Room : List ℕ → Type 0) : Type 0 where
   pub room : Room bytes
 
 -- there is room for them from offset `at` on
-abbrev pub Fits : (List ℕ → Type 0) → ℕ → ℕ → Type 0
-Fits Asked at long = SomeAsked Asked (λ (bs : List ℕ). at + length bs ≤ long)
+abbrev pub ImageFits : (List ℕ → Type 0) → ℕ → ℕ → Type 0
+ImageFits Asked at long = SomeAsked Asked (λ (bs : List ℕ). at + length bs ≤ long)

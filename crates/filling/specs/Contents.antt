@@ -12,9 +12,9 @@ use Rattle.model.specs.Definitions.Content.{Content, end, char, elem, bytes}
 use Rattle.model.specs.Definitions.Conformance.{Holds, no-character, one-character, nothing, no-member, one-member, chosen, no-item, one-item}
 use Rattle.model.specs.Definitions.Templates.{firstIn, atChild}
 use Rattle.rows.specs.Rows.{sourceRow}
-use Rattle.scanning.specs.Scanning.{At}
+use Rattle.scanning.specs.Scanning.{ContentAt}
 use Rattle.scanning.specs.Spanning.{Spans, spans-part}
-use Rattle.scanning.specs.Laws.{element-first, Opens, opens, opens-next}
+use Rattle.scanning.specs.Laws.{element-first, OpensElement, opens, opens-next}
 
 -- what is left of content behind its first i elements
 unfoldable pub afterFirst : ℕ → Content → Content
@@ -26,40 +26,40 @@ afterFirst (suc i) (elem t l r) = afterFirst i r
 -- an element of type t that holds l opens at offset o
 pub record ElementAt (tr : List ℕ) (o t : ℕ) (l : Content) : Type 0 where
   pub named : getD tr (o + 1) 0 ≡ t
-  pub within : At tr (o + 2) l
+  pub within : ContentAt tr (o + 2) l
 
 -- content that begins with an element
-pub element-at : {tr : List ℕ} {o t : ℕ} {l r : Content} → At tr o (elem t l r) → ElementAt tr o t l
+pub element-at : {tr : List ℕ} {o t : ℕ} {l r : Content} → ContentAt tr o (elem t l r) → ElementAt tr o t l
 element-at {tr} {o} {t} {l} {r} a = go (opens (elem t l r) a (element-first a))
   where
-    go : Opens tr o (elem t l r) (a .rest) → ElementAt tr o t l
+    go : OpensElement tr o (elem t l r) (a .rest) → ElementAt tr o t l
     go w =
         let same : elem t l r ≡ elem (w .type) (w .inside) (w .next) = w .is in
         let inner : w .inside ≡ l = cc in
-        record { named = w .named ∙ cc; within = subst (At tr (o + 2)) inner (w .within) }
+        record { named = w .named ∙ cc; within = subst (ContentAt tr (o + 2)) inner (w .within) }
 
 -- what follows it
-pub element-next : {tr : List ℕ} {o t : ℕ} {l r : Content} → At tr o (elem t l r) → At tr (o + 2 + length (bytes l) + 1) r
+pub element-next : {tr : List ℕ} {o t : ℕ} {l r : Content} → ContentAt tr o (elem t l r) → ContentAt tr (o + 2 + length (bytes l) + 1) r
 element-next {tr} {o} {t} {l} {r} a = go (opens (elem t l r) a (element-first a))
   where
-    go : Opens tr o (elem t l r) (a .rest) → At tr (o + 2 + length (bytes l) + 1) r
+    go : OpensElement tr o (elem t l r) (a .rest) → ContentAt tr (o + 2 + length (bytes l) + 1) r
     go w =
         let same : elem t l r ≡ elem (w .type) (w .inside) (w .next) = w .is in
         let inner : w .inside ≡ l = cc in
         let after : w .next ≡ r = cc in
-        subst (λ (x : Content). At tr (o + 2 + length (bytes x) + 1) r) inner (subst (At tr (o + 2 + length (bytes (w .inside)) + 1)) after (opens-next w))
+        subst (λ (x : Content). ContentAt tr (o + 2 + length (bytes x) + 1) r) inner (subst (ContentAt tr (o + 2 + length (bytes (w .inside)) + 1)) after (opens-next w))
 
 -- the part of a slice from offset o on, as it is handed on
 abbrev pub partFrom : List ℕ → ℕ → List ℕ
 partFrom s o = take (length s - o) (drop o s)
 
 -- what stands in it
-pub at-part : {tr : List ℕ} (o : ℕ) {i : ℕ} {k : Content} → At tr (o + i) k → At (partFrom tr o) i k
+pub at-part : {tr : List ℕ} (o : ℕ) {i : ℕ} {k : Content} → ContentAt tr (o + i) k → ContentAt (partFrom tr o) i k
 at-part {tr} o {i} a = record { rest = a .rest; stands = ap (drop i) (part-to-end tr o) ∙ drop-drop i o tr ∙ a .stands }
 
 -- the part that begins with content
-pub inside-part : {tr : List ℕ} (o : ℕ) {k : Content} → At tr (o + 2) k → At (partFrom tr (o + 2)) 0 k
-inside-part {tr} o {k} a = at-part (o + 2) (subst (λ (n : ℕ). At tr n k) (sym (add-zero (o + 2))) a)
+pub inside-part : {tr : List ℕ} (o : ℕ) {k : Content} → ContentAt tr (o + 2) k → ContentAt (partFrom tr (o + 2)) 0 k
+inside-part {tr} o {k} a = at-part (o + 2) (subst (λ (n : ℕ). ContentAt tr n k) (sym (add-zero (o + 2))) a)
 
 -- the distances in it
 pub spans-from : {tr sp : List ℕ} (o : ℕ) → Spans tr sp → Spans (partFrom tr o) (partFrom sp o)
@@ -115,7 +115,7 @@ text-first no-character = refl
 text-first (one-character ok later) = text-first later
 
 -- content whose first byte is not 30 has no child
-pub first-none : {S : Table} {κ : Kind} {tr : List ℕ} {o : ℕ} {k : Content} → Holds S κ k → At tr o k → (getD tr o 0 ≡ 0x30 → ⊥) → firstIn k ≡ 0
+pub first-none : {S : Table} {κ : Kind} {tr : List ℕ} {o : ℕ} {k : Content} → Holds S κ k → ContentAt tr o k → (getD tr o 0 ≡ 0x30 → ⊥) → firstIn k ≡ 0
 unfolding firstIn
 first-none no-character a other = refl
 first-none (one-character ok later) a other = text-first later
@@ -127,7 +127,7 @@ first-none no-item a other = refl
 first-none (one-item h later) a other = absurd (other (element-first a))
 
 -- else its type is the next byte
-pub first-some : {tr : List ℕ} {o : ℕ} {k : Content} (a : At tr o k) → getD tr o 0 ≡ 0x30 → (o + 1 < length tr) × (getD tr (o + 1) 0 ≡ firstIn k)
+pub first-some : {tr : List ℕ} {o : ℕ} {k : Content} (a : ContentAt tr o k) → getD tr o 0 ≡ 0x30 → (o + 1 < length tr) × (getD tr (o + 1) 0 ≡ firstIn k)
 unfolding firstIn
 first-some {tr} {o} {k} a first = let w = opens k a first in (w .two, w .named ∙ sym (ap firstIn (w .is)))
 
@@ -136,7 +136,7 @@ first-some {tr} {o} {k} a first = let w = opens k a first in (w .two, w .named �
 -- element number i of the content at the start of a document
 pub record ChildThere (tr : List ℕ) (i : ℕ) : Type 0 where
   pub around : Content
-  pub there : At tr 0 around
+  pub there : ContentAt tr 0 around
   pub type : ℕ
   pub inside : Content
   pub rest : Content
@@ -149,7 +149,7 @@ FoundAt tr i o = (c : ChildThere tr i) → ElementAt tr o (c .type) (c .inside)
 -- conforming content at an offset
 pub record Conforms (tr : List ℕ) (o : ℕ) : Type 0 where
   pub inside : Content
-  pub there : At tr o inside
+  pub there : ContentAt tr o inside
   pub table : Table
   pub kind : Kind
   pub holds : Holds table kind inside

@@ -12,7 +12,7 @@ use Rattle.model.specs.Definitions.Image.{Setting}
 use Rattle.model.specs.Definitions.Templates.{Hole, characters, child, items, itemTemplate, filledRow, writes, firstIn, heldBy, atChild, overChildren}
 use Rattle.loaded_table.specs.Loaded.{tableBy}
 use Rattle.rows.specs.Rows.{rowAt, sourceRow}
-use Rattle.scanning.specs.Scanning.{At}
+use Rattle.scanning.specs.Scanning.{ContentAt}
 use Rattle.scanning.specs.Laws.{content-within}
 use Rattle.model.specs.Theorems.TemplateShapes.{HoleOfItem}
 use Rattle.model.specs.Theorems.Templates.{writes-again}
@@ -26,7 +26,7 @@ use Rattle.filling.specs.Turns.{filled-same}
 
 -- what is written for an element is what its row stands for
 pub element-row : {source pool places : List ℕ} (p : Prepared source pool places) {s : ℕ} {k : Content} → s < length (tableBy source) → Holds (tableBy source) (kindOf (tableBy source) s) k
-    → {part : List ℕ} → At part 0 k → {r : ℕ} → r ≡ sourceRow (tableBy source) s (firstIn k) → RowAsked source pool places part r (writes (preparedSetting p) s k)
+    → {part : List ℕ} → ContentAt part 0 k → {r : ℕ} → r ≡ sourceRow (tableBy source) s (firstIn k) → RowAsked source pool places part r (writes (preparedSetting p) s k)
 element-row {source} {pool} {places} p {s} {k} exists holds there is-row =
     record {
       prepared = p;
@@ -64,14 +64,14 @@ only-child X s t inner rest items ok = absurd ok
 
 -- the row of an item of the list, with which a part of the document begins
 pub item-asked : {source pool places : List ℕ} {r : ℕ} (l : ListOf source pool places r) {tr : List ℕ} {o : ℕ} {inner rest : Content}
-    → At tr o (elem (l .item) inner rest) → Holds (tableBy source) (kindOf (tableBy source) (l .item)) inner
+    → ContentAt tr o (elem (l .item) inner rest) → Holds (tableBy source) (kindOf (tableBy source) (l .item)) inner
     → RowAsked source pool places (partFrom tr o) r (oneItem l (l .item) inner)
 item-asked {source} {pool} {places} {r} l {tr} {o} {inner} {rest} there holds =
     record {
       prepared = l .prepared;
       type = l .type;
       inside = elem (l .item) inner rest;
-      there = at-part o (subst (λ (n : ℕ). At tr n (elem (l .item) inner rest)) (sym (add-zero o)) there);
+      there = at-part o (subst (λ (n : ℕ). ContentAt tr n (elem (l .item) inner rest)) (sym (add-zero o)) there);
       is-type = l .is-type;
       row-of = item-row (l .is-list) refl holds (l .is-row);
       is = filled-same (λ h. writes X₁ (l .item) inner) (heldBy X₁ (l .type) (elem (l .item) inner rest)) (only-child X₁ (l .type) (l .item) inner rest)

@@ -7,7 +7,7 @@ use native.Mathlib.Omega.{arith}
 use lib.ListN.{length, getD}
 use Rattle.model.specs.Definitions.Content.{Content, bytes}
 use Rattle.rows.specs.Rows.{fromOf, toOf}
-use Rattle.scanning.specs.Scanning.{At}
+use Rattle.scanning.specs.Scanning.{ContentAt}
 use Rattle.filling.specs.Contents.{partFrom}
 use Rattle.filling.specs.Asked.{SomeAsked, FillerAsked, PlainAsked, ChildAsked, ItemsAsked, itemBytes, RowAsked}
 use Rattle.filling.specs.FillerRows.{fillerLeft, filler-ends, filler-in, fillerSymbol, filler-inner, filler-more}
@@ -178,11 +178,11 @@ module _ {source pool places tr : List ℕ} {r o : ℕ} {Known : Knowing} (g : L
     one {bs} a = one-item-left (g .lists bs a .remains) is-item
 
     module _ {bs : List ℕ} (a : ItemsAsked source pool places tr r bs) where
-      pub item-inside : (k : Content) × At tr (o + 2) k
+      pub item-inside : (k : Content) × ContentAt tr (o + 2) k
       item-inside = (one a .inside, item-there (one a))
 
       -- it is passed over
-      pub item-passed : {close : ℕ} → ((k : Content) → At tr (o + 2) k → close ≡ o + 2 + length (bytes k)) → (o + 2 ≤ close) × (close + 1 < length tr)
+      pub item-passed : {close : ℕ} → ((k : Content) → ContentAt tr (o + 2) k → close ≡ o + 2 + length (bytes k)) → (o + 2 ≤ close) × (close + 1 < length tr)
       item-passed closes = (omega (arith, closes (one a .inside) (item-there (one a))), remains-within (remains-less (one a) closes))
 
     -- its row is asked for
@@ -200,5 +200,5 @@ module _ {source pool places tr : List ℕ} {r o : ℕ} {Known : Knowing} (g : L
       item-then bs a =
           turn .takes (g .lists bs a .known) (item-bytes (one a)) (itemBytes (a .listed) (one a .next)) (one a .more) (w (item-bytes (one a)) (item-row-asked (one a)))
 
-      pub item-on : {close : ℕ} → ((k : Content) → At tr (o + 2) k → close ≡ o + 2 + length (bytes k)) → ListGoes source pool places tr r (close + 1) After
+      pub item-on : {close : ℕ} → ((k : Content) → ContentAt tr (o + 2) k → close ≡ o + 2 + length (bytes k)) → ListGoes source pool places tr r (close + 1) After
       item-on closes = record { lists = λ bs a. record { remains = remains-less (one a) closes; known = item-then bs a } }

@@ -15,7 +15,7 @@ use Rattle.model.specs.Definitions.Conformance.{Holds, no-character, one-charac
 use Rattle.model.specs.Definitions.Templates.{firstIn}
 use Rattle.loaded_table.specs.Loaded as loaded_table
 use Rattle.loaded_table.specs.Loaded.{tableBy, kindsOf, countsOf, membersIn, kindFrom, kind-of, length-of}
-use Rattle.rows.specs.Rows.{indexIn, rowIndex, itemRow, Chosen, of-text, of-empty, of-sequence, of-choice, of-list}
+use Rattle.rows.specs.Rows.{indexIn, rowIndex, itemRow, FirstChild, of-text, of-empty, of-sequence, of-choice, of-list}
 
 -- a choice has at most 16 members
 few-members : (code count : ℕ) (row : List ℕ) (ms : List ℕ) → kindFrom code count row ≡ choice ms → count ≤ 16 → length ms ≤ 16
@@ -36,7 +36,7 @@ index-within t (m ∷ ms) (List·Memᴰ·tail later) = go (eqb t m) (index-withi
     go false less = unfold pick in omega arith
 
 -- the first child of conforming content is one that can be first
-pub first-chosen : {S : Table} {κ : Kind} {k : Content} → Holds S κ k → Chosen (firstIn k) κ
+pub first-chosen : {S : Table} {κ : Kind} {k : Content} → Holds S κ k → FirstChild (firstIn k) κ
 unfolding firstIn
 first-chosen no-character = of-text
 first-chosen (one-character ok later) = of-text
@@ -48,7 +48,7 @@ first-chosen no-item = of-list
 first-chosen (one-item h later) = of-list
 
 -- so a row of an element is never the last of its type
-pub index-small : (source : List ℕ) → loaded_table.Bounded source → (s t : ℕ) → s < length (tableBy source) → (κ : Kind) → kindOf (tableBy source) s ≡ κ → Chosen t κ → rowIndex κ t < 16
+pub index-small : (source : List ℕ) → loaded_table.Bounded source → (s t : ℕ) → s < length (tableBy source) → (κ : Kind) → kindOf (tableBy source) s ≡ κ → FirstChild t κ → rowIndex κ t < 16
 unfolding rowIndex
 index-small source bounded s t exists text e of-text = omega arith
 index-small source bounded s t exists empty e of-empty = omega arith

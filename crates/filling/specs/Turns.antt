@@ -12,7 +12,7 @@ use Rattle.model.specs.Definitions.Templates.{Hole, characters, child, items, S
 use Rattle.model.specs.Theorems.Facts.{Valid, All, all-none, all-more}
 use Rattle.loaded_table.specs.Loaded.{tableBy}
 use Rattle.rows.specs.Rows.{symbolOf, rowIn, rowAt, fromOf, toOf, rowIndex, sourceRow, itemRow}
-use Rattle.scanning.specs.Scanning.{At}
+use Rattle.scanning.specs.Scanning.{ContentAt}
 use Rattle.model.specs.Theorems.TemplateShapes.{HoleIn, HoleOfItem}
 use Rattle.model.specs.Theorems.Templates.{text-characters}
 use Rattle.filling.specs.Model.{Allowed, template-symbols, item-symbols}
@@ -226,7 +226,7 @@ module _ {pool places tr : List ℕ} {x : ℕ} {bs : List ℕ} where
   plain-filler (the-characters is a e) h g = absurd (omega arith)
   plain-filler (a-closing more e) h g = absurd (omega arith)
 
-  pub plain-characters : PlainAsked pool places tr x bs → x ≡ 144 → (k : Content) × At tr 0 k × (bs ≡ bytes k)
+  pub plain-characters : PlainAsked pool places tr x bs → x ≡ 144 → (k : Content) × ContentAt tr 0 k × (bs ≡ bytes k)
   plain-characters (an-opening less e) h = absurd (omega arith)
   plain-characters (a-filler low less f) h = absurd (omega arith)
   plain-characters (the-characters {k} is a e) h = (k, a, e)

@@ -9,7 +9,7 @@ use Rattle.model.specs.Definitions.Image.{image}
 use Rattle.model.specs.Definitions.Templates.{writes}
 use Rattle.model.specs.Theorems.Templates.{write-image}
 use Rattle.loaded_table.specs.Loaded.{tableBy}
-use Rattle.scanning.specs.Scanning.{At}
+use Rattle.scanning.specs.Scanning.{ContentAt}
 use Rattle.scanning.specs.Laws.{content-within, root-at}
 use Rattle.filling.specs.Contents.{partFrom, inside-part, FirstThere, RowIs}
 use Rattle.filling.specs.Asked.{preparedSetting, ImageAsked, RowAsked}
@@ -25,8 +25,8 @@ module _ {source pool places tr : List ℕ} {bs : List ℕ} (a : ImageAsked sour
   abbrev pub held : List ℕ
   held = writes (preparedSetting (a .prepared)) 0 (a .inside)
 
-  pub root-there : At tr 2 (a .inside)
-  root-there = subst (λ (l : List ℕ). At l 2 (a .inside)) (sym (a .form)) (root-at 0 (a .inside))
+  pub root-there : ContentAt tr 2 (a .inside)
+  root-there = subst (λ (l : List ℕ). ContentAt l 2 (a .inside)) (sym (a .form)) (root-at 0 (a .inside))
 
   pub root-type : getD tr (0 + 1) 0 ≡ 0
   root-type = rw (a .form) (unfold document bytes in refl)

@@ -8,7 +8,8 @@ ghost use Rattle.loaded_table.specs.Loaded.{Bounded, tableBy};
 ghost use Rattle.scanning.specs.Spanning.{Spans};
 ghost use Rattle.writing.specs.Writing.{Writes};
 ghost use Rattle.filling.specs.Contents.{ChildThere, FoundAt, Conforms, FirstThere, RowIs};
-ghost use Rattle.filling.specs.Asked.{Fits, FillerAsked, PlainAsked, ChildAsked, ItemsAsked, RowAsked, ImageAsked};
+ghost use Rattle.filling.specs.Asked.{ImageFits, FillerAsked, PlainAsked, ChildAsked, ItemsAsked, RowAsked, ImageAsked};
+ghost use Rattle.model.specs.Definitions.TableChecks.{maxMembers};
 use codes::MAX_MEMBERS;
 use codes::OPENS;
 use loaded_table::TABLE;
@@ -71,7 +72,7 @@ pub fn row_of<'a>(source: &'a [u16; TABLE], tr: &'a [u8], o: usize) -> usize
 
 // Writes a filler element of target type t: one for each symbol of its row.
 fn filler<'a>(pool: &'a [u8], places: &'a [u32], t: u8, out: &mut [u8], at: usize) -> usize
-    requires { ⌜ Fits (FillerAsked (now pool) (now places) t) at (length (now out)) ⌝ }
+    requires { ⌜ ImageFits (FillerAsked (now pool) (now places) t) at (length (now out)) ⌝ }
     ensures { λ r. ⌜ ((bs : List ℕ) → FillerAsked (now (pool .entry)) (now (places .entry)) t bs → Writes (now (out .entry)) (now (out .exit)) at bs r) ⌝ }
 {
     let row = wide(t);
@@ -88,7 +89,7 @@ fn filler<'a>(pool: &'a [u8], places: &'a [u32], t: u8, out: &mut [u8], at: usiz
 
 // Writes a filler element of target type t. Most rows of filler are empty, and these elements are written without recursion.
 fn filler_element<'a>(pool: &'a [u8], places: &'a [u32], t: u8, out: &mut [u8], at: usize) -> usize
-    requires { ⌜ Fits (FillerAsked (now pool) (now places) t) at (length (now out)) ⌝ }
+    requires { ⌜ ImageFits (FillerAsked (now pool) (now places) t) at (length (now out)) ⌝ }
     ensures { λ r. ⌜ ((bs : List ℕ) → FillerAsked (now (pool .entry)) (now (places .entry)) t bs → Writes (now (out .entry)) (now (out .exit)) at bs r) ⌝ }
 {
     let row = wide(t);
@@ -111,7 +112,7 @@ fn plain<'a>(
     at: usize,
 ) -> usize
     requires spans { ⌜ Spans (now tr) (now sp) ⌝ }
-    requires task { ⌜ Fits (PlainAsked (now pool) (now places) (now tr) x) at (length (now out)) ⌝ }
+    requires task { ⌜ ImageFits (PlainAsked (now pool) (now places) (now tr) x) at (length (now out)) ⌝ }
     ensures { λ r. ⌜ ((bs : List ℕ) → PlainAsked (now (pool .entry)) (now (places .entry)) (now (tr .entry)) x bs → Writes (now (out .entry)) (now (out .exit)) at bs r) ⌝ }
 {
     if x < FILLER {
@@ -129,7 +130,7 @@ fn plain<'a>(
 
 // The number of the child that symbol x stands for; 16 where it is another symbol.
 pub fn child_of(x: u8) -> usize
-    ensures { λ r. ⌜ (r < 16 → (r ≡ x - 128) × (128 ≤ x) × (x < 144)) × (16 ≤ r → 128 ≤ x → x < 144 → ⊥) ⌝ }
+    ensures { λ r. ⌜ (r < maxMembers → (r ≡ x - 128) × (128 ≤ x) × (x < 144)) × (maxMembers ≤ r → 128 ≤ x → x < 144 → ⊥) ⌝ }
 {
     if x < CHILD {
         return MAX_MEMBERS;
@@ -152,7 +153,7 @@ fn run<'a>(
     at: usize,
 ) -> usize
     requires spans { ⌜ Spans (now tr) (now sp) ⌝ }
-    requires task { ⌜ Fits (RowAsked (now source) (now pool) (now places) (now tr) r) at (length (now out)) ⌝ }
+    requires task { ⌜ ImageFits (RowAsked (now source) (now pool) (now places) (now tr) r) at (length (now out)) ⌝ }
     ensures { λ r′. ⌜ ((bs : List ℕ) → RowAsked (now (source .entry)) (now (pool .entry)) (now (places .entry)) (now (tr .entry)) r bs → Writes (now (out .entry)) (now (out .exit)) at bs r′) ⌝ }
 {
     let to = rows::to(places, r);
@@ -185,7 +186,7 @@ fn child<'a>(
     at: usize,
 ) -> usize
     requires spans { ⌜ Spans (now tr) (now sp) ⌝ }
-    requires task { ⌜ Fits (ChildAsked (now source) (now pool) (now places) (now tr) i) at (length (now out)) ⌝ }
+    requires task { ⌜ ImageFits (ChildAsked (now source) (now pool) (now places) (now tr) i) at (length (now out)) ⌝ }
     ensures { λ r. ⌜ ((bs : List ℕ) → ChildAsked (now (source .entry)) (now (pool .entry)) (now (places .entry)) (now (tr .entry)) i bs → Writes (now (out .entry)) (now (out .exit)) at bs r) ⌝ }
 {
     let o = element_at(tr, sp, i);
@@ -216,7 +217,7 @@ fn items<'a>(
     at: usize,
 ) -> usize
     requires spans { ⌜ Spans (now tr) (now sp) ⌝ }
-    requires task { ⌜ Fits (ItemsAsked (now source) (now pool) (now places) (now tr) r) at (length (now out)) ⌝ }
+    requires task { ⌜ ImageFits (ItemsAsked (now source) (now pool) (now places) (now tr) r) at (length (now out)) ⌝ }
     ensures { λ r′. ⌜ ((bs : List ℕ) → ItemsAsked (now (source .entry)) (now (pool .entry)) (now (places .entry)) (now (tr .entry)) r bs → Writes (now (out .entry)) (now (out .exit)) at bs r′) ⌝ }
 {
     let mut o: usize = 0;
@@ -239,7 +240,7 @@ pub fn write_image<'a>(
     out: &mut [u8],
 ) -> usize
     requires spans { ⌜ Spans (now tr) (now sp) ⌝ }
-    requires task { ⌜ Fits (ImageAsked (now source) (now pool) (now places) (now tr)) 0 (length (now out)) ⌝ }
+    requires task { ⌜ ImageFits (ImageAsked (now source) (now pool) (now places) (now tr)) 0 (length (now out)) ⌝ }
     ensures { λ r. ⌜ ((bs : List ℕ) → ImageAsked (now (source .entry)) (now (pool .entry)) (now (places .entry)) (now (tr .entry)) bs → Writes (now (out .entry)) (now (out .exit)) 0 bs r) ⌝ }
 {
     let row = row_of(source, tr, 0);

@@ -19,7 +19,7 @@ use Rattle.model.specs.Theorems.Placing.{under-same}
 use Rattle.loaded_table.specs.Loaded.{Bounded, kindFrom, tableBy, typesIn, kindsOf, countsOf, membersIn, length-of, kind-of}
 use Rattle.rows.specs.Laws.{code-sequence, code-choice, code-list, entry-there}
 use Rattle.growing.specs.declared.Span.{Span}
-use Rattle.growing.specs.Growing.{Spans}
+use Rattle.growing.specs.Growing.{MemberRange}
 
 -- ---- entries of a list
 
@@ -129,7 +129,7 @@ module _ {target : List ℕ} (bounded : Bounded target) (wf : WellFormed (tableB
           each = λ j l h. let here : j ≡ q = omega arith in rw (here, is, less-one) fits;
         }
 
-    by-sequence : (ms : List ℕ) → kindOf T t ≡ sequence ms → ((p m : ℕ) → entry p ms ≡ some m → Fits T n m (under p ps)) → (r : Span) → Spans target t q r
+    by-sequence : (ms : List ℕ) → kindOf T t ≡ sequence ms → ((p m : ℕ) → entry p ms ≡ some m → Fits T n m (under p ps)) → (r : Span) → MemberRange target t q r
         → Grows target (suc n) t ps r
     unfolding grow growKind membersOf
     by-sequence ms kind fits r spans =
@@ -151,7 +151,7 @@ module _ {target : List ℕ} (bounded : Bounded target) (wf : WellFormed (tableB
           each = λ j l h. rw less-one (fits j _ (at j (omega (arith, span .0)) (omega (arith, span .1))));
         }
 
-    by-choice : (ms : List ℕ) → kindOf T t ≡ choice ms → stepFrom (choice ms) q ≡ some (next T t q) → Fits T n (next T t q) (under q ps) → (r : Span) → Spans target t q r
+    by-choice : (ms : List ℕ) → kindOf T t ≡ choice ms → stepFrom (choice ms) q ≡ some (next T t q) → Fits T n (next T t q) (under q ps) → (r : Span) → MemberRange target t q r
         → Grows target (suc n) t ps r
     unfolding grow growKind membersOf stepFrom shaped
     by-choice ms kind step fits r spans =
@@ -161,7 +161,7 @@ module _ {target : List ℕ} (bounded : Bounded target) (wf : WellFormed (tableB
         by-one r (next T t q) (here .0) (omega (arith, here .1, bounded .few-members t)) (here .2) (span .0) (span .1) (rw kind refl)
         (member-exists _ (rw kind (entry-member q ms step))) fits
 
-    by-list : (m : ℕ) → kindOf T t ≡ list m → q ≡ 1 → Fits T n m (under q ps) → (r : Span) → Spans target t q r → Grows target (suc n) t ps r
+    by-list : (m : ℕ) → kindOf T t ≡ list m → q ≡ 1 → Fits T n m (under q ps) → (r : Span) → MemberRange target t q r → Grows target (suc n) t ps r
     unfolding grow growKind membersOf shaped
     by-list m kind one fits r spans =
         let found = code-list code count row m (kind-here (list m) kind) in
@@ -173,15 +173,15 @@ module _ {target : List ℕ} (bounded : Bounded target) (wf : WellFormed (tableB
 -- what an element holds below which a path goes on with step q
 pub grows : {target : List ℕ} → Bounded target → WellFormed (tableBy target) → {n t : ℕ} → t < typesIn target → (ps : List (Placement Shape))
     → Fits (tableBy target) n t ps → (q : ℕ) (path : List ℕ) (a : Shape) (qs : List (Placement Shape)) → ps ≡ placed (q ∷ path) a ∷ qs
-    → (r : Span) → Spans target t q r → Grows target n t ps r
+    → (r : Span) → MemberRange target t q r → Grows target n t ps r
 grows {target = target} bounded wf {t = t} exists [] nothing-placed q path a qs is r spans = let z : _≡_ {A = ℕ} 0 1 = cc in absurd (omega arith)
 grows {target = target} bounded wf {t = t} exists (placed [] b ∷ []) right-here q path a qs is r spans = let z : _≡_ {A = ℕ} 0 1 = cc in absurd (omega arith)
 grows {target = target} bounded wf {t = t} exists (placed (p ∷ path′) b ∷ rs) (below-sequence {n = n} ms kind starts fits) q path a qs is r spans =
     let here : p ≡ q = cc in
-    by-sequence bounded wf exists n p path′ b rs ms kind fits r (subst (λ (s : ℕ). Spans target t s r) (sym here) spans)
+    by-sequence bounded wf exists n p path′ b rs ms kind fits r (subst (λ (s : ℕ). MemberRange target t s r) (sym here) spans)
 grows {target = target} bounded wf {t = t} exists (placed (p ∷ path′) b ∷ rs) (below-choice {n = n} ms kind step starts fits) q path a qs is r spans =
     let here : p ≡ q = cc in
-    by-choice bounded wf exists n p path′ b rs ms kind step fits r (subst (λ (s : ℕ). Spans target t s r) (sym here) spans)
+    by-choice bounded wf exists n p path′ b rs ms kind step fits r (subst (λ (s : ℕ). MemberRange target t s r) (sym here) spans)
 grows {target = target} bounded wf {t = t} exists (placed (p ∷ path′) b ∷ rs) (below-list {n = n} m kind starts fits) q path a qs is r spans =
     let here : p ≡ q = cc in
-    by-list bounded wf exists n p path′ b rs m kind refl fits r (subst (λ (s : ℕ). Spans target t s r) (sym here) spans)
+    by-list bounded wf exists n p path′ b rs m kind refl fits r (subst (λ (s : ℕ). MemberRange target t s r) (sym here) spans)

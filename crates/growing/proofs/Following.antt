@@ -10,14 +10,14 @@ use Rattle.model.specs.Definitions.Image.{Placement, under}
 use Rattle.model.specs.Definitions.Templates.{Shape}
 use Rattle.loaded_embedding.specs.Loaded.{stepsFrom}
 use Rattle.growing.specs.declared.Edges.{Edges}
-use Rattle.growing.specs.Growing.{firstOf, placementOf, placementsFrom, placementsOf, noEdges, push, Readable}
+use Rattle.growing.specs.Growing.{firstOf, placementOf, placementsFrom, placementsOf, noEdges, push, PathsReadable}
 use Rattle.growing.specs.Laws.{push-placements, push-readable, none-readable, none-placed, under-first, under-another}
 
 -- of `count` paths those before path i are looked at, and `sub` has those of them whose first step is q
 pub record Follows (em : List ℕ) (q : ℕ) (e sub : Edges) (i : ℕ) : Type 0 where
   pub few : sub .count ≤ i
   pub high : i ≤ e .count
-  pub readable : Readable em sub
+  pub readable : PathsReadable em sub
   pub gives : placementsOf em sub ++ under q (placementsFrom em (e .next) (e .left) (e .hole) i (e .count - i)) ≡ under q (placementsOf em e)
 
 -- before the first
@@ -31,7 +31,7 @@ follows-none em q e =
       gives = rw (none-placed em, sub-zero (e .count)) refl;
     }
 
-module _ {em : List ℕ} {q : ℕ} {e sub : Edges} {i : ℕ} (paths : Readable em e) (now : Follows em q e sub i) (less : i < e .count) where
+module _ {em : List ℕ} {q : ℕ} {e sub : Edges} {i : ℕ} (paths : PathsReadable em e) (now : Follows em q e sub i) (less : i < e .count) where
   abbrev rest : List (Placement Shape)
   rest = placementsFrom em (e .next) (e .left) (e .hole) (suc i) (e .count - suc i)
 

@@ -18,7 +18,7 @@ use Rattle.rows.specs.Rows.{symbolOf, holeOf}
 use Rattle.rows.specs.Symbols.{filler-of, is-opening, is-hole, is-closing}
 use Rattle.growing.specs.declared.Edges.{Edges}
 use Rattle.growing.specs.declared.Span.{Span}
-use Rattle.growing.specs.Growing.{firstOf, placementOf, placementsFrom, placementsOf, Readable, Puts, Spans, Task, elementRow}
+use Rattle.growing.specs.Growing.{firstOf, placementOf, placementsFrom, placementsOf, PathsReadable, Puts, MemberRange, Task, elementRow}
 use Rattle.growing.specs.Laws.{puts-none, puts-then, puts-length, puts-after}
 use Rattle.growing.specs.Parts.{fits-positive, held, first-path, row-none, row-built}
 use Rattle.growing.proofs.ByKind.{membersFrom, memberAt, Grows, grows}
@@ -81,7 +81,7 @@ pub record Members (target em : List ℕ) (e : Edges) (n t : ℕ) (old : List �
 -- none is written
 pub members-none : {target em : List ℕ} {e : Edges} {n t : ℕ} {old : List ℕ} {start : ℕ} (task : Task target em e n t) (some : e .count ≡ 0 → ⊥)
     → start + length (held target em e n t) + 1 ≤ length old → (getD (e .left) 0 0 ≡ 0 → ⊥)
-    → (r : Span) → Spans target t (firstOf (stepsFrom em (getD (e .next) 0 0) (getD (e .left) 0 0))) r
+    → (r : Span) → MemberRange target t (firstOf (stepsFrom em (getD (e .next) 0 0) (getD (e .left) 0 0))) r
     → Members target em e n t old start (r .from) (r .to) old (r .from) start
 members-none {target} {em} {e} {n} {t} {old} {start} task some room more r spans =
     let g : Grows target n t (placementsOf em e) r =
@@ -134,7 +134,7 @@ module _ {target em : List ℕ} {e : Edges} {n t : ℕ} {old : List ℕ} {start 
     row-cons = rw members-cons (framed-then _ m _ _ ∙ ap (λ (i : ℕ). below ++ rowOf (growMembers shaped (λ k qs. grow shaped (tableBy target) (fillers shaped (tableBy target)) (n - 1) k qs) (placementsOf em e) i (membersFrom target t (j + 1) to))) (sym (add-one j)))
 
     -- the paths below member j, and its type
-    module _ {sub : Edges} {m′ : ℕ} (readable : Readable em sub) (same : placementsOf em sub ≡ under j (placementsOf em e)) (is : m′ ≡ m) where
+    module _ {sub : Edges} {m′ : ℕ} (readable : PathsReadable em sub) (same : placementsOf em sub ≡ under j (placementsOf em e)) (is : m′ ≡ m) where
       row-below : elementRow target em sub (n - 1) m′ ≡ below
       unfolding elementRow
       row-below = rw (is, same) refl

@@ -43,7 +43,7 @@ push e next left hole =
     record { count = e .count + 1; next = set (e .next) (e .count) next; left = set (e .left) (e .count) left; hole = set (e .hole) (e .count) hole }
 
 -- the paths stand in the document, and lead to holes
-pub record Readable (em : List ℕ) (e : Edges) : Type 0 where
+pub record PathsReadable (em : List ℕ) (e : Edges) : Type 0 where
   pub few : e .count ≤ 16
   pub next-places : length (e .next) ≡ 16
   pub left-places : length (e .left) ≡ 16
@@ -61,7 +61,7 @@ pub record Puts (old new : List ℕ) (at : ℕ) (row : List Symbol) (next : ℕ)
   pub means : map symbolOf numbers ≡ row
 
 -- all members of a sequence, else the one that step q names
-pub record Spans (target : List ℕ) (t q : ℕ) (r : Span) : Type 0 where
+pub record MemberRange (target : List ℕ) (t q : ℕ) (r : Span) : Type 0 where
   pub of-sequence : getD (kindsOf target) t 0 ≡ 2 → (r .from ≡ 1) × (r .to ≡ getD (countsOf target) t 0 + 1)
   pub of-other : (getD (kindsOf target) t 0 ≡ 2 → ⊥) → (r .from ≡ q) × (r .to ≡ q + 1)
 
@@ -76,7 +76,7 @@ pub record Task (target em : List ℕ) (e : Edges) (n t : ℕ) : Type 0 where
   pub bounded : Bounded target
   pub well-formed : WellFormed (tableBy target)
   pub is-type : t < typesIn target
-  pub paths : Readable em e
+  pub paths : PathsReadable em e
   pub fits : Fits (tableBy target) n t (placementsOf em e)
 
 -- the row of an element of type t with what stands along the paths below it; filler where there is no path

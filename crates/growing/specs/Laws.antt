@@ -17,7 +17,7 @@ use Rattle.loaded_embedding.specs.Loaded.{stepsFrom}
 use Rattle.writing.specs.Laws.{sets-join}
 use Rattle.rows.specs.Rows.{symbolOf, IsHole}
 use Rattle.growing.specs.declared.Edges.{Edges}
-use Rattle.growing.specs.Growing.{firstOf, placementOf, placementsFrom, placementsOf, noEdges, push, Readable, Puts}
+use Rattle.growing.specs.Growing.{firstOf, placementOf, placementsFrom, placementsOf, noEdges, push, PathsReadable, Puts}
 
 -- ---- rows that are written
 
@@ -64,7 +64,7 @@ from-kept em next left goal k a b c j zero h = refl
 from-kept em next left goal k a b c j (suc n) h =
     rw (getD-set-other next k j a 0 (λ e. omega arith), getD-set-other left k j b 0 (λ e. omega arith), getD-set-other goal k j c 0 (λ e. omega arith), from-kept em next left goal k a b c (suc j) n (omega arith)) refl
 
-module _ {em : List ℕ} {e : Edges} (paths : Readable em e) (less : e .count < 16) (next left goal : ℕ) where
+module _ {em : List ℕ} {e : Edges} (paths : PathsReadable em e) (less : e .count < 16) (next left goal : ℕ) where
   -- a path more is a placement more
   pub push-placements : placementsOf em (push e next left goal) ≡ placementsOf em e ++ (placementOf em next left goal ∷ [])
   unfolding push
@@ -73,7 +73,7 @@ module _ {em : List ℕ} {e : Edges} (paths : Readable em e) (less : e .count < 
       ∙ rw (zero-add (e .count), getD-set-same (e .next) (e .count) next 0 (omega (arith, paths .next-places)), getD-set-same (e .left) (e .count) left 0 (omega (arith, paths .left-places)), getD-set-same (e .hole) (e .count) goal 0 (omega (arith, paths .hole-places)), from-kept em (e .next) (e .left) (e .hole) (e .count) next left goal 0 (e .count) (omega arith)) refl)
 
   -- and the paths stay readable
-  pub push-readable : next + 2 * left ≤ length em + 1 → IsHole goal → Readable em (push e next left goal)
+  pub push-readable : next + 2 * left ≤ length em + 1 → IsHole goal → PathsReadable em (push e next left goal)
   unfolding push
   push-readable within is-hole =
       record {
@@ -102,7 +102,7 @@ module _ {em : List ℕ} {e : Edges} (paths : Readable em e) (less : e .count < 
           rw (getD-set-other (e .hole) (e .count) j goal 0 other) (paths .is-hole j (omega (arith, other)))
 
 -- no paths are readable
-pub none-readable : (em : List ℕ) → Readable em noEdges
+pub none-readable : (em : List ℕ) → PathsReadable em noEdges
 unfolding noEdges
 none-readable em =
     record {

@@ -7,7 +7,8 @@ ghost use lib.ListN.{length};
 ghost use Rattle.model.specs.Definitions.Image.{under};
 ghost use Rattle.loaded_embedding.specs.Loaded.{stepsFrom};
 ghost use Rattle.rows.specs.Rows.{symbolOf};
-ghost use Rattle.growing.specs.Growing.{firstOf, placementsOf, Readable, push, noEdges, Spans, Puts, Task, elementRow};
+ghost use Rattle.growing.specs.Growing.{firstOf, placementsOf, PathsReadable, push, noEdges, MemberRange, Puts, Task, elementRow};
+ghost use Rattle.model.specs.Definitions.TableChecks.{maxMembers, maxTypes};
 use codes::MAX_MEMBERS;
 use loaded_table::SEQUENCE;
 use loaded_table::TABLE;
@@ -41,7 +42,7 @@ pub fn no_edges() -> Edges
 
 // One path more, behind the others.
 pub fn pushed(e: Edges, next: usize, left: u8, hole: u8) -> Edges
-    requires { ⌜ e .count < 16 ⌝ }
+    requires { ⌜ e .count < maxMembers ⌝ }
     ensures { λ r. ⌜ r ≡ push e next left hole ⌝ }
 {
     let at = e.count;
@@ -74,8 +75,8 @@ fn first_step(em: &[u8], o: usize, left: u8) -> usize
 // The paths whose first step is q, that step taken.
 fn beyond(em: &[u8], e: Edges, q: usize) -> Edges
     requires { ⌜ 0 < q ⌝ }
-    requires paths { ⌜ Readable (now em) e ⌝ }
-    ensures { λ r. ⌜ Readable (now (em .entry)) r × (placementsOf (now (em .entry)) r ≡ under q (placementsOf (now (em .entry)) e)) ⌝ }
+    requires paths { ⌜ PathsReadable (now em) e ⌝ }
+    ensures { λ r. ⌜ PathsReadable (now (em .entry)) r × (placementsOf (now (em .entry)) r ≡ under q (placementsOf (now (em .entry)) e)) ⌝ }
 {
     let count = e.count;
     let next = e.next;
@@ -109,8 +110,8 @@ pub struct Span {
 
 // The members of type t that are built below it, where the first path takes step q: all of a sequence, else the one that q names.
 fn members_below(target: &[u16; TABLE], t: usize, q: usize) -> Span
-    requires { ⌜ (t < 64) × (q < 256) ⌝ }
-    ensures { λ r. ⌜ Spans (now (target .entry)) t q r ⌝ }
+    requires { ⌜ (t < maxTypes) × (q < 256) ⌝ }
+    ensures { λ r. ⌜ MemberRange (now (target .entry)) t q r ⌝ }
 {
     if loaded_table::kind(target, t) == SEQUENCE {
         let count = loaded_table::count(target, t);

@@ -8,8 +8,8 @@ use lib.ListN.{length, length-append, drop, take}
 use Rattle.model.specs.Definitions.Basics.{andThen}
 use Rattle.model.specs.Definitions.Content.{Content, end, elem, bytes}
 use Rattle.model.specs.Theorems.Tools.{some-none}
-use Rattle.scanning.specs.Scanning.{At}
-use Rattle.scanning.specs.Finding.{Begins}
+use Rattle.scanning.specs.Scanning.{ContentAt}
+use Rattle.scanning.specs.Finding.{FoundContent}
 use Rattle.scanning.specs.Laws.{content-within, content-part}
 use Rattle.writing.specs.Writing.{Writes}
 use Rattle.writing.specs.Laws.{writes-then, writes-length}
@@ -79,7 +79,7 @@ module _ (m : ℕ) (sought : Option Content) where
 
 -- ---- a text, whose characters begin at offset o, with the 32 after them at offset `close`
 
-module _ {tr : List ℕ} {o close : ℕ} {sought : Option Content} (found : Begins tr o sought) (skips : (k : Content) → At tr o k → close ≡ o + length (bytes k)) where
+module _ {tr : List ℕ} {o close : ℕ} {sought : Option Content} (found : FoundContent tr o sought) (skips : (k : Content) → ContentAt tr o k → close ≡ o + length (bytes k)) where
   ends : close ≡ o + length (bytes (found .content))
   ends = skips (found .content) (found .there)
 

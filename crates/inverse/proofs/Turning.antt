@@ -10,7 +10,7 @@ use Rattle.model.specs.Definitions.Image.{Setting}
 use Rattle.model.specs.Definitions.Inverse.{readOne, readTo}
 use Rattle.loaded_table.specs.Loaded.{typesIn, kindsOf}
 use Rattle.loaded_setting.specs.Ready.{settingIn, Ready}
-use Rattle.scanning.specs.Scanning.{At}
+use Rattle.scanning.specs.Scanning.{ContentAt}
 use Rattle.writing.specs.Laws.{writes-length}
 use Rattle.children.specs.declared.Cursor.{Cursor}
 use Rattle.children.specs.Parts.{Parts, done, broken, readParts, childParts}
@@ -33,13 +33,13 @@ pub record ChildrenLeft (source target map em : List ℕ) (σ : ℕ) (tr : List 
 pub record Reading (source target map em : List ℕ) (σ : ℕ) (tr : List ℕ) (from depth : ℕ) (old : List ℕ) (at₀ : ℕ) (out : List ℕ) (to : ℕ) (cursor : Cursor) : Type 0 where
   pub long : length out ≡ length old
   pub fits : to ≤ length out
-  pub here : (k : Content) × At tr from k
-  pub left : (k : Content) → At tr from k → ChildrenLeft source target map em σ tr depth k old at₀ out to cursor
+  pub here : (k : Content) × ContentAt tr from k
+  pub left : (k : Content) → ContentAt tr from k → ChildrenLeft source target map em σ tr depth k old at₀ out to cursor
 
 -- no child is read yet
 pub reading-start : {source target map em : List ℕ} (ready : Ready source target map em) {σ : ℕ} (exists : σ < typesIn source) {tr : List ℕ} {from depth : ℕ} {old : List ℕ} {at₀ : ℕ} {cursor : Cursor}
-    → (depth ≡ 0 → ⊥) → (getD (kindsOf source) σ 0 ≡ 0 → ⊥) → at₀ ≤ length old → ((k : Content) × At tr from k)
-    → ((k : Content) → At tr from k → Shows source target map em σ tr k cursor (childParts (settingIn source target map em) σ k))
+    → (depth ≡ 0 → ⊥) → (getD (kindsOf source) σ 0 ≡ 0 → ⊥) → at₀ ≤ length old → ((k : Content) × ContentAt tr from k)
+    → ((k : Content) → ContentAt tr from k → Shows source target map em σ tr k cursor (childParts (settingIn source target map em) σ k))
     → Reading source target map em σ tr from depth old at₀ old at₀ cursor
 reading-start {source} {target} {map} {em} ready {σ} exists {depth = depth} {old} {at₀} some-level other room here begins =
     record {
@@ -60,51 +60,51 @@ module _ {source target map em : List ℕ} {σ : ℕ} {tr : List ℕ} {from dept
   X = settingIn source target map em
 
   -- what the call of `next` needs
-  pub turn-shows : (k : Content) × (parts : Parts) × At tr from k × Shows source target map em σ tr k cursor parts
+  pub turn-shows : (k : Content) × (parts : Parts) × ContentAt tr from k × Shows source target map em σ tr k cursor parts
   turn-shows =
       let l = now .left (now .here .0) (now .here .1) in
       (now .here .0, l .parts, now .here .1, l .shows)
 
   -- no child is left
-  pub turn-done : ((k : Content) (parts : Parts) → At tr from k → Shows source target map em σ tr k cursor parts → parts ≡ done)
-      → (k : Content) → At tr from k → ReadsTo old out at₀ to (readTo X depth σ k)
+  pub turn-done : ((k : Content) (parts : Parts) → ContentAt tr from k → Shows source target map em σ tr k cursor parts → parts ≡ done)
+      → (k : Content) → ContentAt tr from k → ReadsTo old out at₀ to (readTo X depth σ k)
   unfolding readParts
   turn-done gives k a =
       let l = now .left k a in
       onto-done (l .onto) (ap (readParts (childRead source target map em depth)) (gives k (l .parts) a (l .shows))) (omega (arith, now .long, now .fits))
 
   -- one is missing
-  pub turn-broken : ((k : Content) (parts : Parts) → At tr from k → Shows source target map em σ tr k cursor parts → parts ≡ broken)
-      → (k : Content) → At tr from k → (j : Content) → readTo X depth σ k ≡ some j → length old < at₀ + length (bytes j)
+  pub turn-broken : ((k : Content) (parts : Parts) → ContentAt tr from k → Shows source target map em σ tr k cursor parts → parts ≡ broken)
+      → (k : Content) → ContentAt tr from k → (j : Content) → readTo X depth σ k ≡ some j → length old < at₀ + length (bytes j)
   unfolding readParts
   turn-broken gives k a =
       let l = now .left k a in
       onto-missing (l .onto) (ap (readParts (childRead source target map em depth)) (gives k (l .parts) a (l .shows)))
 
   module _ {m o : ℕ} {then : Cursor}
-      (gives : (k : Content) (parts : Parts) → At tr from k → Shows source target map em σ tr k cursor parts → GivesOne source target map em σ tr k (cursorWeight tr cursor) m o then parts) where
-    one : (k : Content) (a : At tr from k) → GivesOne source target map em σ tr k (cursorWeight tr cursor) m o then (now .left k a .parts)
+      (gives : (k : Content) (parts : Parts) → ContentAt tr from k → Shows source target map em σ tr k cursor parts → GivesOne source target map em σ tr k (cursorWeight tr cursor) m o then parts) where
+    one : (k : Content) (a : ContentAt tr from k) → GivesOne source target map em σ tr k (cursorWeight tr cursor) m o then (now .left k a .parts)
     one k a = gives k (now .left k a .parts) a (now .left k a .shows)
 
-    onto-one : (k : Content) (a : At tr from k)
+    onto-one : (k : Content) (a : ContentAt tr from k)
         → Onto old at₀ (readTo X depth σ k) out to (readOne (childRead source target map em depth) m (some (one k a .inside)) (readParts (childRead source target map em depth) (one k a .rest)))
     unfolding readParts
     onto-one k a = rw (one k a .is) at (now .left k a .onto)
 
     -- what the call for the child needs, and that the children left get fewer
-    pub turn-inside : (m < typesIn source) × ((j : Content) × At tr o j)
+    pub turn-inside : (m < typesIn source) × ((j : Content) × ContentAt tr o j)
     turn-inside = let g = one (now .here .0) (now .here .1) in (g .is-type, (g .inside, g .there))
 
     pub turn-less : cursorWeight tr then < cursorWeight tr cursor
     turn-less = one (now .here .0) (now .here .1) .less
 
     -- the child is missing or doesn't fit
-    pub turn-refused : ((j : Content) → At tr o j → (i : Content) → elementOf m (readTo X (depth - 1) m j) ≡ some i → length out < to + length (bytes i))
-        → (k : Content) → At tr from k → (j : Content) → readTo X depth σ k ≡ some j → length old < at₀ + length (bytes j)
+    pub turn-refused : ((j : Content) → ContentAt tr o j → (i : Content) → elementOf m (readTo X (depth - 1) m j) ≡ some i → length out < to + length (bytes i))
+        → (k : Content) → ContentAt tr from k → (j : Content) → readTo X depth σ k ≡ some j → length old < at₀ + length (bytes j)
     turn-refused short k a =
         child-refused (childRead source target map em depth) m _ _ (onto-one k a) (λ i e. omega (arith, short (one k a .inside) (one k a .there) i e, now .long))
 
-    module _ {out₁ : List ℕ} {at₁ : ℕ} (child : (j : Content) → At tr o j → ReadsTo out out₁ to at₁ (elementOf m (readTo X (depth - 1) m j))) where
+    module _ {out₁ : List ℕ} {at₁ : ℕ} (child : (j : Content) → ContentAt tr o j → ReadsTo out out₁ to at₁ (elementOf m (readTo X (depth - 1) m j))) where
       -- it is read
       pub turn-on : Reading source target map em σ tr from depth old at₀ out₁ at₁ then
       turn-on =

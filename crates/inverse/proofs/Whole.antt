@@ -11,7 +11,7 @@ use Rattle.model.specs.Definitions.Image.{Setting}
 use Rattle.model.specs.Definitions.Inverse.{readTo, readBack}
 use Rattle.loaded_table.specs.Loaded.{typesIn, length-of}
 use Rattle.loaded_setting.specs.Ready.{settingIn, Ready}
-use Rattle.scanning.specs.Scanning.{At}
+use Rattle.scanning.specs.Scanning.{ContentAt}
 use Rattle.scanning.specs.Laws.{root-at}
 use Rattle.writing.specs.Writing.{Writes}
 use Rattle.writing.specs.Laws.{writes-then, writes-length}
@@ -24,7 +24,7 @@ unfolding document bytes
 document-length j = omega (arith, length-append (bytes j ++ 0x32 ∷ []) (0x3F ∷ []), length-append (bytes j) (0x32 ∷ []))
 
 -- where the root's content begins
-pub root-there : {tr : List ℕ} {k : Content} → tr ≡ document 0 k → At tr 2 k
+pub root-there : {tr : List ℕ} {k : Content} → tr ≡ document 0 k → ContentAt tr 2 k
 root-there {k = k} e = rw e (root-at 0 k)
 
 module _ {source target map em : List ℕ} (ready : Ready source target map em) where

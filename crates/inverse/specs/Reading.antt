@@ -36,6 +36,6 @@ pub record BringsTo (old new : List ℕ) (e : ℕ) (sought : Option Content) : T
   pub fits : e ≤ length old
 
 -- or there is none, or it doesn't fit the buffer
-abbrev pub Brings : List ℕ → List ℕ → Read → Option Content → Type 0
-Brings old new (answer.To e) sought = BringsTo old new e sought
-Brings old new answer.Nothing sought = (j : Content) → sought ≡ some j → length old < length (document 0 j)
+abbrev pub BringsRead : List ℕ → List ℕ → Read → Option Content → Type 0
+BringsRead old new (answer.To e) sought = BringsTo old new e sought
+BringsRead old new answer.Nothing sought = (j : Content) → sought ≡ some j → length old < length (document 0 j)

@@ -21,12 +21,13 @@ ghost use Rattle.loaded_table.specs.Loaded.{tableBy};
 ghost use Rattle.loaded_embedding.specs.Loaded.{targetsOf, startsOf, lengthsOf};
 ghost use Rattle.children.specs.Cursors.{ImageThere};
 ghost use Rattle.paths.specs.Following.{Followable, pathAt};
-ghost use Rattle.inverse.specs.Reading.{elementOf, ReadsInto, Brings};
+ghost use Rattle.inverse.specs.Reading.{elementOf, ReadsInto, BringsRead};
 ghost use Rattle.model.specs.Definitions.Content.{Content, document};
 ghost use Rattle.model.specs.Definitions.Inverse as model;
-ghost use Rattle.scanning.specs.Scanning.{At};
+ghost use Rattle.scanning.specs.Scanning.{ContentAt};
 ghost use Rattle.scanning.specs.Spanning.{Spans};
 ghost use Rattle.loaded_setting.specs.Ready.{settingIn, Ready};
+ghost use Rattle.model.specs.Definitions.TableChecks.{maxMembers, maxTypes};
 
 // An element to be read: its image, a bound of its levels, and where it is written.
 pub struct ToRead {
@@ -52,11 +53,11 @@ fn read_text<'a>(
     task: ToRead,
 ) -> Read
     requires spans { ⌜ Spans (now tr) (now sp) ⌝ }
-    requires place { ⌜ task .image .sigma < 64 ⌝ }
-    requires path { ⌜ Followable (now target) (now em) (getD (startsOf (now map)) (task .image .sigma * 16 + 0) 0) (getD (lengthsOf (now map)) (task .image .sigma * 16 + 0) 0) (getD (targetsOf (now map)) (task .image .sigma) 0) ⌝ }
-    requires content { ⌜ ((k : Content) × At (now tr) (task .image .from) k) ⌝ }
+    requires place { ⌜ task .image .sigma < maxTypes ⌝ }
+    requires path { ⌜ Followable (now target) (now em) (getD (startsOf (now map)) (task .image .sigma * maxMembers + 0) 0) (getD (lengthsOf (now map)) (task .image .sigma * maxMembers + 0) 0) (getD (targetsOf (now map)) (task .image .sigma) 0) ⌝ }
+    requires content { ⌜ ((k : Content) × ContentAt (now tr) (task .image .from) k) ⌝ }
     requires room { ⌜ task .at ≤ length (now out) ⌝ }
-    ensures { λ r. ⌜ ((k : Content) → At (now (tr .entry)) (task .image .from) k → ReadsInto (now (out .entry)) (now (out .exit)) (task .at) r (model.follow (tableBy (now (target .entry))) (getD (targetsOf (now (map .entry))) (task .image .sigma) 0) (pathAt (now (em .entry)) (now (map .entry)) (task .image .sigma * 16 + 0)) k)) ⌝ }
+    ensures { λ r. ⌜ ((k : Content) → ContentAt (now (tr .entry)) (task .image .from) k → ReadsInto (now (out .entry)) (now (out .exit)) (task .at) r (model.follow (tableBy (now (target .entry))) (getD (targetsOf (now (map .entry))) (task .image .sigma) 0) (pathAt (now (em .entry)) (now (map .entry)) (task .image .sigma * maxMembers + 0)) k)) ⌝ }
 {
     let at = task.at;
     let found = along(target, map, em, tr, sp, task.image, 0);
@@ -86,7 +87,7 @@ fn read_to<'a>(
 ) -> Read
     requires image { ⌜ ImageThere (now source) (now target) (now map) (now em) (now tr) (now sp) (task .image) ⌝ }
     requires room { ⌜ task .at ≤ length (now out) ⌝ }
-    ensures { λ r. ⌜ ((k : Content) → At (now (tr .entry)) (task .image .from) k → ReadsInto (now (out .entry)) (now (out .exit)) (task .at) r (model.readTo (settingIn (now (source .entry)) (now (target .entry)) (now (map .entry)) (now (em .entry))) (task .depth) (task .image .sigma) k)) ⌝ }
+    ensures { λ r. ⌜ ((k : Content) → ContentAt (now (tr .entry)) (task .image .from) k → ReadsInto (now (out .entry)) (now (out .exit)) (task .at) r (model.readTo (settingIn (now (source .entry)) (now (target .entry)) (now (map .entry)) (now (em .entry))) (task .depth) (task .image .sigma) k)) ⌝ }
 {
     let image = task.image;
     let depth = task.depth;
@@ -136,7 +137,7 @@ fn read_element<'a>(
 ) -> Read
     requires image { ⌜ ImageThere (now source) (now target) (now map) (now em) (now tr) (now sp) (task .image) ⌝ }
     requires room { ⌜ task .at ≤ length (now out) ⌝ }
-    ensures { λ r. ⌜ ((k : Content) → At (now (tr .entry)) (task .image .from) k → ReadsInto (now (out .entry)) (now (out .exit)) (task .at) r (elementOf (task .image .sigma) (model.readTo (settingIn (now (source .entry)) (now (target .entry)) (now (map .entry)) (now (em .entry))) (task .depth) (task .image .sigma) k))) ⌝ }
+    ensures { λ r. ⌜ ((k : Content) → ContentAt (now (tr .entry)) (task .image .from) k → ReadsInto (now (out .entry)) (now (out .exit)) (task .at) r (elementOf (task .image .sigma) (model.readTo (settingIn (now (source .entry)) (now (target .entry)) (now (map .entry)) (now (em .entry))) (task .depth) (task .image .sigma) k))) ⌝ }
 {
     let at = task.at;
     if out.len() - at < 3 {
@@ -173,7 +174,7 @@ pub fn read_back<'a>(
     requires spans { ⌜ Spans (now tr) (now sp) ⌝ }
     requires setting { ⌜ Ready (now source) (now target) (now map) (now em) ⌝ }
     requires document { ⌜ ((k : Content) × (now tr ≡ document 0 k)) ⌝ }
-    ensures { λ r. ⌜ ((k : Content) → now (tr .entry) ≡ document 0 k → Brings (now (out .entry)) (now (out .exit)) r (model.readBack (settingIn (now (source .entry)) (now (target .entry)) (now (map .entry)) (now (em .entry))) k)) ⌝ }
+    ensures { λ r. ⌜ ((k : Content) → now (tr .entry) ≡ document 0 k → BringsRead (now (out .entry)) (now (out .exit)) r (model.readBack (settingIn (now (source .entry)) (now (target .entry)) (now (map .entry)) (now (em .entry))) k)) ⌝ }
 {
     let whole = ToRead {
         image: Image { sigma: 0, from: 2 },

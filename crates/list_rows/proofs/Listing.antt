@@ -22,7 +22,7 @@ use Rattle.filler_rows.specs.Storing.{PlacedRow, RowMade, Stored}
 use Rattle.filler_rows.specs.Laws.{made-as-written, puts-as}
 use Rattle.own_rows.specs.Making.{heldRow}
 use Rattle.own_rows.specs.Wanted.{done-filler}
-use Rattle.own_rows.specs.Progress.{Next}
+use Rattle.own_rows.specs.Progress.{NextToMake}
 use Rattle.list_rows.specs.Lists.{onePath, beforePath, restPath, CutAt, beforeRoom, restRoom, depth-is, before-task, before-row, before-short, rest-task, rest-row, rest-short, list-room}
 
 -- the path from an item on
@@ -48,7 +48,7 @@ module _ {source target map em : List ℕ} (ready : Ready source target map em) 
       own-short : length (elementRow target em e stepBound t) ≤ beforeRoom X s
       own-short = rw (is-path, is-type) (before-short ready exists code cuts)
 
-      pub own-needs : {pool places : List ℕ} {at : ℕ} → Next source target map em pool places s at → {row : ℕ} → row ≡ rowsBefore s
+      pub own-needs : {pool places : List ℕ} {at : ℕ} → NextToMake source target map em pool places s at → {row : ℕ} → row ≡ rowsBefore s
           → Task target em e stepBound t × (Stored pool places at t (fillerRow (tableBy target) t) 0
           × ((at + length (elementRow target em e stepBound t) ≤ length pool) × IsWord (length pool) × HasRow places row × HasRow places t))
       own-needs {pool} {places} {at} next {row} is-row =

@@ -25,14 +25,14 @@ use Rattle.paths.specs.Following.{pathAt, pathsFrom, Cuts}
 use Rattle.paths.specs.Edges.{target-is, paths-are, is-list, list-edge-one, list-less}
 use Rattle.rows.specs.Rows.{rowIndex, sourceRow, itemRow, IsHole, holeOf, typeRow, rowsBefore}
 use Rattle.growing.specs.declared.Edges.{Edges}
-use Rattle.growing.specs.Growing.{placementOf, placementsOf, noEdges, push, Readable, Task, elementRow, stepBound}
+use Rattle.growing.specs.Growing.{placementOf, placementsOf, noEdges, push, PathsReadable, Task, elementRow, stepBound}
 use Rattle.growing.specs.Laws.{push-placements, push-readable, none-readable, none-placed}
 use Rattle.row_sizes.specs.Sizes.{source-index-small}
 use Rattle.filler_rows.specs.Laws.{puts-on, whole-more}
 use Rattle.filler_rows.specs.Storing.{RowMade}
 use Rattle.own_rows.specs.Making.{heldRow, edgeRoom}
 use Rattle.own_rows.specs.Progress.{Progress}
-use Rattle.own_rows.specs.Wanted.{Wanted, Done, done-more, done-past, wanted-type, of-filler, of-type, of-item}
+use Rattle.own_rows.specs.Wanted.{Wanted, RowsDone, done-more, done-past, wanted-type, of-filler, of-type, of-item}
 use Rattle.own_rows.specs.Bounds.{weight, IsGap}
 use Rattle.own_rows.specs.Holes.{child-hole, type-task, type-template}
 use Rattle.own_rows.specs.Short.{steps-long, element-short}
@@ -65,7 +65,7 @@ module _ (em : List ℕ) (next left hole : ℕ) where
       push-placements (none-readable em) (omega arith) next left hole
       ∙ ap (λ (l : List (Placement Shape)). l ++ (placementOf em next left hole ∷ [])) (none-placed em)
 
-  one-readable : next + 2 * left ≤ length em + 1 → IsHole hole → Readable em (onePath next left hole)
+  one-readable : next + 2 * left ≤ length em + 1 → IsHole hole → PathsReadable em (onePath next left hole)
   unfolding onePath noEdges
   one-readable within is-hole = push-readable (none-readable em) (omega arith) next left hole within is-hole
 
@@ -252,6 +252,6 @@ module _ {source target map em : List ℕ} (ready : Ready source target map em) 
       let all : typeRow s 16 + 1 ≡ rowsBefore (suc s) = omega arith in
       rw (add-one s) record {
         whole = whole-more item (whole-more own (now .whole) (omega (arith, short, room, now .room, puts-on (item .puts)))) (omega (arith, short, room, now .room));
-        done = subst (λ (k : ℕ). Done X k pool₂ places₂ last) all two;
+        done = subst (λ (k : ℕ). RowsDone X k pool₂ places₂ last) all two;
         room = omega (arith, short, room, now .room);
       }

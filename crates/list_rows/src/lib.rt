@@ -7,9 +7,10 @@ ghost use Rattle.loaded_table.specs.Loaded.{typesIn, kindsOf};
 ghost use Rattle.loaded_embedding.specs.Loaded.{lengthsOf};
 ghost use Rattle.loaded_setting.specs.Ready.{settingIn, Ready};
 ghost use Rattle.filler_rows.specs.Storing.{RowMade};
-ghost use Rattle.own_rows.specs.Progress.{Progress, Makeable, Next};
+ghost use Rattle.own_rows.specs.Progress.{Progress, Makeable, NextToMake};
 ghost use Rattle.list_rows.specs.Lists.{onePath, beforePath, restPath, CutAt, beforeRoom, restRoom};
 ghost use Rattle.rows.specs.Rows.{typeRow, rowsBefore};
+ghost use Rattle.model.specs.Definitions.TableChecks.{maxMembers, maxTypes};
 use codes::MAX_MEMBERS;
 use codes::MAX_STEPS;
 use codes::MAX_TYPES;
@@ -56,7 +57,7 @@ fn one_path(next: usize, steps: usize, hole: u8) -> Edges
 
 // The path of the source list s up to the first list on it, to the hole of the items.
 fn before_path(map: &[u16; MAP], s: usize, cut: Cut) -> Edges
-    requires { ⌜ (s < 64) × (cut .depth < 256) ⌝ }
+    requires { ⌜ (s < maxTypes) × (cut .depth < 256) ⌝ }
     ensures { λ r. ⌜ r ≡ beforePath (now (map .entry)) s cut ⌝ }
 {
     let start = loaded_embedding::start(map, s * MAX_MEMBERS);
@@ -66,7 +67,7 @@ fn before_path(map: &[u16; MAP], s: usize, cut: Cut) -> Edges
 
 // The path from an item on, to the hole of its child.
 fn rest_path(map: &[u16; MAP], s: usize, cut: Cut) -> Edges
-    requires { ⌜ (s < 64) × (cut .depth < getD (lengthsOf (now map)) (s * 16) 0) × (getD (lengthsOf (now map)) (s * 16) 0 < 256) ⌝ }
+    requires { ⌜ (s < maxTypes) × (cut .depth < getD (lengthsOf (now map)) (s * maxMembers) 0) × (getD (lengthsOf (now map)) (s * maxMembers) 0 < 256) ⌝ }
     ensures { λ r. ⌜ r ≡ restPath (now (map .entry)) s cut ⌝ }
 {
     let start = loaded_embedding::start(map, s * MAX_MEMBERS);
@@ -86,7 +87,7 @@ fn before_row(
     places: &mut [u32],
     at: usize,
 ) -> usize
-    requires next { ⌜ Next (now source) (now target) (now map) (now em) (now pool) (now places) s at ⌝ }
+    requires next { ⌜ NextToMake (now source) (now target) (now map) (now em) (now pool) (now places) s at ⌝ }
     requires list { ⌜ 4 ≤ getD (kindsOf (now source)) s 0 ⌝ }
     ensures made { λ r. ⌜ RowMade (now (pool .entry)) (now (places .entry)) at (rowsBefore s) (template (settingIn (now (source .entry)) (now (target .entry)) (now (map .entry)) (now (em .entry))) s 0) 0 (now (pool .exit)) (now (places .exit)) r ⌝ }
     ensures short { λ r. ⌜ r ≤ at + beforeRoom (settingIn (now (source .entry)) (now (target .entry)) (now (map .entry)) (now (em .entry))) s ⌝ }
@@ -120,7 +121,7 @@ fn rest_row(
     requires makeable { ⌜ Makeable (now source) (now target) (now map) (now em) (now pool) (now places) s ⌝ }
     requires list { ⌜ 4 ≤ getD (kindsOf (now source)) s 0 ⌝ }
     requires room { ⌜ at + restRoom (now map) (settingIn (now source) (now target) (now map) (now em)) s ≤ length (now pool) ⌝ }
-    ensures made { λ r. ⌜ RowMade (now (pool .entry)) (now (places .entry)) at (typeRow s 16) (itemTemplate (settingIn (now (source .entry)) (now (target .entry)) (now (map .entry)) (now (em .entry))) s) (length (dividedOf (settingIn (now (source .entry)) (now (target .entry)) (now (map .entry)) (now (em .entry))) s .before)) (now (pool .exit)) (now (places .exit)) r ⌝ }
+    ensures made { λ r. ⌜ RowMade (now (pool .entry)) (now (places .entry)) at (typeRow s maxMembers) (itemTemplate (settingIn (now (source .entry)) (now (target .entry)) (now (map .entry)) (now (em .entry))) s) (length (dividedOf (settingIn (now (source .entry)) (now (target .entry)) (now (map .entry)) (now (em .entry))) s .before)) (now (pool .exit)) (now (places .exit)) r ⌝ }
     ensures short { λ r. ⌜ r ≤ at + restRoom (now (map .entry)) (settingIn (now (source .entry)) (now (target .entry)) (now (map .entry)) (now (em .entry))) s ⌝ }
 {
     let cut = list_cut(source, target, map, em, s);
@@ -149,7 +150,7 @@ pub fn list_rows(
     places: &mut [u32],
     at: usize,
 ) -> usize
-    requires next { ⌜ Next (now source) (now target) (now map) (now em) (now pool) (now places) s at ⌝ }
+    requires next { ⌜ NextToMake (now source) (now target) (now map) (now em) (now pool) (now places) s at ⌝ }
     requires list { ⌜ 4 ≤ getD (kindsOf (now source)) s 0 ⌝ }
     ensures { λ r. ⌜ Progress (now (source .entry)) (now (target .entry)) (now (map .entry)) (now (em .entry)) (now (pool .entry)) (now (places .entry)) (s + 1) (now (pool .exit)) (now (places .exit)) r ⌝ }
 {

@@ -7,7 +7,6 @@ use lib.ListN.{length, getD, replicate}
 use Rattle.loaded_table.specs.Loaded.{section, getD-replicate}
 use Rattle.model.specs.Definitions.Table.{edgesOf}
 use Rattle.model.specs.Definitions.Table as table
-use Rattle.model.specs.Definitions.TableChecks.{maxTypes}
 use Rattle.model.specs.Definitions.EmbeddingChecks.{maxSteps}
 use Rattle.model.specs.Definitions.Embedding as model
 use Rattle.model.specs.Definitions.Embedding.{Edge, TypeMap}
@@ -53,20 +52,20 @@ abbrev pub edgePlaces : ℕ
 edgePlaces = 1024
 
 abbrev pub targetsOf : List ℕ → List ℕ
-targetsOf map = section 0 maxTypes map
+targetsOf map = section 0 64 map
 
 abbrev pub startsOf : List ℕ → List ℕ
-startsOf map = section startsStart edgePlaces map
+startsOf map = section 64 1024 map
 
 abbrev pub lengthsOf : List ℕ → List ℕ
-lengthsOf map = section lengthsStart edgePlaces map
+lengthsOf map = section 1088 1024 map
 
 -- the embedding of source table S that one array and the document stand for
 abbrev pub embeddingBy : List ℕ → table.Table → List ℕ → model.Embedding
 embeddingBy em S map = embeddingIn em S (targetsOf map) (startsOf map) (lengthsOf map)
 
 -- the array has all its places; every path is within the document and has at most 12 steps
-pub record Bounded (em map : List ℕ) : Type 0 where
+pub record PathsBounded (em map : List ℕ) : Type 0 where
   pub size : length map ≡ mapSize
   pub short : (i : ℕ) → getD (lengthsOf map) i 0 ≤ maxSteps
   pub within : (i : ℕ) → getD (startsOf map) i 0 + 1 + 2 * getD (lengthsOf map) i 0 ≤ length em

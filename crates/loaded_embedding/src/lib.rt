@@ -5,7 +5,8 @@
 ghost use mathlib.Core.Path.{_≡_};
 ghost use Prim.Native.Nat.{_<_, _+_};
 ghost use lib.ListN.{getD, set};
-ghost use Rattle.loaded_embedding.specs.Loaded.{targetsOf, startsOf, lengthsOf};
+ghost use Rattle.loaded_embedding.specs.Loaded.{targetsOf, startsOf, lengthsOf, edgePlaces, lengthsStart, mapSize, startsStart};
+ghost use Rattle.model.specs.Definitions.TableChecks.{maxTypes};
 
 // How many numbers a loaded embedding has.
 pub const MAP: usize = 2112;
@@ -27,7 +28,7 @@ fn wide(x: u16) -> usize
 
 // A number of an embedding.
 fn number(map: &[u16; MAP], i: usize) -> usize
-    requires { ⌜ i < 2112 ⌝ }
+    requires { ⌜ i < mapSize ⌝ }
     ensures { λ r. ⌜ (r ≡ getD (now (map .entry)) i 0) × (r < 65536) ⌝ }
 {
     wide(map[i])
@@ -35,7 +36,7 @@ fn number(map: &[u16; MAP], i: usize) -> usize
 
 // The type that source type s is mapped to.
 pub fn target(map: &[u16; MAP], s: usize) -> usize
-    requires { ⌜ s < 64 ⌝ }
+    requires { ⌜ s < maxTypes ⌝ }
     ensures { λ r. ⌜ (r ≡ getD (targetsOf (now (map .entry))) s 0) × (r < 65536) ⌝ }
 {
     number(map, TARGETS + s)
@@ -43,7 +44,7 @@ pub fn target(map: &[u16; MAP], s: usize) -> usize
 
 // The offset of the 21 of an edge's path, by the edge's place.
 pub fn start(map: &[u16; MAP], edge: usize) -> usize
-    requires { ⌜ edge < 1024 ⌝ }
+    requires { ⌜ edge < edgePlaces ⌝ }
     ensures { λ r. ⌜ (r ≡ getD (startsOf (now (map .entry))) edge 0) × (r < 65536) ⌝ }
 {
     number(map, STARTS + edge)
@@ -51,7 +52,7 @@ pub fn start(map: &[u16; MAP], edge: usize) -> usize
 
 // The number of steps of an edge's path.
 pub fn steps(map: &[u16; MAP], edge: usize) -> usize
-    requires { ⌜ edge < 1024 ⌝ }
+    requires { ⌜ edge < edgePlaces ⌝ }
     ensures { λ r. ⌜ (r ≡ getD (lengthsOf (now (map .entry))) edge 0) × (r < 65536) ⌝ }
 {
     number(map, LENGTHS + edge)
@@ -59,7 +60,7 @@ pub fn steps(map: &[u16; MAP], edge: usize) -> usize
 
 // Stores the target of a source type.
 pub fn set_target(map: &mut [u16; MAP], s: usize, target: u16)
-    requires { ⌜ s < 64 ⌝ }
+    requires { ⌜ s < maxTypes ⌝ }
     ensures { λ r. ⌜ now (map .exit) ≡ set (now (map .entry)) s target ⌝ }
 {
     let i = TARGETS + s;
@@ -68,8 +69,8 @@ pub fn set_target(map: &mut [u16; MAP], s: usize, target: u16)
 
 // Stores where an edge's path stands.
 pub fn set_start(map: &mut [u16; MAP], edge: usize, start: u16)
-    requires { ⌜ edge < 1024 ⌝ }
-    ensures { λ r. ⌜ now (map .exit) ≡ set (now (map .entry)) (64 + edge) start ⌝ }
+    requires { ⌜ edge < edgePlaces ⌝ }
+    ensures { λ r. ⌜ now (map .exit) ≡ set (now (map .entry)) (startsStart + edge) start ⌝ }
 {
     let i = STARTS + edge;
     map[i] = start;
@@ -77,8 +78,8 @@ pub fn set_start(map: &mut [u16; MAP], edge: usize, start: u16)
 
 // Stores the number of steps of an edge's path.
 pub fn set_steps(map: &mut [u16; MAP], edge: usize, steps: u16)
-    requires { ⌜ edge < 1024 ⌝ }
-    ensures { λ r. ⌜ now (map .exit) ≡ set (now (map .entry)) (1088 + edge) steps ⌝ }
+    requires { ⌜ edge < edgePlaces ⌝ }
+    ensures { λ r. ⌜ now (map .exit) ≡ set (now (map .entry)) (lengthsStart + edge) steps ⌝ }
 {
     let i = LENGTHS + edge;
     map[i] = steps;

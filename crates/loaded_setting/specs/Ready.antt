@@ -18,5 +18,5 @@ pub record Ready (source target map em : List ℕ) : Type 0 where
   pub valid : Valid (settingIn source target map em)
   pub source-bounded : loaded_table.Bounded source
   pub target-bounded : loaded_table.Bounded target
-  pub paths-bounded : loaded_embedding.Bounded em map
+  pub paths-bounded : loaded_embedding.PathsBounded em map
   pub kept : loaded_table.Kept target (tableBy target)

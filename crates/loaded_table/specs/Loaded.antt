@@ -11,7 +11,7 @@ use lib.Dec.{eqb, ltb}
 use borrow.Author.Tests.{eqb-true, eqb-false, ltb-true, ltb-false}
 use mathlib.Core.Logic.{_⊎_, inl, inr}
 use Rattle.model.specs.Definitions.Table as model
-use Rattle.model.specs.Definitions.TableChecks.{maxTypes, maxMembers}
+use Rattle.model.specs.Definitions.TableChecks.{maxMembers}
 use Rattle.model.specs.Definitions.Table.{Kind, text, empty, sequence, choice, list, kindOf}
 use Rattle.model.specs.Definitions.Heights.{heightOf}
 use Rattle.model.specs.Definitions.Filler.{fillerLength}
@@ -55,10 +55,11 @@ fillStart = 192
 abbrev pub membersStart : ℕ
 membersStart = 256
 
--- how many members have a place, and the place of member i of type t
-abbrev pub memberPlaces : ℕ
-memberPlaces = 1024
+-- a length as it is kept: beyond the most bytes of a document it doesn't matter how far
+abbrev pub heldLength : ℕ → ℕ
+heldLength n = min 60001 n
 
+-- the place of member i of type t among all members
 abbrev pub memberPlace : ℕ → ℕ → ℕ
 memberPlace t i = t * maxMembers + i
 
@@ -69,19 +70,19 @@ abbrev pub section : ℕ → ℕ → List ℕ → List ℕ
 section from many rows = take many (drop from rows)
 
 abbrev pub kindsOf : List ℕ → List ℕ
-kindsOf rows = section 0 maxTypes rows
+kindsOf rows = section 0 64 rows
 
 abbrev pub countsOf : List ℕ → List ℕ
-countsOf rows = section countsStart maxTypes rows
+countsOf rows = section 64 64 rows
 
 abbrev pub heightsOf : List ℕ → List ℕ
-heightsOf rows = section heightsStart maxTypes rows
+heightsOf rows = section 128 64 rows
 
 abbrev pub fillOf : List ℕ → List ℕ
-fillOf rows = section fillStart maxTypes rows
+fillOf rows = section 192 64 rows
 
 abbrev pub membersIn : List ℕ → List ℕ
-membersIn rows = section membersStart memberPlaces rows
+membersIn rows = section 256 1024 rows
 
 -- the table that one array stands for
 abbrev pub tableBy : List ℕ → model.Table

@@ -4,7 +4,8 @@
 ghost use mathlib.Core.Path.{_≡_};
 ghost use Prim.Native.Nat.{_<_, _+_, _*_};
 ghost use lib.ListN.{getD, set};
-ghost use Rattle.loaded_table.specs.Loaded.{typesIn, kindsOf, countsOf, heightsOf, fillOf, membersIn};
+ghost use Rattle.loaded_table.specs.Loaded.{typesIn, kindsOf, countsOf, heightsOf, fillOf, membersIn, countsStart, fillStart, heightsStart, memberPlace, membersStart, tableSize};
+ghost use Rattle.model.specs.Definitions.TableChecks.{maxMembers, maxTypes};
 use codes::MAX_MEMBERS;
 
 // How many numbers a loaded table has.
@@ -44,7 +45,7 @@ fn wide(x: u16) -> usize
 
 // A number of a table.
 fn number(table: &[u16; TABLE], i: usize) -> usize
-    requires { ⌜ i < 1281 ⌝ }
+    requires { ⌜ i < tableSize ⌝ }
     ensures { λ r. ⌜ (r ≡ getD (now (table .entry)) i 0) × (r < 65536) ⌝ }
 {
     wide(table[i])
@@ -59,7 +60,7 @@ pub fn types(table: &[u16; TABLE]) -> usize
 
 // The kind of type t.
 pub fn kind(table: &[u16; TABLE], t: usize) -> usize
-    requires { ⌜ t < 64 ⌝ }
+    requires { ⌜ t < maxTypes ⌝ }
     ensures { λ r. ⌜ (r ≡ getD (kindsOf (now (table .entry))) t 0) × (r < 65536) ⌝ }
 {
     number(table, KINDS + t)
@@ -67,7 +68,7 @@ pub fn kind(table: &[u16; TABLE], t: usize) -> usize
 
 // Its number of members.
 pub fn count(table: &[u16; TABLE], t: usize) -> usize
-    requires { ⌜ t < 64 ⌝ }
+    requires { ⌜ t < maxTypes ⌝ }
     ensures { λ r. ⌜ (r ≡ getD (countsOf (now (table .entry))) t 0) × (r < 65536) ⌝ }
 {
     number(table, COUNTS + t)
@@ -75,7 +76,7 @@ pub fn count(table: &[u16; TABLE], t: usize) -> usize
 
 // Its height.
 pub fn height(table: &[u16; TABLE], t: usize) -> usize
-    requires { ⌜ t < 64 ⌝ }
+    requires { ⌜ t < maxTypes ⌝ }
     ensures { λ r. ⌜ (r ≡ getD (heightsOf (now (table .entry))) t 0) × (r < 65536) ⌝ }
 {
     number(table, HEIGHTS + t)
@@ -83,7 +84,7 @@ pub fn height(table: &[u16; TABLE], t: usize) -> usize
 
 // The byte length of a filler element of it, held at 60,001.
 pub fn fill(table: &[u16; TABLE], t: usize) -> usize
-    requires { ⌜ t < 64 ⌝ }
+    requires { ⌜ t < maxTypes ⌝ }
     ensures { λ r. ⌜ (r ≡ getD (fillOf (now (table .entry))) t 0) × (r < 65536) ⌝ }
 {
     number(table, FILL + t)
@@ -91,8 +92,8 @@ pub fn fill(table: &[u16; TABLE], t: usize) -> usize
 
 // Its member i, counted from 0.
 pub fn member(table: &[u16; TABLE], t: usize, i: usize) -> usize
-    requires { ⌜ (t < 64) × (i < 16) ⌝ }
-    ensures { λ r. ⌜ (r ≡ getD (membersIn (now (table .entry))) (t * 16 + i) 0) × (r < 65536) ⌝ }
+    requires { ⌜ (t < maxTypes) × (i < maxMembers) ⌝ }
+    ensures { λ r. ⌜ (r ≡ getD (membersIn (now (table .entry))) (memberPlace t i) 0) × (r < 65536) ⌝ }
 {
     number(table, MEMBERS + (t * MAX_MEMBERS + i))
 }
@@ -106,7 +107,7 @@ pub fn set_types(table: &mut [u16; TABLE], types: u16)
 
 // Stores a kind.
 pub fn set_kind(table: &mut [u16; TABLE], t: usize, kind: u16)
-    requires { ⌜ t < 64 ⌝ }
+    requires { ⌜ t < maxTypes ⌝ }
     ensures { λ r. ⌜ now (table .exit) ≡ set (now (table .entry)) t kind ⌝ }
 {
     let i = KINDS + t;
@@ -115,8 +116,8 @@ pub fn set_kind(table: &mut [u16; TABLE], t: usize, kind: u16)
 
 // Stores a number of members.
 pub fn set_count(table: &mut [u16; TABLE], t: usize, count: u16)
-    requires { ⌜ t < 64 ⌝ }
-    ensures { λ r. ⌜ now (table .exit) ≡ set (now (table .entry)) (64 + t) count ⌝ }
+    requires { ⌜ t < maxTypes ⌝ }
+    ensures { λ r. ⌜ now (table .exit) ≡ set (now (table .entry)) (countsStart + t) count ⌝ }
 {
     let i = COUNTS + t;
     table[i] = count;
@@ -124,8 +125,8 @@ pub fn set_count(table: &mut [u16; TABLE], t: usize, count: u16)
 
 // Stores a height.
 pub fn set_height(table: &mut [u16; TABLE], t: usize, height: u16)
-    requires { ⌜ t < 64 ⌝ }
-    ensures { λ r. ⌜ now (table .exit) ≡ set (now (table .entry)) (128 + t) height ⌝ }
+    requires { ⌜ t < maxTypes ⌝ }
+    ensures { λ r. ⌜ now (table .exit) ≡ set (now (table .entry)) (heightsStart + t) height ⌝ }
 {
     let i = HEIGHTS + t;
     table[i] = height;
@@ -133,8 +134,8 @@ pub fn set_height(table: &mut [u16; TABLE], t: usize, height: u16)
 
 // Stores a filler length.
 pub fn set_fill(table: &mut [u16; TABLE], t: usize, fill: u16)
-    requires { ⌜ t < 64 ⌝ }
-    ensures { λ r. ⌜ now (table .exit) ≡ set (now (table .entry)) (192 + t) fill ⌝ }
+    requires { ⌜ t < maxTypes ⌝ }
+    ensures { λ r. ⌜ now (table .exit) ≡ set (now (table .entry)) (fillStart + t) fill ⌝ }
 {
     let i = FILL + t;
     table[i] = fill;
@@ -142,8 +143,8 @@ pub fn set_fill(table: &mut [u16; TABLE], t: usize, fill: u16)
 
 // Stores member i, counted from 0.
 pub fn set_member(table: &mut [u16; TABLE], t: usize, i: usize, member: u16)
-    requires { ⌜ (t < 64) × (i < 16) ⌝ }
-    ensures { λ r. ⌜ now (table .exit) ≡ set (now (table .entry)) (256 + (t * 16 + i)) member ⌝ }
+    requires { ⌜ (t < maxTypes) × (i < maxMembers) ⌝ }
+    ensures { λ r. ⌜ now (table .exit) ≡ set (now (table .entry)) (membersStart + memberPlace t i) member ⌝ }
 {
     let place = MEMBERS + (t * MAX_MEMBERS + i);
     table[place] = member;

@@ -13,7 +13,7 @@ use Rattle.model.specs.Definitions.Content.{Content, end, char, elem}
 use Rattle.model.specs.Definitions.Conformance.{Holds, no-character, one-character, nothing, no-member, one-member, chosen, no-item, one-item}
 use Rattle.model.specs.Definitions.Templates.{firstIn}
 use Rattle.model.specs.Theorems.Facts.{WellFormed}
-use Rattle.rows.specs.Rows.{indexIn, Chosen, of-text, of-empty, of-sequence, of-choice, of-list}
+use Rattle.rows.specs.Rows.{indexIn, FirstChild, of-text, of-empty, of-sequence, of-choice, of-list}
 use Rattle.measuring.specs.Measured.{typeAhead}
 use Rattle.measuring.proofs.Edges.{HasEdge, in-sequence, in-choice, in-list}
 
@@ -74,7 +74,7 @@ module _ (S : Table) where
   left-all (list m) exist h = left-list (exist m (List·Memᴰ·head refl)) h
 
   -- the first child of a choice is a member
-  pub first-chosen : (κ : Kind) {k : Content} → Holds S κ k → Chosen (firstIn k) κ
+  pub first-chosen : (κ : Kind) {k : Content} → Holds S κ k → FirstChild (firstIn k) κ
   unfolding firstIn
   first-chosen text h = of-text
   first-chosen empty h = of-empty

@@ -9,8 +9,8 @@ use Rattle.model.specs.Definitions.Content.{Content, end, char, elem, bytes}
 use Rattle.model.specs.Definitions.Embedding.{pathsOf}
 use Rattle.model.specs.Definitions.Image.{Setting}
 use Rattle.model.specs.Definitions.Templates.{firstIn, around, depthOf, ownLength, ownFiller, ownLevels, itemLength, itemFiller, itemLevels, sumLength, sumFiller, deepest}
-use Rattle.scanning.specs.Scanning.{At}
-use Rattle.scanning.specs.Laws.{content-within, element-first, character-first, end-first, Opens, opens, opens-next, letters, ends}
+use Rattle.scanning.specs.Scanning.{ContentAt}
+use Rattle.scanning.specs.Laws.{content-within, element-first, character-first, end-first, OpensElement, opens, opens-next, letters, ends}
 use Rattle.measuring.specs.Measured.{Held, Measured}
 use Rattle.measuring.proofs.Content.{ContentLeft, ChildLeft, child-of, after-letter}
 
@@ -96,7 +96,7 @@ module _ (X : Setting) (s : ℕ) where
 -- the whole; the content ends at `close`
 pub record Counted (X : Setting) (s : ℕ) (tr : List ℕ) (k : Content) (close o i high long fill : ℕ) : Type 0 where
   pub left : Content
-  pub here : At tr o left
+  pub here : ContentAt tr o left
   pub fit : ContentLeft (X .source) (kindOf (X .source) s) i left
   pub closes : o + length (bytes left) ≡ close
   pub levels-left : min 60001 (max high (deepest X s i left)) ≡ min 60001 (max (ownLevels X s (firstIn k)) (deepest X s 0 k))
@@ -117,7 +117,7 @@ module _ {X : Setting} {s : ℕ} {tr : List ℕ} {k : Content} {close o i high l
   pub counted-opens : (getD tr o 0 ≡ 0x31 → ⊥) → (getD tr o 0 ≡ 0x32 → ⊥) → getD tr o 0 ≡ 0x30
   counted-opens other another = go (now .left) (now .here)
     where
-      go : (l : Content) → At tr o l → getD tr o 0 ≡ 0x30
+      go : (l : Content) → ContentAt tr o l → getD tr o 0 ≡ 0x30
       go end a = absurd (another (end-first a))
       go (char c r) a = absurd (other (character-first a))
       go (elem t l r) a = element-first a
@@ -164,7 +164,7 @@ module _ {X : Setting} {s : ℕ} {tr : List ℕ} {k : Content} {close o i high l
       )
 
   module _ (first : getD tr o 0 ≡ 0x30) where
-    abbrev pub opened : Opens tr o (now .left) (now .here .rest)
+    abbrev pub opened : OpensElement tr o (now .left) (now .here .rest)
     opened = opens (now .left) (now .here) first
 
     -- a child: it exists, conforms, and has an edge
@@ -200,7 +200,7 @@ module _ {X : Setting} {s : ℕ} {tr : List ℕ} {k : Content} {close o i high l
           let short = ap (λ (x : Content). length (bytes x)) (opened .is) ∙ child-length (opened .type) (opened .inside) (opened .next) in
           record {
             left = opened .next;
-            here = subst (λ (p : ℕ). At tr (p + 1) (opened .next)) (sym stops) (opens-next opened);
+            here = subst (λ (p : ℕ). ContentAt tr (p + 1) (opened .next)) (sym stops) (opens-next opened);
             fit = counted-child .rest;
             closes = omega (arith, short, stops, now .closes);
             levels-left = levels-next ∙ now .levels-left;

@@ -12,7 +12,7 @@ use Rattle.model.specs.Definitions.Templates.{firstIn, around, ownLength, ownFi
 use Rattle.loaded_table.specs.Loaded.{tableBy, length-of}
 use Rattle.loaded_embedding.specs.Loaded.{lengthsOf}
 use Rattle.loaded_setting.specs.Ready.{settingIn}
-use Rattle.scanning.specs.Scanning.{At}
+use Rattle.scanning.specs.Scanning.{ContentAt}
 use Rattle.scanning.specs.Laws.{content-within}
 use Rattle.rows.specs.Rows.{levelsIn, bytesIn, fillerIn, sourceRow, itemRow, SizeAt}
 use Rattle.measuring.specs.Measured.{edgeNumber, typeAhead, Held, Given, Measured}
@@ -88,7 +88,7 @@ module _ {source map sizes tr : List ℕ} {s from : ℕ} where
       }
 
   module _ {first row high long fill : ℕ}
-      (firsts : (k : Content) → At tr from k → first ≡ typeAhead k)
+      (firsts : (k : Content) → ContentAt tr from k → first ≡ typeAhead k)
       (is-row : row ≡ sourceRow (tableBy source) s first)
       (is-high : high ≡ levelsIn sizes row)
       (is-long : long ≡ bytesIn sizes row)

@@ -8,7 +8,7 @@ use Rattle.model.specs.Definitions.Templates.{firstIn, ownLength, ownLevels, su
 use Rattle.model.specs.Theorems.TemplateSizes.{image-length-rows, image-filler-rows, image-levels-rows}
 use Rattle.loaded_table.specs.Loaded.{length-of}
 use Rattle.loaded_setting.specs.Ready.{settingIn}
-use Rattle.scanning.specs.Scanning.{At}
+use Rattle.scanning.specs.Scanning.{ContentAt}
 use Rattle.scanning.specs.Laws.{root-at}
 use Rattle.measuring.specs.Measured.{Held, Given, Measured, Measurable, ImageSize}
 
@@ -31,7 +31,7 @@ module _ {source map sizes tr : List ℕ} (m : Measurable source map sizes tr) w
         bounded = m .ready .source-bounded;
         exists = omega (arith, length-of source, m .ready .valid .source-sound .well-formed .has-root);
         held = contentOf tr;
-        there = subst (λ (l : List ℕ). At l 2 (contentOf tr)) (sym (m .is-document)) (root-at 0 (contentOf tr));
+        there = subst (λ (l : List ℕ). ContentAt l 2 (contentOf tr)) (sym (m .is-document)) (root-at 0 (contentOf tr));
         holds = m .holds;
       }
 

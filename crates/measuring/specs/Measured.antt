@@ -10,7 +10,7 @@ use Rattle.model.specs.Definitions.Templates.{firstIn, ownLength, ownFiller, ow
 use Rattle.model.specs.Theorems.Facts.{WellFormed}
 use Rattle.loaded_table.specs.Loaded.{Bounded, tableBy, typesIn}
 use Rattle.loaded_setting.specs.Ready.{settingIn, Ready}
-use Rattle.scanning.specs.Scanning.{At}
+use Rattle.scanning.specs.Scanning.{ContentAt}
 use Rattle.rows.specs.Rows.{rowIndex, Sizes}
 
 -- the number of the edge of child number i, of type t: a sequence has one for each child, a choice one for each member
@@ -42,7 +42,7 @@ pub record Given (source map sizes tr : List ℕ) (s from : ℕ) : Type 0 where
   pub bounded : Bounded source
   pub exists : s < typesIn source
   pub held : Content
-  pub there : At tr from held
+  pub there : ContentAt tr from held
   pub holds : Holds (tableBy source) (kindOf (tableBy source) s) held
 
 -- the size of what the image of an element of type s that holds k holds, each number held at 60,001

@@ -1,17 +1,18 @@
 // The measure of an image by the sizes of prepared templates: levels, bytes and bytes of filler, in one pass over the source
 // document. No path is looked at, and nothing is built.
 ghost use mathlib.Core.Path.{_≡_};
-ghost use Prim.Native.Nat.{_+_, _*_, _<_, min, max};
+ghost use Prim.Native.Nat.{_+_, _*_, _<_, max};
 ghost use lib.ListN.{length, getD};
 ghost use Rattle.model.specs.Definitions.Table.{kindOf};
 ghost use Rattle.model.specs.Definitions.Content.{Content, bytes, contentOf};
 ghost use Rattle.model.specs.Definitions.Templates.{around};
-ghost use Rattle.loaded_table.specs.Loaded.{Bounded, tableBy, typesIn};
+ghost use Rattle.loaded_table.specs.Loaded.{Bounded, tableBy, typesIn, heldLength};
 ghost use Rattle.loaded_embedding.specs.Loaded.{lengthsOf};
 ghost use Rattle.loaded_setting.specs.Ready.{settingIn};
-ghost use Rattle.scanning.specs.Scanning.{At};
+ghost use Rattle.scanning.specs.Scanning.{ContentAt};
 ghost use Rattle.rows.specs.Rows.{levelsIn, bytesIn, fillerIn, itemRow};
 ghost use Rattle.measuring.specs.Measured.{edgeNumber, typeAhead, Held, Given, Measured, Measurable, ImageSize};
+ghost use Rattle.model.specs.Definitions.TableChecks.{maxMembers};
 use codes::CHARACTER;
 use codes::CLOSES;
 use codes::MAX_MEMBERS;
@@ -34,7 +35,7 @@ fn wide(x: u8) -> usize
 
 // A number held at 60,001.
 fn held(n: usize) -> usize
-    ensures { λ r. ⌜ r ≡ min 60001 n ⌝ }
+    ensures { λ r. ⌜ r ≡ heldLength n ⌝ }
 {
     if n < OVER_BYTES { n } else { OVER_BYTES }
 }
@@ -49,7 +50,7 @@ fn larger(a: usize, b: usize) -> usize
 // A size with one character more.
 fn with_character(size: Size) -> Size
     requires { ⌜ Held (size .levels) (size .bytes) (size .filler) ⌝ }
-    ensures { λ r. ⌜ (r .levels ≡ size .levels) × (r .bytes ≡ min 60001 (size .bytes + 2)) × (r .filler ≡ size .filler) ⌝ }
+    ensures { λ r. ⌜ (r .levels ≡ size .levels) × (r .bytes ≡ heldLength (size .bytes + 2)) × (r .filler ≡ size .filler) ⌝ }
 {
     Size {
         levels: size.levels,
@@ -62,9 +63,9 @@ fn with_character(size: Size) -> Size
 // stands around it.
 fn with_child(size: Size, around: Size, depth: usize, inner: Size) -> Size
     requires { ⌜ Held (size .levels) (size .bytes) (size .filler) × Held (around .levels) (around .bytes) (around .filler) × Held (inner .levels) (inner .bytes) (inner .filler) × (depth < 65536) ⌝ }
-    ensures levels { λ r. ⌜ r .levels ≡ max (size .levels) (max (around .levels) (min 60001 (depth + inner .levels))) ⌝ }
-    ensures bytes { λ r. ⌜ r .bytes ≡ min 60001 (size .bytes + around .bytes + inner .bytes) ⌝ }
-    ensures filler { λ r. ⌜ r .filler ≡ min 60001 (size .filler + around .filler + inner .filler) ⌝ }
+    ensures levels { λ r. ⌜ r .levels ≡ max (size .levels) (max (around .levels) (heldLength (depth + inner .levels))) ⌝ }
+    ensures bytes { λ r. ⌜ r .bytes ≡ heldLength (size .bytes + around .bytes + inner .bytes) ⌝ }
+    ensures filler { λ r. ⌜ r .filler ≡ heldLength (size .filler + around .filler + inner .filler) ⌝ }
 {
     let below = held(depth + inner.levels);
     let deeper = larger(around.levels, below);
@@ -77,8 +78,8 @@ fn with_child(size: Size, around: Size, depth: usize, inner: Size) -> Size
 
 // The type of the element that content begins with at `from`; 0 where it begins with none.
 fn type_ahead(tr: &[u8], from: usize) -> usize
-    requires { ⌜ ((k : Content) × At (now tr) from k) ⌝ }
-    ensures { λ r. ⌜ ((k : Content) → At (now (tr .entry)) from k → r ≡ typeAhead k) ⌝ }
+    requires { ⌜ ((k : Content) × ContentAt (now tr) from k) ⌝ }
+    ensures { λ r. ⌜ ((k : Content) → ContentAt (now (tr .entry)) from k → r ≡ typeAhead k) ⌝ }
 {
     if tr[from] == OPENS {
         return wide(tr[from + 1]);
@@ -126,8 +127,8 @@ fn child_depth<'a>(
     t: usize,
 ) -> usize
     requires bounded { ⌜ Bounded (now source) ⌝ }
-    requires { ⌜ (s < typesIn (now source)) × (edgeNumber (kindOf (tableBy (now source)) s) i t < 16) ⌝ }
-    ensures { λ r. ⌜ (r ≡ getD (lengthsOf (now (map .entry))) (s * 16 + edgeNumber (kindOf (tableBy (now (source .entry))) s) i t) 0) × (r < 65536) ⌝ }
+    requires { ⌜ (s < typesIn (now source)) × (edgeNumber (kindOf (tableBy (now source)) s) i t < maxMembers) ⌝ }
+    ensures { λ r. ⌜ (r ≡ getD (lengthsOf (now (map .entry))) (s * maxMembers + edgeNumber (kindOf (tableBy (now (source .entry))) s) i t) 0) × (r < 65536) ⌝ }
 {
     let edge = edge_of(source, s, i, t);
     loaded_embedding::steps(map, s * MAX_MEMBERS + edge)

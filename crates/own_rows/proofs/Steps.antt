@@ -13,11 +13,11 @@ use Rattle.model.specs.Definitions.Table.{Kind, text, empty, choice, list, kind
 use Rattle.model.specs.Definitions.Image.{isPlaced}
 use Rattle.model.specs.Definitions.Templates.{Symbol, gap, rowOf, fillerRow, holesOf}
 use Rattle.loaded_table.specs.Loaded.{tableBy, typesIn, kindsOf, countsOf, membersIn, length-of}
-use Rattle.loaded_embedding.specs.Loaded.{Bounded, targetsOf}
+use Rattle.loaded_embedding.specs.Loaded.{PathsBounded, targetsOf}
 use Rattle.loaded_setting.specs.Ready.{settingIn, Ready}
 use Rattle.paths.specs.Following.{pathsFrom}
 use Rattle.paths.specs.Edges.{target-is, kind-is, is-sequence, row-edges, is-choice, row-length, few}
-use Rattle.rows.specs.Rows.{indexIn, rowIndex, sourceRow, itemRow, Chosen, of-choice, HasRow, HasRows, IsWord, typeRow, rowsBefore}
+use Rattle.rows.specs.Rows.{indexIn, rowIndex, sourceRow, itemRow, FirstChild, of-choice, HasRow, HasRows, IsWord, typeRow, rowsBefore}
 use Rattle.rows.specs.Laws.{row-of-other, code-list, entry-there}
 use Rattle.growing.specs.declared.Edges.{Edges}
 use Rattle.growing.specs.Growing.{placementsFrom, placementsOf, Task, elementRow, stepBound}
@@ -27,7 +27,7 @@ use Rattle.filler_rows.specs.Laws.{whole-more}
 use Rattle.own_rows.specs.Making.{edgePlacements, EdgesFrom, OwnEdges, heldRow, edgeRoom}
 use Rattle.own_rows.specs.Bounds.{weight}
 use Rattle.own_rows.specs.Short.{edges-room, edges-gaps, element-short}
-use Rattle.own_rows.specs.Wanted.{Wanted, of-filler, of-type, of-item, Done, done-filler, done-more, done-past, wanted-type}
+use Rattle.own_rows.specs.Wanted.{Wanted, of-filler, of-type, of-item, RowsDone, done-filler, done-more, done-past, wanted-type}
 use Rattle.own_rows.specs.Holes.{text-holes, empty-holes, sequence-holes, choice-holes, type-task, type-template}
 use Rattle.own_rows.specs.Progress.{Progress}
 use Rattle.own_rows.specs.Laws.{room-split}
@@ -40,7 +40,7 @@ unfolding elementRow placementsFrom isPlaced rowOf
 element-bare target em e n t none = rw none refl
 
 -- the row of an element takes no more than its edges have room
-element-fits : {target em map : List ℕ} {e : Edges} {first hole n t : ℕ} → Task target em e stepBound t → Bounded em map → EdgesFrom map first hole n e → (w : ℕ) → n ≤ w → 0 < w
+element-fits : {target em map : List ℕ} {e : Edges} {first hole n t : ℕ} → Task target em e stepBound t → PathsBounded em map → EdgesFrom map first hole n e → (w : ℕ) → n ≤ w → 0 < w
     → length (elementRow target em e stepBound t) ≤ edgeRoom map first w
 element-fits {target} {em} {map} {e} {first} {hole} {n} {t} task bounded edges w less wide = go (eqb (e .count) 0) refl
   where
@@ -86,7 +86,7 @@ index-is ms distinct j less =
     let low = index-within ms j less in
     omega (arith, distinct (suc (indexIn (getD ms j 0) ms)) (suc j) (getD ms j 0) (index-entry (getD ms j 0) ms (omega (arith, low))) (entry-there ms j less))
 
-chosen-less : {t : ℕ} {ms : List ℕ} → Chosen t (choice ms) → indexIn t ms < length ms
+chosen-less : {t : ℕ} {ms : List ℕ} → FirstChild t (choice ms) → indexIn t ms < length ms
 chosen-less (of-choice less) = less
 
 -- ---- rows
@@ -94,7 +94,7 @@ chosen-less (of-choice less) = less
 -- the first j rows of source type s are made; the edges from its edge k on still have their room
 pub record Partly (source target map em pool₀ places₀ : List ℕ) (s j k : ℕ) (pool places : List ℕ) (at : ℕ) : Type 0 where
   pub whole : Whole pool₀ places₀ pool places at
-  pub done : Done (settingIn source target map em) (typeRow s j) pool places at
+  pub done : RowsDone (settingIn source target map em) (typeRow s j) pool places at
   pub room : at + edgeRoom map (s * 16 + k) (16 - k) + edgeRoom map (suc s * 16) ((typesIn source - suc s) * 16) ≤ length pool₀
 
 -- these are the paths of row j of source type s, with room of w edges from edge k on
@@ -117,7 +117,7 @@ module _ {source target map em : List ℕ} (ready : Ready source target map em) 
   HolesAre first hole n t = edgePlacements em map first hole n ≡ holesOf gap (tableBy target) κ τ (pathsFrom em map (s * 16) (edgesOf κ)) t
 
   edges-placed : {j k w : ℕ} {e : Edges} {first hole n : ℕ} → j < 16 → EdgesFrom map first hole n e → first ≡ s * 16 + k → n ≤ w → 0 < w
-      → (t₀ : ℕ) → HolesAre first hole n t₀ → ((t : ℕ) → Chosen t κ → rowIndex κ t ≡ j → HolesAre first hole n t) → RowEdges source target map em s j k w e
+      → (t₀ : ℕ) → HolesAre first hole n t₀ → ((t : ℕ) → FirstChild t κ → rowIndex κ t ≡ j → HolesAre first hole n t) → RowEdges source target map em s j k w e
   edges-placed {j} {k} {w} {e} {first} {hole} {n} less edges where-first few wide t₀ holes each =
       let are = edges .placements em (ready .paths-bounded) in
       let task : Task target em e stepBound τ = type-task ready exists t₀ e (are ∙ holes) (edges .readable em (ready .paths-bounded)) in
@@ -175,13 +175,13 @@ module _ {source target map em : List ℕ} (ready : Ready source target map em) 
             choice-holes em map (tableBy target) τ (s * 16) t ms (omega (arith, at, row-length ready exists)) in
             rw (is-choice ready exists code, ← at) all
 
-    pub choice-small : (t : ℕ) → Chosen t κ → rowIndex κ t < getD (countsOf source) s 0
+    pub choice-small : (t : ℕ) → FirstChild t κ → rowIndex κ t < getD (countsOf source) s 0
     unfolding rowIndex
     choice-small t chosen =
-        let chosen′ : Chosen t (choice ms) = rw (is-choice ready exists code) at chosen in
+        let chosen′ : FirstChild t (choice ms) = rw (is-choice ready exists code) at chosen in
         rw (is-choice ready exists code) (omega (arith, chosen-less chosen′, row-length ready exists))
 
-  pub own-small : (getD (kindsOf source) s 0 ≡ 3 → ⊥) → (t : ℕ) → Chosen t κ → rowIndex κ t < 1
+  pub own-small : (getD (kindsOf source) s 0 ≡ 3 → ⊥) → (t : ℕ) → FirstChild t κ → rowIndex κ t < 1
   own-small other t chosen = omega (arith, ap (λ (k : Kind). rowIndex k t) (kind-is ready exists), row-of-other t (getD (kindsOf source) s 0) (getD (countsOf source) s 0) (drop (s * 16) (membersIn source)) other)
 
   -- ---- from type to type
@@ -245,7 +245,7 @@ module _ {source target map em : List ℕ} (ready : Ready source target map em) 
           row-more made = partly-more (rw (is-target, is-row) at (made .0)) (rw is-target at (made .1))
 
       -- nobody wants a later row of the type
-      pub progress-end : ((t : ℕ) → Chosen t κ → rowIndex κ t < j) → getD (kindsOf source) s 0 < 4 → Progress source target map em pool₀ places₀ (s + 1) pool places at
+      pub progress-end : ((t : ℕ) → FirstChild t κ → rowIndex κ t < j) → getD (kindsOf source) s 0 < 4 → Progress source target map em pool₀ places₀ (s + 1) pool places at
       unfolding sourceRow itemRow
       progress-end small own =
           let on : s + 1 ≡ suc s = omega arith in

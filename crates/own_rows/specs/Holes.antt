@@ -24,7 +24,7 @@ use Rattle.paths.specs.Following.{pathAt, pathsFrom}
 use Rattle.paths.specs.Edges.{target-is, paths-are}
 use Rattle.rows.specs.Rows.{indexIn, holeOf}
 use Rattle.growing.specs.declared.Edges.{Edges}
-use Rattle.growing.specs.Growing.{placementOf, placementsOf, Readable, Task, stepBound}
+use Rattle.growing.specs.Growing.{placementOf, placementsOf, PathsReadable, Task, stepBound}
 use Rattle.own_rows.specs.Making.{edgePlacements, heldRow}
 
 -- ---- holes
@@ -95,7 +95,7 @@ module _ {source target map em : List ℕ} (ready : Ready source target map em) 
   placed-are : placementsOf em e ≡ holesOf gap (X .target) (kindOf (X .source) s) (targetOf (X .embedding) s) (pathsOf (X .embedding) s) t
   placed-are = rw (target-is ready exists, paths-are ready exists) holes
 
-  pub type-task : Readable em e → Task target em e stepBound (getD (targetsOf map) s 0)
+  pub type-task : PathsReadable em e → Task target em e stepBound (getD (targetsOf map) s 0)
   type-task readable =
       let fits : Fits (X .target) stepBound (targetOf (X .embedding) s) (holesOf gap (X .target) (kindOf (X .source) s) (targetOf (X .embedding) s) (pathsOf (X .embedding) s) t) =
       holes-fit shaped X (targetOf (X .embedding) s) t gap (ready .valid .edges s in-source) in

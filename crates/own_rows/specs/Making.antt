@@ -7,9 +7,9 @@ use Rattle.model.specs.Definitions.Filler.{fillers}
 use Rattle.model.specs.Definitions.Image.{Placement, place}
 use Rattle.model.specs.Definitions.Templates.{Shape, shaped, Symbol, rowOf}
 use Rattle.loaded_table.specs.Loaded.{tableBy, kindsOf, countsOf}
-use Rattle.loaded_embedding.specs.Loaded.{startsOf, lengthsOf, Bounded}
+use Rattle.loaded_embedding.specs.Loaded.{startsOf, lengthsOf, PathsBounded}
 use Rattle.growing.specs.declared.Edges.{Edges}
-use Rattle.growing.specs.Growing.{placementOf, placementsOf, Readable}
+use Rattle.growing.specs.Growing.{placementOf, placementsOf, PathsReadable}
 
 -- what stands along the paths of n edges from a place on, the holes having the numbers from h on
 unfoldable pub edgePlacements : List ℕ → List ℕ → ℕ → ℕ → ℕ → List (Placement Shape)
@@ -19,8 +19,8 @@ edgePlacements em map i h (suc n) = placementOf em (getD (startsOf map) i 0 + 2)
 -- these are the paths, in every document within which they stand
 pub record EdgesFrom (map : List ℕ) (first hole count : ℕ) (r : Edges) : Type 0 where
   pub many : r .count ≡ count
-  pub readable : (em : List ℕ) → Bounded em map → Readable em r
-  pub placements : (em : List ℕ) → Bounded em map → placementsOf em r ≡ edgePlacements em map first hole count
+  pub readable : (em : List ℕ) → PathsBounded em map → PathsReadable em r
+  pub placements : (em : List ℕ) → PathsBounded em map → placementsOf em r ≡ edgePlacements em map first hole count
 
 -- the paths of a source type that is a text, empty or a sequence
 pub record OwnEdges (source map : List ℕ) (s : ℕ) (r : Edges) : Type 0 where

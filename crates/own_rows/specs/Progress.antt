@@ -8,12 +8,12 @@ use Rattle.loaded_setting.specs.Ready.{settingIn, Ready}
 use Rattle.rows.specs.Rows.{HasRows, IsWord, rowsBefore}
 use Rattle.filler_rows.specs.Storing.{Whole}
 use Rattle.own_rows.specs.Making.{edgeRoom}
-use Rattle.own_rows.specs.Wanted.{Done}
+use Rattle.own_rows.specs.Wanted.{RowsDone}
 
 -- they stand before place `at`, and there is room for those of the other types
 pub record Progress (source target map em pool₀ places₀ : List ℕ) (s : ℕ) (pool places : List ℕ) (at : ℕ) : Type 0 where
   pub whole : Whole pool₀ places₀ pool places at
-  pub done : Done (settingIn source target map em) (rowsBefore s) pool places at
+  pub done : RowsDone (settingIn source target map em) (rowsBefore s) pool places at
   pub room : at + edgeRoom map (s * 16) ((typesIn source - s) * 16) ≤ length pool₀
 
 -- the rows of source type s can be made: the setting is ready, s is one of its types, and the pool and the places are large enough
@@ -28,6 +28,6 @@ pub few-of-type : {source target map em pool places : List ℕ} {s : ℕ} → Ma
 few-of-type {s = s} can = (omega (arith, can .exists, can .ready .source-bounded .few-types), can .ready .source-bounded .few-members s)
 
 -- and they are the next to be made, at place `at`
-pub record Next (source target map em pool places : List ℕ) (s at : ℕ) : Type 0 where
+pub record NextToMake (source target map em pool places : List ℕ) (s at : ℕ) : Type 0 where
   pub makeable : Makeable source target map em pool places s
   pub progress : Progress source target map em pool places s pool places at

@@ -4,12 +4,14 @@ ghost use Prim.Native.Nat.{ℕ, _+_, _*_, _≤_, _<_};
 ghost use lib.ListN.{length, getD};
 ghost use Rattle.model.specs.Definitions.Templates.{fillerRow};
 ghost use Rattle.loaded_table.specs.Loaded.{tableBy, kindsOf, countsOf};
-ghost use Rattle.loaded_embedding.specs.Loaded.{startsOf, lengthsOf};
+ghost use Rattle.loaded_embedding.specs.Loaded.{startsOf, lengthsOf, edgePlaces};
 ghost use Rattle.growing.specs.Growing.{push, Task, elementRow, stepBound};
 ghost use Rattle.filler_rows.specs.Storing.{Stored, RowMade};
 ghost use Rattle.own_rows.specs.Making.{EdgesFrom, OwnEdges, heldRow};
-ghost use Rattle.own_rows.specs.Progress.{Progress, Next};
+ghost use Rattle.own_rows.specs.Progress.{Progress, NextToMake};
 ghost use Rattle.rows.specs.Rows.{HasRow, IsWord};
+ghost use Rattle.model.specs.Definitions.TableChecks.{maxMembers, maxTypes};
+ghost use Rattle.model.specs.Definitions.EmbeddingChecks.{maxSteps};
 use codes::MAX_MEMBERS;
 use codes::MAX_STEPS;
 use codes::MAX_TYPES;
@@ -29,7 +31,7 @@ use rows::TYPE_ROWS;
 
 // One path more: that of the edge at a place of the embedding, to a hole.
 fn with_edge(map: &[u16; MAP], e: Edges, edge: usize, hole: u8) -> Edges
-    requires { ⌜ (e .count < 16) × (edge < 1024) × (getD (lengthsOf (now map)) edge 0 ≤ 12) ⌝ }
+    requires { ⌜ (e .count < maxMembers) × (edge < edgePlaces) × (getD (lengthsOf (now map)) edge 0 ≤ maxSteps) ⌝ }
     ensures { λ r. ⌜ r ≡ push e (getD (startsOf (now (map .entry))) edge 0 + 2) (getD (lengthsOf (now (map .entry))) edge 0) hole ⌝ }
 {
     let start = loaded_embedding::start(map, edge);
@@ -39,8 +41,8 @@ fn with_edge(map: &[u16; MAP], e: Edges, edge: usize, hole: u8) -> Edges
 
 // The paths of `count` edges from a place on, to the holes from a number on.
 fn edges(map: &[u16; MAP], first: usize, hole: u8, count: usize) -> Edges
-    requires { ⌜ (count ≤ 16) × (first + count ≤ 1024) × (hole + count ≤ 146) × (128 ≤ hole) ⌝ }
-    requires short { ⌜ ((i : ℕ) → getD (lengthsOf (now map)) i 0 ≤ 12) ⌝ }
+    requires { ⌜ (count ≤ maxMembers) × (first + count ≤ edgePlaces) × (hole + count ≤ 146) × (128 ≤ hole) ⌝ }
+    requires short { ⌜ ((i : ℕ) → getD (lengthsOf (now map)) i 0 ≤ maxSteps) ⌝ }
     ensures { λ r. ⌜ EdgesFrom (now (map .entry)) first hole count r ⌝ }
 {
     let mut e = no_edges();
@@ -83,8 +85,8 @@ pub fn own_row(
 
 // The paths of the edges of a source type that is a text, empty or a sequence.
 fn own_edges(source: &[u16; TABLE], map: &[u16; MAP], s: usize) -> Edges
-    requires { ⌜ (s < 64) × (getD (countsOf (now source)) s 0 ≤ 16) ⌝ }
-    requires short { ⌜ ((i : ℕ) → getD (lengthsOf (now map)) i 0 ≤ 12) ⌝ }
+    requires { ⌜ (s < maxTypes) × (getD (countsOf (now source)) s 0 ≤ maxMembers) ⌝ }
+    requires short { ⌜ ((i : ℕ) → getD (lengthsOf (now map)) i 0 ≤ maxSteps) ⌝ }
     ensures { λ r. ⌜ OwnEdges (now (source .entry)) (now (map .entry)) s r ⌝ }
 {
     let first = s * MAX_MEMBERS;
@@ -110,7 +112,7 @@ fn choice_rows(
     places: &mut [u32],
     at: usize,
 ) -> usize
-    requires next { ⌜ Next (now source) (now target) (now map) (now em) (now pool) (now places) s at ⌝ }
+    requires next { ⌜ NextToMake (now source) (now target) (now map) (now em) (now pool) (now places) s at ⌝ }
     requires { ⌜ getD (kindsOf (now source)) s 0 ≡ 3 ⌝ }
     ensures { λ r. ⌜ Progress (now (source .entry)) (now (target .entry)) (now (map .entry)) (now (em .entry)) (now (pool .entry)) (now (places .entry)) (s + 1) (now (pool .exit)) (now (places .exit)) r ⌝ }
 {
@@ -146,7 +148,7 @@ pub fn own_rows(
     places: &mut [u32],
     at: usize,
 ) -> usize
-    requires next { ⌜ Next (now source) (now target) (now map) (now em) (now pool) (now places) s at ⌝ }
+    requires next { ⌜ NextToMake (now source) (now target) (now map) (now em) (now pool) (now places) s at ⌝ }
     requires { ⌜ getD (kindsOf (now source)) s 0 < 4 ⌝ }
     ensures { λ r. ⌜ Progress (now (source .entry)) (now (target .entry)) (now (map .entry)) (now (em .entry)) (now (pool .entry)) (now (places .entry)) (s + 1) (now (pool .exit)) (now (places .exit)) r ⌝ }
 {

@@ -8,10 +8,10 @@ use Rattle.model.specs.Definitions.Table.{kindOf}
 use Rattle.model.specs.Definitions.Templates.{Symbol}
 use Rattle.loaded_table.specs.Loaded.{typesIn, tableBy, length-of}
 use Rattle.loaded_setting.specs.Ready.{settingIn, Ready}
-use Rattle.rows.specs.Rows.{Rows, sourceRow, itemRow, Chosen, HasRows, rowsBefore}
+use Rattle.rows.specs.Rows.{Rows, sourceRow, itemRow, FirstChild, HasRows, rowsBefore}
 use Rattle.row_sizes.specs.Sizes.{source-row-small}
 use Rattle.filler_rows.specs.Storing.{Sound, FillersStored, Stored, Whole}
-use Rattle.own_rows.specs.Wanted.{Wanted, of-filler, of-type, of-item, Done}
+use Rattle.own_rows.specs.Wanted.{Wanted, of-filler, of-type, of-item, RowsDone}
 use Rattle.own_rows.specs.Progress.{Progress}
 use Rattle.preparing.specs.Preparing.{roomOf}
 
@@ -24,7 +24,7 @@ filler-room source target map room = omega (arith, room)
 
 -- rows of filler are the first
 done-fillers : {source target map em pool₀ places₀ pool places : List ℕ} {at : ℕ} → Ready source target map em
-    → FillersStored target pool₀ places₀ (typesIn target) pool places at → Done (settingIn source target map em) 64 pool places at
+    → FillersStored target pool₀ places₀ (typesIn target) pool places at → RowsDone (settingIn source target map em) 64 pool places at
 unfolding sourceRow itemRow
 done-fillers {source} {target} {map} {em} {pool₀} {places₀} {pool} {places} {at} ready fillers = record { stored = λ r row d wanted less. go r row d wanted less }
   where
@@ -35,7 +35,7 @@ done-fillers {source} {target} {map} {em} {pool₀} {places₀} {pool} {places} 
 
 -- all rows are done
 done-all : {source target map em pool₀ places₀ pool places : List ℕ} {at : ℕ} → Ready source target map em → HasRows places₀ (typesIn source)
-    → Whole pool₀ places₀ pool places at → Done (settingIn source target map em) (rowsBefore (typesIn source)) pool places at → Rows (settingIn source target map em) pool places
+    → Whole pool₀ places₀ pool places at → RowsDone (settingIn source target map em) (rowsBefore (typesIn source)) pool places at → Rows (settingIn source target map em) pool places
 unfolding itemRow
 done-all {source} {target} {map} {em} {pool₀} {places₀} {pool} {places} {at} ready long whole done =
     record {
@@ -48,7 +48,7 @@ done-all {source} {target} {map} {em} {pool₀} {places₀} {pool} {places} {at}
       item-depth = λ s m exists kind. done .stored _ _ _ (of-item s m exists kind refl refl refl) (omega (arith, exists, length-of source)) .depth;
     }
   where
-    own-small : (s t : ℕ) → s < length (tableBy source) → Chosen t (kindOf (tableBy source) s) → sourceRow (tableBy source) s t < rowsBefore (typesIn source)
+    own-small : (s t : ℕ) → s < length (tableBy source) → FirstChild t (kindOf (tableBy source) s) → sourceRow (tableBy source) s t < rowsBefore (typesIn source)
     own-small s t exists chosen = source-row-small (ready .source-bounded) s t (omega (arith, exists, length-of source)) chosen
 
 module _ {source target map em : List ℕ} where

@@ -5,8 +5,9 @@ ghost use lib.ListN.{length};
 ghost use Rattle.loaded_table.specs.Loaded.{typesIn};
 ghost use Rattle.loaded_setting.specs.Ready.{settingIn, Ready};
 ghost use Rattle.rows.specs.Rows.{toOf, Rows, HasRows, IsWord};
-ghost use Rattle.own_rows.specs.Progress.{Progress, Next};
+ghost use Rattle.own_rows.specs.Progress.{Progress, NextToMake};
 ghost use Rattle.preparing.specs.Preparing.{roomOf};
+ghost use Rattle.model.specs.Definitions.TableChecks.{maxTypes};
 use codes::MAX_MEMBERS;
 use filler_rows::filler_rows;
 use list_rows::list_rows;
@@ -23,7 +24,7 @@ pub const EDGE_ROOM: usize = 4;
 // How long a pool has to be for the rows of a setting: 16 places for each target type, and for each place of an edge 18 times its
 // steps and 4.
 pub fn room(source: &[u16; TABLE], target: &[u16; TABLE], map: &[u16; MAP]) -> usize
-    requires { ⌜ typesIn (now source) ≤ 64 ⌝ }
+    requires { ⌜ typesIn (now source) ≤ maxTypes ⌝ }
     ensures { λ r. ⌜ r ≡ roomOf (now (source .entry)) (now (target .entry)) (now (map .entry)) ⌝ }
 {
     let all = loaded_table::types(source) * MAX_MEMBERS;
@@ -47,7 +48,7 @@ fn type_rows(
     places: &mut [u32],
     at: usize,
 ) -> usize
-    requires next { ⌜ Next (now source) (now target) (now map) (now em) (now pool) (now places) s at ⌝ }
+    requires next { ⌜ NextToMake (now source) (now target) (now map) (now em) (now pool) (now places) s at ⌝ }
     ensures { λ r. ⌜ Progress (now (source .entry)) (now (target .entry)) (now (map .entry)) (now (em .entry)) (now (pool .entry)) (now (places .entry)) (s + 1) (now (pool .exit)) (now (places .exit)) r ⌝ }
 {
     let kind = loaded_table::kind(source, s);

@@ -13,7 +13,7 @@ use Rattle.model.specs.Theorems.Facts.{All, all-none, all-more}
 use Rattle.model.specs.Theorems.Templates.{TypeBelow, template-types, item-types}
 use Rattle.loaded_table.specs.Loaded.{Bounded, Kept, tableBy, typesIn, kindsOf, countsOf, membersIn, length-of, kind-of}
 use Rattle.loaded_setting.specs.Ready.{settingIn, Ready}
-use Rattle.rows.specs.Rows.{rowIndex, sourceRow, itemRow, Chosen, of-text, of-empty, of-sequence, of-choice, of-list, Rows, SizeAt, Sizes, HasRows, typeRow, rowsBefore}
+use Rattle.rows.specs.Rows.{rowIndex, sourceRow, itemRow, FirstChild, of-text, of-empty, of-sequence, of-choice, of-list, Rows, SizeAt, Sizes, HasRows, typeRow, rowsBefore}
 use Rattle.rows.specs.Laws.{code-choice}
 use Rattle.row_sizes.specs.Sizing.{heightAt, fillAt, Sized}
 
@@ -56,7 +56,7 @@ module _ {target : List ℕ} {T : Table} (kept : Kept target T) where
         filler-is = at .filler-is ∙ filler-same row types;
       }
 
-index-small : (κ : Kind) (t : ℕ) → ((ms : List ℕ) → κ ≡ choice ms → length ms ≤ 16) → Chosen t κ → rowIndex κ t < 16
+index-small : (κ : Kind) (t : ℕ) → ((ms : List ℕ) → κ ≡ choice ms → length ms ≤ 16) → FirstChild t κ → rowIndex κ t < 16
 unfolding rowIndex
 index-small text t few of-text = omega arith
 index-small empty t few of-empty = omega arith
@@ -65,7 +65,7 @@ index-small (choice ms) t few (of-choice h) = omega (arith, h, few ms refl)
 index-small (list m) t few of-list = omega arith
 
 -- which of its rows a source type takes
-pub source-index-small : {source : List ℕ} → Bounded source → (s t : ℕ) → s < typesIn source → Chosen t (kindOf (tableBy source) s) → rowIndex (kindOf (tableBy source) s) t < 16
+pub source-index-small : {source : List ℕ} → Bounded source → (s t : ℕ) → s < typesIn source → FirstChild t (kindOf (tableBy source) s) → rowIndex (kindOf (tableBy source) s) t < 16
 source-index-small {source} bounded s t exists chosen =
     let few : (ms : List ℕ) → kindOf (tableBy source) s ≡ choice ms → length ms ≤ 16 =
     λ ms e.
@@ -75,7 +75,7 @@ source-index-small {source} bounded s t exists chosen =
     index-small (kindOf (tableBy source) s) t few chosen
 
 -- the row of a source type is one of the rows
-pub source-row-small : {source : List ℕ} → Bounded source → (s t : ℕ) → s < typesIn source → Chosen t (kindOf (tableBy source) s)
+pub source-row-small : {source : List ℕ} → Bounded source → (s t : ℕ) → s < typesIn source → FirstChild t (kindOf (tableBy source) s)
     → sourceRow (tableBy source) s t < rowsBefore (typesIn source)
 unfolding sourceRow
 source-row-small bounded s t exists chosen = omega (arith, source-index-small bounded s t exists chosen)

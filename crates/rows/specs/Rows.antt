@@ -90,21 +90,21 @@ abbrev pub HasRows : List ℕ → ℕ → Type 0
 HasRows l types = 3 * rowsBefore types ≤ length l
 
 -- t can be the type of the first child of an element of this kind: for a choice it is a member
-pub data Chosen (t : ℕ) : Kind → Type 0 where
-  of-text : Chosen t text
-  of-empty : Chosen t empty
-  of-sequence : {ms : List ℕ} → Chosen t (sequence ms)
-  of-choice : {ms : List ℕ} → indexIn t ms < length ms → Chosen t (choice ms)
-  of-list : {m : ℕ} → Chosen t (list m)
+pub data FirstChild (t : ℕ) : Kind → Type 0 where
+  of-text : FirstChild t text
+  of-empty : FirstChild t empty
+  of-sequence : {ms : List ℕ} → FirstChild t (sequence ms)
+  of-choice : {ms : List ℕ} → indexIn t ms < length ms → FirstChild t (choice ms)
+  of-list : {m : ℕ} → FirstChild t (list m)
 
 -- the pool and the places hold the templates of a setting
 pub record Rows (X : Setting) (pool places : List ℕ) : Type 0 where
   pub long : HasRows places (length (X .source))
   pub within : (r : ℕ) → toOf places r ≤ length pool
   pub filler-at : (τ : ℕ) → τ < length (X .target) → rowAt pool places τ ≡ fillerRow (X .target) τ
-  pub template-at : (s t : ℕ) → s < length (X .source) → Chosen t (kindOf (X .source) s) → rowAt pool places (sourceRow (X .source) s t) ≡ template X s t
+  pub template-at : (s t : ℕ) → s < length (X .source) → FirstChild t (kindOf (X .source) s) → rowAt pool places (sourceRow (X .source) s t) ≡ template X s t
   pub item-at : (s m : ℕ) → s < length (X .source) → kindOf (X .source) s ≡ list m → rowAt pool places (itemRow s) ≡ itemTemplate X s
-  pub own-depth : (s t : ℕ) → s < length (X .source) → Chosen t (kindOf (X .source) s) → depthIn places (sourceRow (X .source) s t) ≡ 0
+  pub own-depth : (s t : ℕ) → s < length (X .source) → FirstChild t (kindOf (X .source) s) → depthIn places (sourceRow (X .source) s t) ≡ 0
   pub item-depth : (s m : ℕ) → s < length (X .source) → kindOf (X .source) s ≡ list m → depthIn places (itemRow s) ≡ length (dividedOf X s .before)
 
 -- ---- sizes of rows: three numbers each, levels, bytes and bytes of filler, held at 60,001
@@ -127,6 +127,6 @@ pub record SizeAt (sizes : List ℕ) (r levels bytes fill : ℕ) : Type 0 where
 -- the sizes of the templates of a setting
 pub record Sizes (X : Setting) (sizes : List ℕ) : Type 0 where
   pub long : HasRows sizes (length (X .source))
-  pub own-size : (s t : ℕ) → s < length (X .source) → Chosen t (kindOf (X .source) s)
+  pub own-size : (s t : ℕ) → s < length (X .source) → FirstChild t (kindOf (X .source) s)
       → SizeAt sizes (sourceRow (X .source) s t) (ownLevels X s t) (ownLength X s t) (ownFiller X s t)
   pub item-size : (s m : ℕ) → s < length (X .source) → kindOf (X .source) s ≡ list m → SizeAt sizes (itemRow s) (itemLevels X s) (itemLength X s) (itemFiller X s)

@@ -5,6 +5,7 @@ ghost use Prim.Native.Nat.{_+_, _*_, _≤_, _<_};
 ghost use lib.ListN.{take, drop};
 ghost use Rattle.loaded_table.specs.Loaded.{Bounded, tableBy, typesIn, membersIn};
 ghost use Rattle.rows.specs.Rows.{fromOf, toOf, depthIn, levelsIn, bytesIn, fillerIn, indexIn, sourceRow, itemRow, HasRow, setRow};
+ghost use Rattle.model.specs.Definitions.TableChecks.{maxMembers, maxTypes};
 use codes::MAX_MEMBERS;
 use codes::MAX_TYPES;
 use loaded_table::CHOICE;
@@ -63,9 +64,9 @@ pub fn depth(places: &[u32], r: usize) -> usize
 
 // The place of t among the first `count` members of type s; `count` where it is not there.
 fn index_of(source: &[u16; TABLE], s: usize, count: usize, t: usize) -> usize
-    requires { ⌜ (s < 64) × (count ≤ 16) ⌝ }
+    requires { ⌜ (s < maxTypes) × (count ≤ maxMembers) ⌝ }
     requires bounded { ⌜ Bounded (now source) ⌝ }
-    ensures { λ r. ⌜ (r ≡ indexIn t (take count (drop (s * 16) (membersIn (now (source .entry)))))) × (r ≤ 16) ⌝ }
+    ensures { λ r. ⌜ (r ≡ indexIn t (take count (drop (s * maxMembers) (membersIn (now (source .entry)))))) × (r ≤ maxMembers) ⌝ }
 {
     let mut i = 0;
     while i < count {
@@ -93,7 +94,7 @@ pub fn source_row(source: &[u16; TABLE], s: usize, t: usize) -> usize
 
 // The row of an item of source list s.
 pub fn item_row(s: usize) -> usize
-    requires { ⌜ s < 64 ⌝ }
+    requires { ⌜ s < maxTypes ⌝ }
     ensures { λ r. ⌜ r ≡ itemRow s ⌝ }
 {
     MAX_TYPES + (s * TYPE_ROWS + MAX_MEMBERS)

@@ -11,9 +11,9 @@ use Rattle.model.specs.Definitions.Basics.{pick}
 use Rattle.model.specs.Definitions.Content.{Content, end, char, elem, bytes}
 use Rattle.model.specs.Definitions.Inverse.{childAt, childOfType}
 use Rattle.model.specs.Theorems.Tools.{pick-true, pick-false}
-use Rattle.scanning.specs.Scanning.{At}
-use Rattle.scanning.specs.Finding.{Begins}
-use Rattle.scanning.specs.Laws.{content-within, element-first, Opens, opens, opens-next}
+use Rattle.scanning.specs.Scanning.{ContentAt}
+use Rattle.scanning.specs.Finding.{FoundContent}
+use Rattle.scanning.specs.Laws.{content-within, element-first, OpensElement, opens, opens-next}
 
 -- ---- a child by its place
 
@@ -36,19 +36,19 @@ child-later t k r (suc zero) more = absurd (omega arith)
 child-later t k r (suc (suc p)) more = let less : suc (suc p) - 1 ≡ suc p = omega arith in rw less
 
 -- content that begins with no element has no child
-child-none : {tr : List ℕ} {at : ℕ} (k : Content) → At tr at k → (getD tr at 0 ≡ 0x30 → ⊥) → (p : ℕ) → childAt k p ≡ none
+child-none : {tr : List ℕ} {at : ℕ} (k : Content) → ContentAt tr at k → (getD tr at 0 ≡ 0x30 → ⊥) → (p : ℕ) → childAt k p ≡ none
 unfolding childAt
 child-none end a other p = refl
 child-none (char c r) a other p = refl
 child-none (elem t k r) a other p = absurd (other (element-first a))
 
 -- the content at offset `at` has, as its child number `left`, what is sought
-pub record Reached (tr : List ℕ) (at : ℕ) (sought : Option Content) (left : ℕ) : Type 0 where
+pub record SearchReached (tr : List ℕ) (at : ℕ) (sought : Option Content) (left : ℕ) : Type 0 where
   pub content : Content
-  pub there : At tr at content
+  pub there : ContentAt tr at content
   pub same : sought ≡ childAt content left
 
-module _ {tr : List ℕ} {at : ℕ} {sought : Option Content} {left : ℕ} (now : Reached tr at sought left) where
+module _ {tr : List ℕ} {at : ℕ} {sought : Option Content} {left : ℕ} (now : SearchReached tr at sought left) where
   pub reached-within : at < length tr
   reached-within = omega (arith, content-within (now .there))
 
@@ -56,27 +56,27 @@ module _ {tr : List ℕ} {at : ℕ} {sought : Option Content} {left : ℕ} (now 
   reached-none other = now .same ∙ child-none (now .content) (now .there) other left
 
   module _ (first : getD tr at 0 ≡ 0x30) where
-    abbrev o : Opens tr at (now .content) (now .there .rest)
+    abbrev o : OpensElement tr at (now .content) (now .there .rest)
     o = opens (now .content) (now .there) first
 
     same-opens : sought ≡ childAt (elem (o .type) (o .inside) (o .next)) left
     same-opens = now .same ∙ ap (λ (k : Content). childAt k left) (o .is)
 
     -- an element stands here, and its content begins two further
-    pub reached-inside : (at + 1 < length tr) × ((k : Content) × At tr (at + 2) k)
+    pub reached-inside : (at + 1 < length tr) × ((k : Content) × ContentAt tr (at + 2) k)
     reached-inside = (o .two, (o .inside, o .within))
 
     -- it is the one that is sought
-    pub reached-found : left ≡ 1 → Begins tr (at + 2) sought
+    pub reached-found : left ≡ 1 → FoundContent tr (at + 2) sought
     reached-found one =
         record { content = o .inside; is = same-opens ∙ child-one (o .type) (o .inside) (o .next) left one; there = o .within }
 
     -- or a later one is; `close` is the offset of the 32 that closes it
-    module _ (close : ℕ) (skips : (k : Content) → At tr (at + 2) k → close ≡ at + 2 + length (bytes k)) where
+    module _ (close : ℕ) (skips : (k : Content) → ContentAt tr (at + 2) k → close ≡ at + 2 + length (bytes k)) where
       pub reached-close : (at < close) × (close < length tr)
       reached-close = omega (arith, skips (o .inside) (o .within), content-within (o .within))
 
-      pub reached-next : 2 ≤ left → Reached tr (close + 1) sought (left - 1)
+      pub reached-next : 2 ≤ left → SearchReached tr (close + 1) sought (left - 1)
       reached-next more =
           let place : at + 2 + length (bytes (o .inside)) ≡ close = sym (skips (o .inside) (o .within)) in
           record {
@@ -88,20 +88,20 @@ module _ {tr : List ℕ} {at : ℕ} {sought : Option Content} {left : ℕ} (now 
 -- the loop's invariant: so it is for every content that begins at `from`
 pub record Seeks (tr : List ℕ) (from p at left : ℕ) : Type 0 where
   pub some-left : 1 ≤ left
-  pub reached : (k : Content) → At tr from k → Reached tr at (childAt k p) left
+  pub reached : (k : Content) → ContentAt tr from k → SearchReached tr at (childAt k p) left
 
 -- ---- a child by its type
 
 module _ {tr : List ℕ} {at : ℕ} (t : ℕ) where
   -- content that begins with no element has no child of a type
-  pub typed-none : (k : Content) → At tr at k → (getD tr at 0 ≡ 0x30 → ⊥) → childOfType k t ≡ none
+  pub typed-none : (k : Content) → ContentAt tr at k → (getD tr at 0 ≡ 0x30 → ⊥) → childOfType k t ≡ none
   unfolding childOfType
   typed-none end a other = refl
   typed-none (char c r) a other = refl
   typed-none (elem u k r) a other = absurd (other (element-first a))
 
-  module _ (k : Content) (a : At tr at k) (first : getD tr at 0 ≡ 0x30) where
-    abbrev e : Opens tr at k (a .rest)
+  module _ (k : Content) (a : ContentAt tr at k) (first : getD tr at 0 ≡ 0x30) where
+    abbrev e : OpensElement tr at k (a .rest)
     e = opens k a first
 
     typed : childOfType k t ≡ pick (eqb t (getD tr (at + 1) 0)) (some (e .inside)) none
@@ -109,7 +109,7 @@ module _ {tr : List ℕ} {at : ℕ} (t : ℕ) where
     typed = ap (λ (l : Content). childOfType l t) (e .is) ∙ ap (λ (u : ℕ). pick (eqb t u) (some (e .inside)) none) (sym (e .named))
 
     -- the element's type is its second byte
-    pub typed-found : getD tr (at + 1) 0 ≡ t → Begins tr (at + 2) (childOfType k t)
+    pub typed-found : getD tr (at + 1) 0 ≡ t → FoundContent tr (at + 2) (childOfType k t)
     typed-found same =
         record { content = e .inside; is = typed ∙ pick-true _ _ _ (eq-eqb t (getD tr (at + 1) 0) (sym same)); there = e .within }
 

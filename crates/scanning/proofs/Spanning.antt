@@ -9,22 +9,22 @@ use lib.Dec.{eqb}
 use lib.Seq.{length-take-le, getD-take, getD-set-same, getD-set-other}
 use borrow.Author.Tests.{eqb-true, eqb-false}
 use Rattle.model.specs.Definitions.Content.{Content, end, char, elem, bytes}
-use Rattle.scanning.specs.Scanning.{At}
+use Rattle.scanning.specs.Scanning.{ContentAt}
 use Rattle.scanning.specs.Laws.{content-within, opens, opens-next, letters, element-first, character-first, end-first}
-use Rattle.scanning.specs.Spanning.{Spans, Bounded, SpanAt}
+use Rattle.scanning.specs.Spanning.{Spans, SpansWithin, SpanAt}
 
 -- ---- one offset
 
 -- from inside an element, and from behind it, the end is not passed
-pub inside-within : {spans : List ℕ} {o : ℕ} → Bounded spans o → o + 2 < length spans → o + 2 + getD spans (o + 2) 0 ≤ length spans
+pub inside-within : {spans : List ℕ} {o : ℕ} → SpansWithin spans o → o + 2 < length spans → o + 2 + getD spans (o + 2) 0 ≤ length spans
 inside-within {spans} {o} b h = b .within (o + 2) (omega arith) h
 
-pub behind-within : {spans : List ℕ} {o : ℕ} → Bounded spans o → o + 2 + getD spans (o + 2) 0 + 1 < length spans
+pub behind-within : {spans : List ℕ} {o : ℕ} → SpansWithin spans o → o + 2 + getD spans (o + 2) 0 + 1 < length spans
     → o + 2 + getD spans (o + 2) 0 + 1 + getD spans (o + 2 + getD spans (o + 2) 0 + 1) 0 ≤ length spans
 behind-within {spans} {o} b h = b .within (o + 2 + getD spans (o + 2) 0 + 1) (omega arith) h
 
 -- past an element; `far` is how far it is from inside it
-pub element-span : {spans : List ℕ} {o b far : ℕ} → Bounded spans o → far ≡ getD spans (o + 2) 0 → b ≡ 0x30 → o + 2 + far + 1 < length spans
+pub element-span : {spans : List ℕ} {o b far : ℕ} → SpansWithin spans o → far ≡ getD spans (o + 2) 0 → b ≡ 0x30 → o + 2 + far + 1 < length spans
     → SpanAt spans b o (o + 2 + far + 1 - o + getD spans (o + 2 + far + 1) 0)
 element-span {spans} {o} {b} {far} bounded known is h =
     let enough : o + 2 + getD spans (o + 2) 0 + 1 < length spans = rw known at h in
@@ -47,7 +47,7 @@ element-last {spans} {o} {b} {far} within known is h =
     }
 
 -- past a character
-pub character-span : {spans : List ℕ} {o b far : ℕ} → Bounded spans o → far ≡ getD spans (o + 2) 0 → b ≡ 0x31 → o + 2 < length spans → SpanAt spans b o (2 + far)
+pub character-span : {spans : List ℕ} {o b far : ℕ} → SpansWithin spans o → far ≡ getD spans (o + 2) 0 → b ≡ 0x31 → o + 2 < length spans → SpanAt spans b o (2 + far)
 character-span {spans} {o} {b} bounded known is h =
     record {
       short = omega (arith, inside-within bounded h, known);
@@ -63,7 +63,7 @@ pub record Filled (tr : List ℕ) (n o : ℕ) (old spans : List ℕ) : Type 0 wh
   pub low : o ≤ n
   pub long : length spans ≡ length old
   pub bounded : (j : ℕ) → o ≤ j → j < n → j + getD spans j 0 ≤ n
-  pub filled : (j : ℕ) (k : Content) → o ≤ j → At tr j k → getD spans j 0 ≡ length (bytes k)
+  pub filled : (j : ℕ) (k : Content) → o ≤ j → ContentAt tr j k → getD spans j 0 ≡ length (bytes k)
 
 -- before the first turn none is to be filled
 pub none-filled : (tr spans : List ℕ) → Filled tr (length tr) (length tr) spans spans
@@ -76,7 +76,7 @@ none-filled tr spans =
     }
 
 -- what a turn needs of the distances behind it
-prefix-bounded : {tr old spans : List ℕ} {n o : ℕ} → Filled tr n (suc o) old spans → n ≤ length spans → Bounded (take n spans) o
+prefix-bounded : {tr old spans : List ℕ} {n o : ℕ} → Filled tr n (suc o) old spans → n ≤ length spans → SpansWithin (take n spans) o
 prefix-bounded {tr} {old} {spans} {n} {o} f room =
     record {
       within = λ j low high.
@@ -86,29 +86,29 @@ prefix-bounded {tr} {old} {spans} {n} {o} f room =
     }
 
 -- what stands behind a character
-behind-character : {tr : List ℕ} {o c : ℕ} {r : Content} → At tr o (char c r) → At tr (o + 2) r
+behind-character : {tr : List ℕ} {o c : ℕ} {r : Content} → ContentAt tr o (char c r) → ContentAt tr (o + 2) r
 behind-character {tr} {o} {c} {r} a =
     let it = letters (char c r) a (character-first a) in
     let same : r ≡ it .next = cc in
     record { rest = a .rest; stands = rw same (it .follows) }
 
 -- what an element holds, and what stands behind it
-inside-element : {tr : List ℕ} {o t : ℕ} {k r : Content} → At tr o (elem t k r) → At tr (o + 2) k
+inside-element : {tr : List ℕ} {o t : ℕ} {k r : Content} → ContentAt tr o (elem t k r) → ContentAt tr (o + 2) k
 inside-element {tr} {o} {t} {k} {r} a =
     let it = opens (elem t k r) a (element-first a) in
     let same : k ≡ it .inside = cc in
     rw same (it .within)
 
-behind-element : {tr : List ℕ} {o t : ℕ} {k r : Content} → At tr o (elem t k r) → At tr (o + 2 + length (bytes k) + 1) r
+behind-element : {tr : List ℕ} {o t : ℕ} {k r : Content} → ContentAt tr o (elem t k r) → ContentAt tr (o + 2 + length (bytes k) + 1) r
 behind-element {tr} {o} {t} {k} {r} a =
     let it = opens (elem t k r) a (element-first a) in
     let same : k ≡ it .inside = cc in
     let next : r ≡ it .next = cc in
-    subst₂ (λ (x y : Content). At tr (o + 2 + length (bytes x) + 1) y) (sym same) (sym next) (opens-next it)
+    subst₂ (λ (x y : Content). ContentAt tr (o + 2 + length (bytes x) + 1) y) (sym same) (sym next) (opens-next it)
 
 -- how far it is from an offset at which content begins, by the first command of the content
 span-of : {tr old spans : List ℕ} {n o far : ℕ} → Filled tr n (suc o) old spans → n ≡ length tr → n ≤ length spans → SpanAt (take n spans) (getD tr o 0) o far
-    → (k : Content) → At tr o k → far ≡ length (bytes k)
+    → (k : Content) → ContentAt tr o k → far ≡ length (bytes k)
 unfolding bytes
 span-of f is room s end a = s .closing (λ e. omega (arith, end-first a)) (λ e. omega (arith, end-first a))
 span-of {tr} {old} {spans} {n} {o} f is room s (char c r) a =
@@ -147,10 +147,10 @@ one-filled {tr} {old} {spans} {n} {o} {far} f is room s =
         let other = eqb-false j o e in
         rw (getD-set-other spans o j far 0 other) (f .bounded j (omega arith) high)
 
-    at-filled : (j : ℕ) (k : Content) → o ≤ j → At tr j k → (b : Bool) → eqb j o ≡ b → getD (set spans o far) j 0 ≡ length (bytes k)
+    at-filled : (j : ℕ) (k : Content) → o ≤ j → ContentAt tr j k → (b : Bool) → eqb j o ≡ b → getD (set spans o far) j 0 ≡ length (bytes k)
     at-filled j k low a true e =
         let same : j ≡ o = eqb-true j o e in
-        let there : At tr o k = rw same at a in
+        let there : ContentAt tr o k = rw same at a in
         rw (same, here) (span-of f is room s k there)
     at-filled j k low a false e =
         let other = eqb-false j o e in
@@ -170,7 +170,7 @@ module _ {tr old spans : List ℕ} {n p : ℕ} (f : Filled tr n p old spans) (mo
   pub turn-within : p - 1 < length (take n spans)
   turn-within = omega (arith, f .low, length-take-le n spans room)
 
-  pub turn-bounded : Bounded (take n spans) (p - 1)
+  pub turn-bounded : SpansWithin (take n spans) (p - 1)
   turn-bounded = prefix-bounded before room
 
   pub turn-short : n ≤ 60000 → length (take n spans) ≤ 60000

@@ -6,15 +6,15 @@ use Prim.Native.Nat.{ℕ}
 use Rattle.model.specs.Definitions.Content.{Content}
 use Rattle.scanning.specs.declared.Found.{Found}
 use Rattle.scanning.specs.declared.Found.the-variants as found
-use Rattle.scanning.specs.Scanning.{At}
+use Rattle.scanning.specs.Scanning.{ContentAt}
 
 -- there is a content, and it begins at offset o
-pub record Begins (tr : List ℕ) (o : ℕ) (sought : Option Content) : Type 0 where
+pub record FoundContent (tr : List ℕ) (o : ℕ) (sought : Option Content) : Type 0 where
   pub content : Content
   pub is : sought ≡ some content
-  pub there : At tr o content
+  pub there : ContentAt tr o content
 
 -- the answer finds the content that is sought, or says that there is none
 abbrev pub Finds : List ℕ → Found → Option Content → Type 0
-Finds tr (found.At o) sought = Begins tr o sought
+Finds tr (found.At o) sought = FoundContent tr o sought
 Finds tr found.Missing sought = sought ≡ none

@@ -6,6 +6,6 @@ use lib.ListN.{drop}
 use Rattle.model.specs.Definitions.Content.{Content, bytes}
 
 -- the bytes of the content k begin at offset `from`, and the 32 that closes the element stands after them
-pub record At (tr : List ℕ) (from : ℕ) (k : Content) : Type 0 where
+pub record ContentAt (tr : List ℕ) (from : ℕ) (k : Content) : Type 0 where
   pub rest : List ℕ
   pub stands : drop from tr ≡ bytes k ++ 0x32 ∷ rest

@@ -6,16 +6,16 @@ use native.Mathlib.Omega.{arith}
 use lib.ListN.{length, drop, getD, length-drop}
 use lib.Seq.{drop-drop, getD-drop}
 use Rattle.model.specs.Definitions.Content.{Content, bytes}
-use Rattle.scanning.specs.Scanning.{At}
+use Rattle.scanning.specs.Scanning.{ContentAt}
 
 -- for content that begins at an offset, its length
 pub record Spans (tr spans : List ℕ) : Type 0 where
   pub short : length tr ≤ 60000
   pub whole : length tr ≤ length spans
-  pub span-is : (o : ℕ) (k : Content) → At tr o k → getD spans o 0 ≡ length (bytes k)
+  pub span-is : (o : ℕ) (k : Content) → ContentAt tr o k → getD spans o 0 ≡ length (bytes k)
 
 -- from the offsets behind o it is never further than to the end
-pub record Bounded (spans : List ℕ) (o : ℕ) : Type 0 where
+pub record SpansWithin (spans : List ℕ) (o : ℕ) : Type 0 where
   pub within : (j : ℕ) → o < j → j < length spans → j + getD spans j 0 ≤ length spans
 
 -- how far it is from offset o, where the byte b stands: past a character, past an element, or no way
@@ -33,6 +33,6 @@ spans-part {tr} {spans} {part} {rest} o s is-part is-rest =
       short = omega (arith, s .short, ap length is-part, length-drop o tr);
       whole = omega (arith, s .whole, ap length is-part, ap length is-rest, length-drop o tr, length-drop o spans);
       span-is = λ i k a.
-          let there : At tr (o + i) k = record { rest = a .rest; stands = sym (drop-drop i o tr) ∙ ap (drop i) (sym is-part) ∙ a .stands } in
+          let there : ContentAt tr (o + i) k = record { rest = a .rest; stands = sym (drop-drop i o tr) ∙ ap (drop i) (sym is-part) ∙ a .stands } in
           ap (λ (xs : List ℕ). getD xs i 0) is-rest ∙ getD-drop o spans i 0 ∙ s .span-is (o + i) k there;
     }

@@ -1,7 +1,7 @@
 // Finding one's way in a tree document, on its bytes.
 ghost use Rattle.model.specs.Definitions.Content.{Content};
 ghost use Rattle.model.specs.Definitions.Inverse.{childAt, childOfType};
-ghost use Rattle.scanning.specs.Scanning.{At};
+ghost use Rattle.scanning.specs.Scanning.{ContentAt};
 ghost use Rattle.scanning.specs.Finding.{Finds};
 ghost use Rattle.scanning.specs.Spanning.{Spans};
 use codes::OPENS;
@@ -19,8 +19,8 @@ pub enum Found {
 // skips one element a turn.
 pub fn child<'a>(tr: &'a [u8], sp: &'a [u16], from: usize, p: usize) -> Found
     requires spans { ⌜ Spans (now tr) (now sp) ⌝ }
-    requires content { ⌜ ((k : Content) × At (now tr) from k) ⌝ }
-    ensures { λ r. ⌜ ((k : Content) → At (now (tr .entry)) from k → Finds (now (tr .entry)) r (childAt k p)) ⌝ }
+    requires content { ⌜ ((k : Content) × ContentAt (now tr) from k) ⌝ }
+    ensures { λ r. ⌜ ((k : Content) → ContentAt (now (tr .entry)) from k → Finds (now (tr .entry)) r (childAt k p)) ⌝ }
 {
     if p == 0 {
         return Found::Missing;
@@ -41,8 +41,8 @@ pub fn child<'a>(tr: &'a [u8], sp: &'a [u16], from: usize, p: usize) -> Found
 
 // Where the content of the first element of the siblings that begin at `from` begins, if that element has type t.
 pub fn child_of_type(tr: &[u8], from: usize, t: u8) -> Found
-    requires { ⌜ ((k : Content) × At (now tr) from k) ⌝ }
-    ensures { λ r. ⌜ ((k : Content) → At (now (tr .entry)) from k → Finds (now (tr .entry)) r (childOfType k t)) ⌝ }
+    requires { ⌜ ((k : Content) × ContentAt (now tr) from k) ⌝ }
+    ensures { λ r. ⌜ ((k : Content) → ContentAt (now (tr .entry)) from k → Finds (now (tr .entry)) r (childOfType k t)) ⌝ }
 {
     if tr[from] == OPENS {
         let second = from + 1;

@@ -3,15 +3,16 @@ ghost use mathlib.Core.Path.{_≡_};
 ghost use Prim.Native.Nat.{_+_, _≤_, _<_};
 ghost use lib.ListN.{length, getD};
 ghost use Rattle.model.specs.Definitions.Content.{Content, bytes};
-ghost use Rattle.scanning.specs.Scanning.{At};
-ghost use Rattle.scanning.specs.Spanning.{Spans, Bounded, SpanAt};
+ghost use Rattle.scanning.specs.Scanning.{ContentAt};
+ghost use Rattle.scanning.specs.Spanning.{Spans, SpansWithin, SpanAt};
+ghost use Rattle.model.specs.Definitions.Refusals.{maxLength};
 use codes::CHARACTER;
 use codes::OPENS;
 
 // How far it is from offset o, where the byte b stands, to the 32 that closes the element around it, by how far it is from the
 // offsets behind o, `behind` from the second of them; 0 where the document ends too soon.
 fn span_at(b: u8, spans: &[u16], o: usize, behind: usize) -> usize
-    requires { ⌜ (o < length (now spans)) × (length (now spans) ≤ 60000) × Bounded (now spans) o ⌝ }
+    requires { ⌜ (o < length (now spans)) × (length (now spans) ≤ maxLength) × SpansWithin (now spans) o ⌝ }
     requires behind { ⌜ (o + 2 < length (now spans) → behind ≡ getD (now spans) (o + 2) 0) ⌝ }
     ensures { λ r. ⌜ SpanAt (now (spans .entry)) b o r ⌝ }
 {
@@ -36,7 +37,7 @@ fn span_at(b: u8, spans: &[u16], o: usize, behind: usize) -> usize
 // first, so that what is behind an offset is known. `near` and `behind` are kept for the offsets o and o + 1: reading them from
 // where they were just stored would take longer than all else.
 pub fn fill_spans(tr: &[u8], spans: &mut [u16])
-    requires { ⌜ (length (now tr) ≤ 60000) × (length (now tr) ≤ length (now spans)) ⌝ }
+    requires { ⌜ (length (now tr) ≤ maxLength) × (length (now tr) ≤ length (now spans)) ⌝ }
     ensures { λ r. ⌜ Spans (now (tr .entry)) (now (spans .exit)) ⌝ }
 {
     let n = tr.len();
@@ -55,8 +56,8 @@ pub fn fill_spans(tr: &[u8], spans: &mut [u16])
 // The offset of the 32 that closes the element whose content begins at `from`.
 pub fn close_of<'a>(tr: &'a [u8], spans: &'a [u16], from: usize) -> usize
     requires spans { ⌜ Spans (now tr) (now spans) ⌝ }
-    requires content { ⌜ ((k : Content) × At (now tr) from k) ⌝ }
-    ensures { λ r. ⌜ ((k : Content) → At (now (tr .entry)) from k → r ≡ from + length (bytes k)) ⌝ }
+    requires content { ⌜ ((k : Content) × ContentAt (now tr) from k) ⌝ }
+    ensures { λ r. ⌜ ((k : Content) → ContentAt (now (tr .entry)) from k → r ≡ from + length (bytes k)) ⌝ }
 {
     from + spans[from] as usize
 }

@@ -27,7 +27,7 @@ pub record Standing (s t e from to map : List ℕ) : Type 0 where
   pub source-stands : Stands from (tableOf s)
   pub target-stands : Stands to (tableOf t)
   pub same-embedding : embeddingBy e (tableOf s) map ≡ embeddingOf e
-  pub paths-bounded : loaded_embedding.Bounded e map
+  pub paths-bounded : loaded_embedding.PathsBounded e map
 
 -- by the verdict
 abbrev pub ByVerdict : List ℕ → List ℕ → List ℕ → List ℕ → List ℕ → List ℕ → Verdict → Type 0

@@ -3,6 +3,7 @@ ghost use mathlib.Core.Path.{_≡_};
 ghost use lib.ListN.{length};
 ghost use Rattle.loaded_embedding.specs.Loaded.{Cleared};
 ghost use Rattle.setting_judge.specs.Judging.{ByVerdict};
+ghost use Rattle.loaded_table.specs.Loaded.{tableSize};
 use answers::Fault;
 use answers::Judged;
 use codes::EMBEDDING;
@@ -27,7 +28,7 @@ pub fn judge(
     to: &mut [u16; TABLE],
     map: &mut [u16; MAP],
 ) -> Verdict
-    requires { ⌜ (length (now from) ≡ 1281) × (length (now to) ≡ 1281) × Cleared (now map) ⌝ }
+    requires { ⌜ (length (now from) ≡ tableSize) × (length (now to) ≡ tableSize) × Cleared (now map) ⌝ }
     ensures { λ r. ⌜ ByVerdict (now (source .entry)) (now (target .entry)) (now (embedding .entry)) (now (from .exit)) (now (to .exit)) (now (map .exit)) r ⌝ }
 {
     let first = table_judge::judge(source, from);

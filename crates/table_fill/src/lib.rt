@@ -13,13 +13,14 @@ use loaded_table::set_fill;
 use loaded_table::types;
 use table_heights::least_member;
 ghost use mathlib.Core.Path.{_≡_};
-ghost use Prim.Native.Nat.{_+_, _<_, min};
+ghost use Prim.Native.Nat.{_+_, _<_};
 ghost use lib.ListN.{getD};
-ghost use Rattle.loaded_table.specs.Loaded.{typesIn, heightsOf, fillOf, tableBy, Bounded};
+ghost use Rattle.loaded_table.specs.Loaded.{typesIn, heightsOf, fillOf, tableBy, Bounded, fillStart, heldLength};
 ghost use Rattle.model.specs.Theorems.Facts.{SoundTable};
 ghost use Rattle.table_heights.specs.Sections.{membersAt, Elsewhere};
 ghost use Rattle.table_heights.specs.Heights.{HoldsHeights};
 ghost use Rattle.table_fill.specs.Fill.{fillSum, nextFill, HoldsFillRound, FillFound};
+ghost use Rattle.model.specs.Definitions.TableChecks.{maxTypes};
 
 // The bytes of an element that holds nothing.
 const OWN_BYTES: u16 = 3;
@@ -28,7 +29,7 @@ const OWN_BYTES: u16 = 3;
 
 // The sum of two lengths, held at 60,001.
 fn held_sum(a: u16, b: u16) -> u16
-    ensures { λ r. ⌜ r ≡ min 60001 (a + b) ⌝ }
+    ensures { λ r. ⌜ r ≡ heldLength (a + b) ⌝ }
 {
     let sum = a as usize + b as usize;
     if sum < OVER_BYTES {
@@ -52,7 +53,7 @@ fn fill_at(table: &[u16; TABLE], t: usize) -> u16
 // 3 more than the filler lengths of the members of type t, held at 60,001. The loop adds one a turn.
 fn fill_sum(table: &[u16; TABLE], t: usize) -> u16
     requires { ⌜ Bounded (now table) × (t < typesIn (now table)) ⌝ }
-    ensures { λ r. ⌜ r ≡ min 60001 (3 + fillSum (fillOf (now (table .entry))) (membersAt (now (table .entry)) t)) ⌝ }
+    ensures { λ r. ⌜ r ≡ heldLength (3 + fillSum (fillOf (now (table .entry))) (membersAt (now (table .entry)) t)) ⌝ }
 {
     let many = count(table, t);
     let mut total = OWN_BYTES;
@@ -83,7 +84,7 @@ fn fill_of(table: &[u16; TABLE], t: usize) -> u16
 // types below t.
 fn fill_round(table: &mut [u16; TABLE]) -> bool
     requires { ⌜ Bounded (now table) × HoldsHeights (tableBy (now table)) (heightsOf (now table)) ⌝ }
-    ensures { λ r. ⌜ Elsewhere 192 64 (now (table .entry)) (now (table .exit)) × (SoundTable (tableBy (now (table .entry))) → HoldsFillRound (tableBy (now (table .entry))) (fillOf (now (table .entry))) (fillOf (now (table .exit))) r) ⌝ }
+    ensures { λ r. ⌜ Elsewhere fillStart maxTypes (now (table .entry)) (now (table .exit)) × (SoundTable (tableBy (now (table .entry))) → HoldsFillRound (tableBy (now (table .entry))) (fillOf (now (table .entry))) (fillOf (now (table .exit))) r) ⌝ }
 {
     let all = types(table);
     let mut changed = false;

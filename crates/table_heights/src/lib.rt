@@ -15,11 +15,12 @@ ghost use mathlib.Core.Path.{_≡_};
 ghost use Prim.Native.Nat.{ℕ, _+_, _≤_, _<_, min};
 ghost use lib.ListN.{length, take, getD};
 ghost use Rattle.answers.specs.Answers.{verdict};
-ghost use Rattle.loaded_table.specs.Loaded.{typesIn, heightsOf, tableBy, Bounded};
+ghost use Rattle.loaded_table.specs.Loaded.{typesIn, heightsOf, tableBy, Bounded, heightsStart};
 ghost use Rattle.model.specs.Definitions.Table.{kindOf};
 ghost use Rattle.model.specs.Definitions.Heights as model;
 ghost use Rattle.table_heights.specs.Sections.{membersAt, Elsewhere};
 ghost use Rattle.table_heights.specs.Heights.{HoldsHeights, HoldsRound, HeightsFound, word, finiteBits};
+ghost use Rattle.model.specs.Definitions.TableChecks.{maxTypes};
 
 // ---- one type
 
@@ -98,7 +99,7 @@ fn height_of(table: &[u16; TABLE], t: usize) -> usize
 
 // A height, held at one more than the number of types.
 fn held_height(all: usize, h: usize) -> usize
-    requires { ⌜ all ≤ 64 ⌝ }
+    requires { ⌜ all ≤ maxTypes ⌝ }
     ensures { λ r. ⌜ r ≡ min (all + 1) h ⌝ }
 {
     if h <= all { h } else { all + 1 }
@@ -107,7 +108,7 @@ fn held_height(all: usize, h: usize) -> usize
 // Stores the height 0 for all types. The loop has stored it for the types below t.
 fn clear_heights(table: &mut [u16; TABLE])
     requires { ⌜ Bounded (now table) ⌝ }
-    ensures { λ r. ⌜ Elsewhere 128 64 (now (table .entry)) (now (table .exit)) × ((t : ℕ) → t < 64 → getD (heightsOf (now (table .exit))) t 0 ≡ 0) ⌝ }
+    ensures { λ r. ⌜ Elsewhere heightsStart maxTypes (now (table .entry)) (now (table .exit)) × ((t : ℕ) → t < maxTypes → getD (heightsOf (now (table .exit))) t 0 ≡ 0) ⌝ }
 {
     let mut t = 0;
     while t < MAX_TYPES {
@@ -120,7 +121,7 @@ fn clear_heights(table: &mut [u16; TABLE])
 // members, and then one round finds all heights. The loop has still to do the types below t.
 fn height_round(table: &mut [u16; TABLE]) -> bool
     requires { ⌜ Bounded (now table) ⌝ }
-    ensures { λ r. ⌜ Elsewhere 128 64 (now (table .entry)) (now (table .exit)) × HoldsRound (tableBy (now (table .entry))) (heightsOf (now (table .entry))) (heightsOf (now (table .exit))) r ⌝ }
+    ensures { λ r. ⌜ Elsewhere heightsStart maxTypes (now (table .entry)) (now (table .exit)) × HoldsRound (tableBy (now (table .entry))) (heightsOf (now (table .entry))) (heightsOf (now (table .exit))) r ⌝ }
 {
     let all = types(table);
     let mut changed = false;
@@ -159,7 +160,7 @@ pub fn find_heights(table: &mut [u16; TABLE])
 // The types with a finite instance as bits: those whose height is at most the number of types. The loop has set the bits
 // of the types below t.
 fn finite_bits(table: &[u16; TABLE], all: usize) -> u64
-    requires { ⌜ (all ≤ 64) × (length (heightsOf (now table)) ≡ 64) ⌝ }
+    requires { ⌜ (all ≤ maxTypes) × (length (heightsOf (now table)) ≡ maxTypes) ⌝ }
     ensures { λ r. ⌜ r ≡ word (finiteBits all (take all (heightsOf (now (table .entry))))) ⌝ }
 {
     let mut bits = 0u64;

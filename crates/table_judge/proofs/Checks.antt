@@ -13,7 +13,7 @@ use Rattle.answers.specs.declared.Fault.{Fault}
 use Rattle.answers.specs.declared.Judged.{Judged}
 use Rattle.loaded_table.specs.Loaded as loaded_table
 use Rattle.loaded_table.specs.Loaded.{typesIn, heightsOf, Bounded, Kept, length-of}
-use Rattle.table_load.specs.Loading.{LoadedAs}
+use Rattle.table_load.specs.Loading.{TableLoaded}
 use Rattle.table_heights.specs.Sections.{section-elsewhere, table-elsewhere, bounded-elsewhere}
 use Rattle.table_heights.specs.Heights.{HoldsHeights, HeightsFound}
 use Rattle.table_fill.specs.Fill.{FillFound}
@@ -43,7 +43,7 @@ refusing : (bs : List ℕ) (f : Fault) (after : List ℕ) → laterChecks bs ≡
 refusing bs f after g = record { judgement = sym g; loaded = λ accepted whole. has-sound g accepted }
 
 -- checks 4 and 5, where the loaded table is the document's
-module _ (bs rows : List ℕ) (loaded : LoadedAs bs rows) where
+module _ (bs rows : List ℕ) (loaded : TableLoaded bs rows) where
   -- the loaded table's types are the document's
   loaded-types : typesIn rows ≡ length (tableOf bs)
   loaded-types = sym (length-of rows) ∙ ap length (loaded .same-table)

@@ -4,6 +4,7 @@ ghost use lib.ListN.{length};
 ghost use Rattle.model.specs.Definitions.Basics.{passes};
 ghost use Rattle.model.specs.Definitions.TableChecks.{tableForm, tableLimits};
 ghost use Rattle.table_judge.specs.Judging.{TableJudged, AfterLimits};
+ghost use Rattle.loaded_table.specs.Loaded.{tableSize};
 use answers::Fault;
 use answers::Judged;
 use answers::Verdict;
@@ -13,7 +14,7 @@ use loaded_table::types;
 
 // Judges a table whose form and limits are right: loads it, then makes checks 4, 5 and 6.
 fn judge_loaded(t: &[u8], table: &mut [u16; TABLE]) -> Judged
-    requires { ⌜ (length (now table) ≡ 1281) × (tableForm (now t) ≡ passes) × (tableLimits (now t) ≡ passes) ⌝ }
+    requires { ⌜ (length (now table) ≡ tableSize) × (tableForm (now t) ≡ passes) × (tableLimits (now t) ≡ passes) ⌝ }
     ensures { λ r. ⌜ AfterLimits (now (t .entry)) r (now (table .exit)) ⌝ }
 {
     table_load::load(t, table);
@@ -37,7 +38,7 @@ fn judge_loaded(t: &[u8], table: &mut [u16; TABLE]) -> Judged
 
 // Judges a table's bytes. Where they are accepted, the array then holds the table; where they are refused, anything.
 pub fn judge(t: &[u8], table: &mut [u16; TABLE]) -> Judged
-    requires { ⌜ length (now table) ≡ 1281 ⌝ }
+    requires { ⌜ length (now table) ≡ tableSize ⌝ }
     ensures { λ r. ⌜ TableJudged (now (t .entry)) r (now (table .exit)) ⌝ }
 {
     if MAX_BYTES < t.len() {

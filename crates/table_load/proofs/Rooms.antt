@@ -10,20 +10,20 @@ use Rattle.table_checks.specs.declared.command.TableCommand.{TableCommand as Co
 use Rattle.table_checks.specs.Read.{command}
 use Rattle.model.specs.Definitions.Commands.{TableCommand, listType, member}
 use Rattle.loaded_table.specs.Loaded.{kindsOf, countsOf, section-kept, section-set}
-use Rattle.table_load.specs.Loading.{Arrays, loadedIn, begun, joined, puts, Begins, Joins, Room, Put}
+use Rattle.table_load.specs.Loading.{TableArrays, loadedIn, begun, joined, puts, TypeMayBegin, MemberMayJoin, TableRoom, TablePut}
 
 -- there is room for a command, known as another term
-pub told-room : (a : Arrays) {c d : Command} → c ≡ d → Room a (command c) → Room a (command d)
-told-room a e h = subst (λ x. Room a (command x)) e h
+pub told-room : (a : TableArrays) {c d : Command} → c ≡ d → TableRoom a (command c) → TableRoom a (command d)
+told-room a e h = subst (λ x. TableRoom a (command x)) e h
 
 -- what a command does, known as another term
-pub told-put : {types more : ℕ} {rows after : List ℕ} {c d : Command} → c ≡ d → Put types rows (command d) more after → Put types rows (command c) more after
-told-put {types} {more} {rows} {after} e h = subst (λ x. Put types rows (command x) more after) (sym e) h
+pub told-put : {types more : ℕ} {rows after : List ℕ} {c d : Command} → c ≡ d → TablePut types rows (command d) more after → TablePut types rows (command c) more after
+told-put {types} {more} {rows} {after} e h = subst (λ x. TablePut types rows (command x) more after) (sym e) h
 
 -- arrays of equal parts
 same-arrays : {types types′ : ℕ} {kinds kinds′ counts counts′ members members′ : List ℕ}
     → types ≡ types′ → kinds ≡ kinds′ → counts ≡ counts′ → members ≡ members′
-    → _≡_ {A = Arrays} (record { types = types; kinds = kinds; counts = counts; members = members }) (record { types = types′; kinds = kinds′; counts = counts′; members = members′ })
+    → _≡_ {A = TableArrays} (record { types = types; kinds = kinds; counts = counts; members = members }) (record { types = types′; kinds = kinds′; counts = counts′; members = members′ })
 same-arrays p q r s = rw (p, q, r, s) refl
 
 -- a kind stored behind the last type begins a type
@@ -51,11 +51,11 @@ joined-in rows types t m last few room =
     (section-kept 256 1024 stored (64 + t) (count + 1) (inl (omega arith)) ∙ section-set 256 1024 rows place m (omega arith)))
 
 -- a member of the last type has its place
-pub join-room : (a : Arrays) → Joins a → (a .types - 1 < 64) × (getD (a .counts) (a .types - 1) 0 < 16)
+pub join-room : (a : TableArrays) → MemberMayJoin a → (a .types - 1 < 64) × (getD (a .counts) (a .types - 1) 0 < 16)
 join-room a h = (omega (arith, h .some, h .few), h .room)
 
 -- a type that was just begun has room for a member
-pub begun-joins : (a : Arrays) (kind : ℕ) → Begins a → Joins (begun a kind)
+pub begun-joins : (a : TableArrays) (kind : ℕ) → TypeMayBegin a → MemberMayJoin (begun a kind)
 unfolding begun
 begun-joins a kind h =
     let last : a .types + 1 - 1 ≡ a .types = omega arith in
@@ -64,7 +64,7 @@ begun-joins a kind h =
     record { some = omega arith; few = omega arith; room = omega arith }
 
 -- a list that was just begun has room for its item
-pub list-room : (rows : List ℕ) (types : ℕ) {mid : List ℕ} → Begins (loadedIn types rows) → mid ≡ set rows types 4 → (types < 64) × (getD (countsOf mid) types 0 < 16)
+pub list-room : (rows : List ℕ) (types : ℕ) {mid : List ℕ} → TypeMayBegin (loadedIn types rows) → mid ≡ set rows types 4 → (types < 64) × (getD (countsOf mid) types 0 < 16)
 list-room rows types {mid} h e =
     let kept : countsOf mid ≡ countsOf rows = ap countsOf e ∙ section-kept 64 64 rows types 4 (inl (omega (arith, h .room))) in
     (h .room, rw kept (omega (arith, h .fresh)))
@@ -73,7 +73,7 @@ list-room rows types {mid} h e =
 
 -- a command that begins a type of a kind
 pub begun-put : (rows : List ℕ) (types kind : ℕ) (c : TableCommand) {more : ℕ} {after : List ℕ} → puts (loadedIn types rows) c ≡ begun (loadedIn types rows) kind → types < 64
-    → (more ≡ types + 1) × (after ≡ set rows types kind) → Put types rows c more after
+    → (more ≡ types + 1) × (after ≡ set rows types kind) → TablePut types rows c more after
 begun-put rows types kind c does room (p, q) = rw (p, q) (record { same-size = length-set rows types kind; does = begun-in rows types kind room ∙ sym does })
 
 -- the array with one member more of type t
@@ -86,8 +86,8 @@ stored-size rows t m =
     length-set (set rows (256 + (t * 16 + count)) m) (64 + t) (count + 1) ∙ length-set rows (256 + (t * 16 + count)) m
 
 -- a list and its item
-pub list-put : (rows : List ℕ) (types m : ℕ) {more : ℕ} {mid after : List ℕ} → Begins (loadedIn types rows)
-    → (more ≡ types + 1) × (mid ≡ set rows types 4) → after ≡ memberStored mid types m → Put types rows (listType m) more after
+pub list-put : (rows : List ℕ) (types m : ℕ) {more : ℕ} {mid after : List ℕ} → TypeMayBegin (loadedIn types rows)
+    → (more ≡ types + 1) × (mid ≡ set rows types 4) → after ≡ memberStored mid types m → TablePut types rows (listType m) more after
 unfolding puts
 list-put rows types m {more} {mid} {after} h (p, q) e =
     let room = list-room rows types h q in
@@ -98,11 +98,11 @@ list-put rows types m {more} {mid} {after} h (p, q) e =
           rw (e, p)
           (joined-in mid (types + 1) types m last (room .0) (room .1)
           ∙ ap (λ (l : List ℕ). joined (loadedIn (types + 1) l) m) q
-          ∙ ap (λ (a : Arrays). joined a m) (begun-in rows types 4 (room .0)));
+          ∙ ap (λ (a : TableArrays). joined a m) (begun-in rows types 4 (room .0)));
     }
 
 -- a member
-pub member-put : (rows : List ℕ) (types m : ℕ) {after : List ℕ} → Joins (loadedIn types rows) → after ≡ memberStored rows (types - 1) m → Put types rows (member m) types after
+pub member-put : (rows : List ℕ) (types m : ℕ) {after : List ℕ} → MemberMayJoin (loadedIn types rows) → after ≡ memberStored rows (types - 1) m → TablePut types rows (member m) types after
 unfolding puts
 member-put rows types m h e =
     let room = join-room (loadedIn types rows) h in

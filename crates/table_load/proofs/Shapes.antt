@@ -9,9 +9,9 @@ use lib.Seq.{getD-set-same, getD-set-other}
 use lib.Dec.{eqb, ltb}
 use borrow.Author.Tests.{eqb-true, eqb-false, ltb-true, ltb-false}
 use Rattle.loaded_table.specs.Loaded.{countsOf, section-long, section-more, zero-everywhere}
-use Rattle.table_load.specs.Loading.{Arrays, loadedIn, Cleared, begun, joined, Joins}
+use Rattle.table_load.specs.Loading.{TableArrays, loadedIn, CountsCleared, begun, joined, MemberMayJoin}
 
-pub record Shaped (a : Arrays) : Type 0 where
+pub record TableShaped (a : TableArrays) : Type 0 where
   pub kinds-long : length (a .kinds) ≡ 64
   pub counts-long : length (a .counts) ≡ 64
   pub members-long : length (a .members) ≡ 1024
@@ -29,7 +29,7 @@ set-bounded xs i v most h all t = go (eqb t i) refl (ltb i (length xs)) refl
     go true e false f = rw (List·getD-eq-default (set xs i v) 0 {n = t} (rw (length-set xs i v, eqb-true t i e) (ltb-false i (length xs) f))) (omega arith)
 
 -- with no types and no members, whatever else stands in the array
-pub shaped-cleared : (rows : List ℕ) → Cleared 64 rows → Shaped (loadedIn 0 rows)
+pub shaped-cleared : (rows : List ℕ) → CountsCleared 64 rows → TableShaped (loadedIn 0 rows)
 shaped-cleared rows h =
     let size = h .size in
     let long : length (countsOf rows) ≡ 64 = section-long 64 64 rows (omega arith) in
@@ -44,12 +44,12 @@ shaped-cleared rows h =
     }
 
 -- one type more without members
-pub cleared-more : (rows : List ℕ) (n : ℕ) {after : List ℕ} → n < 64 → after ≡ set rows (64 + n) 0 → Cleared n rows → Cleared (n + 1) after
+pub cleared-more : (rows : List ℕ) (n : ℕ) {after : List ℕ} → n < 64 → after ≡ set rows (64 + n) 0 → CountsCleared n rows → CountsCleared (n + 1) after
 cleared-more rows n few e h =
     let size = h .size in
     record { size = ap length e ∙ length-set rows (64 + n) 0 ∙ size; none = section-more (λ t. 0) 64 64 rows n 0 (omega arith) few refl e (h .none) }
 
-pub shaped-begun : (a : Arrays) (kind : ℕ) → a .types < 64 → Shaped a → Shaped (begun a kind)
+pub shaped-begun : (a : TableArrays) (kind : ℕ) → a .types < 64 → TableShaped a → TableShaped (begun a kind)
 unfolding begun
 shaped-begun a kind room h =
     record {
@@ -61,7 +61,7 @@ shaped-begun a kind room h =
       unused = λ t after. h .unused t (omega arith);
     }
 
-pub shaped-joined : (a : Arrays) (m : ℕ) → Joins a → Shaped a → Shaped (joined a m)
+pub shaped-joined : (a : TableArrays) (m : ℕ) → MemberMayJoin a → TableShaped a → TableShaped (joined a m)
 unfolding joined
 shaped-joined a m room h =
     let last = a .types - 1 in

@@ -19,9 +19,9 @@ use Rattle.model.specs.Definitions.TableChecks.{TableState, noType, whole, memb
 use Rattle.model.specs.Theorems.JudgedTables.{goes-if}
 use Rattle.model.specs.Theorems.Runs.{passes-fails, goes-stops}
 use Rattle.model.specs.Theorems.Reading.{rawAt, ReadsAt, left-stops, left-goes, table-reads, no-table-commands}
-use Rattle.table_load.specs.Loading.{Arrays, loadedIn, Cleared, begun, joined, puts, Begins, Joins, Room, Put, LoadedAs}
+use Rattle.table_load.specs.Loading.{TableArrays, loadedIn, CountsCleared, begun, joined, puts, TypeMayBegin, MemberMayJoin, TableRoom, TablePut, TableLoaded}
 use Rattle.table_load.proofs.Continuation.{kindMore, continued, continued-types, continued-begun, continued-joined, continued-list}
-use Rattle.table_load.proofs.Shapes.{Shaped, shaped-cleared, shaped-begun, shaped-joined}
+use Rattle.table_load.proofs.Shapes.{TableShaped, shaped-cleared, shaped-begun, shaped-joined}
 use Rattle.table_load.proofs.Rooms.{begun-joins}
 
 -- ---- the two machines
@@ -61,38 +61,38 @@ module _
 -- ---- what is loaded at a place
 
 -- the last type is a sequence or choice with so many members
-record Grows (a : Arrays) (count : ℕ) : Type 0 where
+record Grows (a : TableArrays) (count : ℕ) : Type 0 where
   last : ℕ
   is-last : a .types ≡ suc last
   so-many : getD (a .counts) last 0 ≡ count
   takes-members : (getD (a .kinds) last 0 ≡ 2) ⊎ (getD (a .kinds) last 0 ≡ 3)
 
 -- what a state of the form's machine says of the last type
-abbrev InState : TableState → Arrays → ℕ → Type 0
+abbrev InState : TableState → TableArrays → ℕ → Type 0
 InState noType a count = Unit {0}
 InState whole a count = Unit {0}
 InState (members k) a count = Grows a count
 InState tableEnded a count = Unit {0}
 
-abbrev continuedBy : Arrays → TableTail → Table
+abbrev continuedBy : TableArrays → TableTail → Table
 continuedBy a r = continued (a .types) (a .kinds) (a .counts) (a .members) r
 
 -- in these states of the machines the arrays, continued by what r says, are the table T
-record Loaded (s : TableState) (n : TableCount) (a : Arrays) (r : TableTail) (T : Table) : Type 0 where
-  shaped : Shaped a
+record Loaded (s : TableState) (n : TableCount) (a : TableArrays) (r : TableTail) (T : Table) : Type 0 where
+  shaped : TableShaped a
   same-types : a .types ≡ n .types
   in-state : InState s a (n .members)
   whole-table : continuedBy a r ≡ T
 
 -- the states, known as other terms
-loaded-at : {s then : TableState} {n later : TableCount} {a : Arrays} {r : TableTail} {T : Table} → s ≡ then → n ≡ later → Loaded s n a r T → Loaded then later a r T
+loaded-at : {s then : TableState} {n later : TableCount} {a : TableArrays} {r : TableTail} {T : Table} → s ≡ then → n ≡ later → Loaded s n a r T → Loaded then later a r T
 loaded-at {then = then} {n} {a = a} {r} {T} p q h = subst (λ k. Loaded then k a r T) q (subst (λ x. Loaded x n a r T) p h)
 
 -- ---- one command
 
 -- a type may begin
-begins-there : {s : TableState} {n : TableCount} {a : Arrays} {r : TableTail} {T : Table} {then : TableCount}
-    → oneTypeMore n ≡ goes then → Loaded s n a r T → Begins a × (then ≡ record { types = suc (n .types); members = 0 })
+begins-there : {s : TableState} {n : TableCount} {a : TableArrays} {r : TableTail} {T : Table} {then : TableCount}
+    → oneTypeMore n ≡ goes then → Loaded s n a r T → TypeMayBegin a × (then ≡ record { types = suc (n .types); members = 0 })
 unfolding oneTypeMore
 begins-there {s} {n} {a} {r} {T} {then} e h =
     let facts = goes-if (ltb (n .types) 64) (record { types = suc (n .types); members = 0 }) e in
@@ -110,7 +110,7 @@ begins-state (members (suc k)) first then e = goes-stops e refl
 begins-state tableEnded first then e = goes-stops e refl
 
 -- a sequence or choice that begins has no members
-grows-begun : (a : Arrays) (code : ℕ) → (code ≡ 2) ⊎ (code ≡ 3) → Shaped a → Begins a → Grows (begun a code) 0
+grows-begun : (a : TableArrays) (code : ℕ) → (code ≡ 2) ⊎ (code ≡ 3) → TableShaped a → TypeMayBegin a → Grows (begun a code) 0
 unfolding begun
 grows-begun a code which shaped room =
     let kind-there : getD (set (a .kinds) (a .types) code) (a .types) 0 ≡ code
@@ -118,11 +118,11 @@ grows-begun a code which shaped room =
     record { last = a .types; is-last = add-one (a .types); so-many = room .fresh; takes-members = rw kind-there which }
 
 -- A type of kind κ begins, with members only after it.
-loaded-begun : {s then : TableState} {n later : TableCount} {a : Arrays} {r : TableTail} {T : Table} (code : ℕ) (κ : Kind) (first : TableState)
-    → kindMore code 0 (drop (a .types * 16) (a .members)) (r .members) ≡ κ → (Shaped a → Begins a → InState first (begun a code) 0)
+loaded-begun : {s then : TableState} {n later : TableCount} {a : TableArrays} {r : TableTail} {T : Table} (code : ℕ) (κ : Kind) (first : TableState)
+    → kindMore code 0 (drop (a .types * 16) (a .members)) (r .members) ≡ κ → (TableShaped a → TypeMayBegin a → InState first (begun a code) 0)
     → tableMove s (begins first) ≡ goes then → oneTypeMore n ≡ goes later
     → Loaded s n a (record { members = []; kinds = κ ∷ r .kinds }) T
-    → Begins a × Loaded then later (begun a code) r T
+    → TypeMayBegin a × Loaded then later (begun a code) r T
 unfolding begun
 loaded-begun {s} {then} {n} {later} {a} {r} {T} code κ first same-kind there e f h =
     let facts = begins-there f h in
@@ -130,7 +130,7 @@ loaded-begun {s} {then} {n} {later} {a} {r} {T} code κ first same-kind there e 
     let same-state : first ≡ then = begins-state s first then e in
     (room, loaded-at same-state (sym (facts .1)) (now-loaded room))
   where
-    now-loaded : Begins a → Loaded first (record { types = suc (n .types); members = 0 }) (begun a code) r T
+    now-loaded : TypeMayBegin a → Loaded first (record { types = suc (n .types); members = 0 }) (begun a code) r T
     now-loaded room =
         let shaped = h .shaped in
         record {
@@ -145,7 +145,7 @@ loaded-begun {s} {then} {n} {later} {a} {r} {T} code κ first same-kind there e 
         }
 
 -- the arrays after a member joins type l, the last
-joined-is : (a : Arrays) (m l : ℕ) → a .types ≡ suc l
+joined-is : (a : TableArrays) (m l : ℕ) → a .types ≡ suc l
     → joined a m
     ≡ record {
       types = suc l;
@@ -157,10 +157,10 @@ unfolding joined
 joined-is a m l e = let before : suc l - 1 ≡ l = omega arith in rw (e, before) refl
 
 -- A list type begins, and its item joins it.
-loaded-list : {s then : TableState} {n later : TableCount} {a : Arrays} {r : TableTail} {T : Table} (m : ℕ)
+loaded-list : {s then : TableState} {n later : TableCount} {a : TableArrays} {r : TableTail} {T : Table} (m : ℕ)
     → tableMove s (begins whole) ≡ goes then → oneTypeMore n ≡ goes later
     → Loaded s n a (record { members = []; kinds = list m ∷ r .kinds }) T
-    → Begins a × Loaded then later (joined (begun a 4) m) r T
+    → TypeMayBegin a × Loaded then later (joined (begun a 4) m) r T
 unfolding begun
 loaded-list {s} {then} {n} {later} {a} {r} {T} m e f h =
     let facts = begins-there f h in
@@ -168,7 +168,7 @@ loaded-list {s} {then} {n} {later} {a} {r} {T} m e f h =
     let same-state : whole ≡ then = begins-state s whole then e in
     (room, loaded-at same-state (sym (facts .1)) (now-loaded room))
   where
-    now-loaded : Begins a → Loaded whole (record { types = suc (n .types); members = 0 }) (joined (begun a 4) m) r T
+    now-loaded : TypeMayBegin a → Loaded whole (record { types = suc (n .types); members = 0 }) (joined (begun a 4) m) r T
     now-loaded room =
         let shaped = h .shaped in
         let few = room .room in
@@ -185,8 +185,8 @@ loaded-list {s} {then} {n} {later} {a} {r} {T} m e f h =
         }
 
 -- a member may join only a sequence or choice, which may then grow on
-joins-there : (s then : TableState) (a : Arrays) (count : ℕ) → tableMove s joins ≡ goes then → InState s a count
-    → Grows a count × ((b : Arrays) (more : ℕ) → Grows b more → InState then b more)
+joins-there : (s then : TableState) (a : TableArrays) (count : ℕ) → tableMove s joins ≡ goes then → InState s a count
+    → Grows a count × ((b : TableArrays) (more : ℕ) → Grows b more → InState then b more)
 unfolding tableMove
 joins-there noType then a count e h = goes-stops e refl
 joins-there whole then a count e h = goes-stops e refl
@@ -195,11 +195,11 @@ joins-there (members (suc k)) then a count e h = let same : members k ≡ then =
 joins-there tableEnded then a count e h = goes-stops e refl
 
 -- A member joins the last type.
-loaded-joined : {s then : TableState} {n later : TableCount} {a : Arrays} {r : TableTail} {T : Table} (m : ℕ)
+loaded-joined : {s then : TableState} {n later : TableCount} {a : TableArrays} {r : TableTail} {T : Table} (m : ℕ)
     → tableMove s joins ≡ goes then
     → goesIf (ltb (n .members) maxMembers) (record { types = n .types; members = suc (n .members) }) ≡ goes later
     → Loaded s n a (record { members = m ∷ r .members; kinds = r .kinds }) T
-    → Joins a × Loaded then later (joined a m) r T
+    → MemberMayJoin a × Loaded then later (joined a m) r T
 loaded-joined {s} {then} {n} {later} {a} {r} {T} m e f h =
     let facts = goes-if (ltb (n .members) 16) (record { types = n .types; members = suc (n .members) }) f in
     let few : n .members < 16 = ltb-true (n .members) 16 (facts .0) in
@@ -208,10 +208,10 @@ loaded-joined {s} {then} {n} {later} {a} {r} {T} m e f h =
     let is-last = grows .is-last in
     let before : a .types - 1 ≡ grows .last = omega arith in
     let here : getD (a .counts) (a .types - 1) 0 ≡ n .members = ap (λ i. getD (a .counts) i 0) before ∙ grows .so-many in
-    let room : Joins a = record { some = omega arith; few = h .shaped .few-types; room = omega arith } in
+    let room : MemberMayJoin a = record { some = omega arith; few = h .shaped .few-types; room = omega arith } in
     (room, loaded-at refl (facts .1) (now-loaded few room grows (state .1)))
   where
-    now-loaded : n .members < 16 → Joins a → Grows a (n .members) → ((b : Arrays) (more : ℕ) → Grows b more → InState then b more)
+    now-loaded : n .members < 16 → MemberMayJoin a → Grows a (n .members) → ((b : TableArrays) (more : ℕ) → Grows b more → InState then b more)
         → Loaded then (record { types = n .types; members = suc (n .members) }) (joined a m) r T
     now-loaded few room grows onward =
         let shaped = h .shaped in
@@ -244,9 +244,9 @@ finishes-state (members (suc k)) then e = goes-stops e refl
 finishes-state tableEnded then e = goes-stops e refl
 
 -- A command that both machines take has room in the arrays, and leaves the table that they stand for.
-put-loaded : (c : TableCommand) {s then : TableState} {n later : TableCount} {a : Arrays} {r : TableTail} {T : Table}
+put-loaded : (c : TableCommand) {s then : TableState} {n later : TableCount} {a : TableArrays} {r : TableTail} {T : Table}
     → tableStep s c ≡ goes then → limitStep n c ≡ goes later → Loaded s n a (withCommand c r) T
-    → Room a c × Loaded then later (puts a c) r T
+    → TableRoom a c × Loaded then later (puts a c) r T
 unfolding tableStep tableRole limitStep withCommand puts
 put-loaded textType e f h = loaded-begun 0 text whole refl (λ shaped room. tt) e f h
 put-loaded emptyType e f h = loaded-begun 1 empty whole refl (λ shaped room. tt) e f h
@@ -264,7 +264,7 @@ put-loaded alien {n = n} e f h = goes-stops f refl
 -- ---- the loop
 
 -- what holds at offset `at` of the document bs with the arrays a loaded
-pub record Loading (bs : List ℕ) (a : Arrays) (at : ℕ) : Type 0 where
+pub record TableLoading (bs : List ℕ) (a : TableArrays) (at : ℕ) : Type 0 where
   pub within : at ≤ length bs
   form-state : TableState
   count-state : TableCount
@@ -273,10 +273,10 @@ pub record Loading (bs : List ℕ) (a : Arrays) (at : ℕ) : Type 0 where
   loaded : Loaded form-state count-state a (tableTail (tableCommands (drop at bs))) (tableOf bs)
 
 -- there are never too many types
-pub loading-few : {bs : List ℕ} {a : Arrays} {at : ℕ} → Loading bs a at → a .types ≤ 64
+pub loading-few : {bs : List ℕ} {a : TableArrays} {at : ℕ} → TableLoading bs a at → a .types ≤ 64
 loading-few h = h .loaded .shaped .few-types
 
-pub loading-starts : {bs : List ℕ} (rows : List ℕ) → tableForm bs ≡ passes → tableLimits bs ≡ passes → Cleared 64 rows → Loading bs (loadedIn 0 rows) 0
+pub loading-starts : {bs : List ℕ} (rows : List ℕ) → tableForm bs ≡ passes → tableLimits bs ≡ passes → CountsCleared 64 rows → TableLoading bs (loadedIn 0 rows) 0
 unfolding tableForm tableLimits tableOf continued
 loading-starts {bs} rows form limits cleared =
     record {
@@ -289,10 +289,10 @@ loading-starts {bs} rows form limits cleared =
     }
 
 -- what a turn needs and gives
-pub record Turn (bs : List ℕ) (a : Arrays) (at : ℕ) (c : TableCommand) : Type 0 where
-  pub room : Room a c
+pub record TableTurn (bs : List ℕ) (a : TableArrays) (at : ℕ) (c : TableCommand) : Type 0 where
+  pub room : TableRoom a c
   pub moves : 0 < tableWidth c
-  pub next : Loading bs (puts a c) (at + tableWidth c)
+  pub next : TableLoading bs (puts a c) (at + tableWidth c)
 
 -- a command has bytes
 width-some : (c : TableCommand) → 0 < tableWidth c
@@ -311,7 +311,7 @@ not-alien : (s then : TableState) (c : TableCommand) → tableStep s c ≡ goes 
 not-alien s then c e same = goes-stops (rw same at e) (form-stops s)
 
 -- One command is put: the loop's invariant holds behind it.
-turn-at : (bs : List ℕ) (a : Arrays) (at : ℕ) (c : TableCommand) → ReadsAt tableCommands tableWidth alien bs at c → Loading bs a at → Turn bs a at c
+turn-at : (bs : List ℕ) (a : TableArrays) (at : ℕ) (c : TableCommand) → ReadsAt tableCommands tableWidth alien bs at c → TableLoading bs a at → TableTurn bs a at c
 unfolding tableTail
 turn-at bs a at c reads h =
     let form = left-passes tableStep tableComplete form-stops bs at c reads (h .form-state) (h .form-left) in
@@ -334,16 +334,16 @@ turn-at bs a at c reads h =
           };
     }
 
-pub turn : (bs : List ℕ) (a : Arrays) (at : ℕ) {c : TableCommand} → at < length bs → c ≡ tableCommand (rawAt bs at) → Loading bs a at → Turn bs a at c
+pub turn : (bs : List ℕ) (a : TableArrays) (at : ℕ) {c : TableCommand} → at < length bs → c ≡ tableCommand (rawAt bs at) → TableLoading bs a at → TableTurn bs a at c
 turn bs a at {c} more e h = turn-at bs a at c (subst (ReadsAt tableCommands tableWidth alien bs at) (sym e) (table-reads bs at more)) h
 
 -- the invariant behind a command, at the values that the code has
-pub turned : {bs rows after : List ℕ} {types more at w : ℕ} {c : TableCommand} → Turn bs (loadedIn types rows) at c → Put types rows c more after → w ≡ tableWidth c
-    → Loading bs (loadedIn more after) (at + w)
+pub turned : {bs rows after : List ℕ} {types more at w : ℕ} {c : TableCommand} → TableTurn bs (loadedIn types rows) at c → TablePut types rows c more after → w ≡ tableWidth c
+    → TableLoading bs (loadedIn more after) (at + w)
 turned {bs} {rows} {after} {types} {more} {at} {w} {c} h p q = rw (p .does, q) (h .next)
 
 -- behind the last command, the number of types stored, the array stands for the whole table
-pub loading-ends : {bs : List ℕ} (rows : List ℕ) (types : ℕ) {at : ℕ} → length rows ≡ 1281 → length bs ≤ at → Loading bs (loadedIn types rows) at → LoadedAs bs (set rows 1280 types)
+pub loading-ends : {bs : List ℕ} (rows : List ℕ) (types : ℕ) {at : ℕ} → length rows ≡ 1281 → length bs ≤ at → TableLoading bs (loadedIn types rows) at → TableLoaded bs (set rows 1280 types)
 unfolding tableIn tableTail
 loading-ends {bs} rows types {at} size last h =
     let a = loadedIn types rows in

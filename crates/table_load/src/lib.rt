@@ -18,16 +18,16 @@ use table_checks::command::width;
 ghost use mathlib.Core.Path.{_≡_};
 ghost use Prim.Native.Nat.{_+_, _*_, _≤_, _<_};
 ghost use lib.ListN.{length, getD, set};
-ghost use Rattle.loaded_table.specs.Loaded.{countsOf};
+ghost use Rattle.loaded_table.specs.Loaded.{countsOf, countsStart, memberPlace, membersStart, tableSize};
 ghost use Rattle.model.specs.Definitions.Basics.{passes};
-ghost use Rattle.model.specs.Definitions.TableChecks.{tableForm, tableLimits};
+ghost use Rattle.model.specs.Definitions.TableChecks.{tableForm, tableLimits, maxMembers, maxTypes};
 ghost use Rattle.table_checks.specs.Read.{command};
-ghost use Rattle.table_load.specs.Loading.{loadedIn, Cleared, Room, Put, LoadedAs};
+ghost use Rattle.table_load.specs.Loading.{loadedIn, CountsCleared, TableRoom, TablePut, TableLoaded};
 
 // Stores that no type has members. The loop has stored it for the types below t.
 fn clear_counts(table: &mut [u16; TABLE])
-    requires { ⌜ length (now table) ≡ 1281 ⌝ }
-    ensures { λ r. ⌜ Cleared 64 (now (table .exit)) ⌝ }
+    requires { ⌜ length (now table) ≡ tableSize ⌝ }
+    ensures { λ r. ⌜ CountsCleared maxTypes (now (table .exit)) ⌝ }
 {
     let mut t = 0;
     while t < MAX_TYPES {
@@ -38,7 +38,7 @@ fn clear_counts(table: &mut [u16; TABLE])
 
 // One type more, of a kind, behind so many: how many types there are then.
 fn begin(table: &mut [u16; TABLE], types: usize, kind: usize) -> usize
-    requires { ⌜ (types < 64) × (kind ≤ 4) ⌝ }
+    requires { ⌜ (types < maxTypes) × (kind ≤ 4) ⌝ }
     ensures { λ r. ⌜ (r ≡ types + 1) × (now (table .exit) ≡ set (now (table .entry)) types kind) ⌝ }
 {
     set_kind(table, types, kind as u16);
@@ -47,8 +47,8 @@ fn begin(table: &mut [u16; TABLE], types: usize, kind: usize) -> usize
 
 // One member more of type t.
 fn join(table: &mut [u16; TABLE], t: usize, member: u8)
-    requires { ⌜ (t < 64) × (getD (countsOf (now table)) t 0 < 16) ⌝ }
-    ensures { λ r. ⌜ now (table .exit) ≡ set (set (now (table .entry)) (256 + (t * 16 + getD (countsOf (now (table .entry))) t 0)) member) (64 + t) (getD (countsOf (now (table .entry))) t 0 + 1) ⌝ }
+    requires { ⌜ (t < maxTypes) × (getD (countsOf (now table)) t 0 < maxMembers) ⌝ }
+    ensures { λ r. ⌜ now (table .exit) ≡ set (set (now (table .entry)) (membersStart + memberPlace t (getD (countsOf (now (table .entry))) t 0)) member) (countsStart + t) (getD (countsOf (now (table .entry))) t 0 + 1) ⌝ }
 {
     let i = count(table, t);
     set_member(table, t, i, member as u16);
@@ -57,8 +57,8 @@ fn join(table: &mut [u16; TABLE], t: usize, member: u8)
 
 // What a command does to the array with so many types: how many there are then.
 fn put(table: &mut [u16; TABLE], types: usize, c: TableCommand) -> usize
-    requires { ⌜ Room (loadedIn types (now table)) (command c) ⌝ }
-    ensures { λ r. ⌜ Put types (now (table .entry)) (command c) r (now (table .exit)) ⌝ }
+    requires { ⌜ TableRoom (loadedIn types (now table)) (command c) ⌝ }
+    ensures { λ r. ⌜ TablePut types (now (table .entry)) (command c) r (now (table .exit)) ⌝ }
 {
     match c {
         TableCommand::Text => begin(table, types, TEXT),
@@ -82,10 +82,10 @@ fn put(table: &mut [u16; TABLE], types: usize, c: TableCommand) -> usize
 // Loads the table that a document of the right form and within the limits writes. Each turn of the loop puts one command:
 // what is loaded, continued by what the commands from `at` on say, stays the document's table.
 pub fn load(t: &[u8], table: &mut [u16; TABLE])
-    requires { ⌜ length (now table) ≡ 1281 ⌝ }
+    requires { ⌜ length (now table) ≡ tableSize ⌝ }
     requires { ⌜ tableForm (now t) ≡ passes ⌝ }
     requires { ⌜ tableLimits (now t) ≡ passes ⌝ }
-    ensures { λ r. ⌜ LoadedAs (now (t .entry)) (now (table .exit)) ⌝ }
+    ensures { λ r. ⌜ TableLoaded (now (t .entry)) (now (table .exit)) ⌝ }
 {
     clear_counts(table);
     let mut types: usize = 0;

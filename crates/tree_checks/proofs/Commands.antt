@@ -13,7 +13,7 @@ use Rattle.model.specs.Definitions.Commands.{opens, character, closes, treeEnd,
 use Rattle.model.specs.Definitions.Conformance.{allowed}
 use Rattle.model.specs.Theorems.Reading.{rawWith, rawAt, tree-reads}
 use Rattle.tree_checks.specs.declared.command.TreeCommand.{TreeCommand}
-use Rattle.tree_checks.specs.Commands.{command, Reads}
+use Rattle.tree_checks.specs.Commands.{command, ReadsCommand}
 use Rattle.model.specs.Definitions.Commands as model
 
 -- a byte that begins no command of a tree, with an operand or without
@@ -79,5 +79,5 @@ above-allowed c high = rw (ne-eqb c 0x09 (λ e. omega arith), ne-eqb c 0x0A (λ 
 -- ---- what a loop knows of the command that it read
 
 -- a command that was read stands where it was read
-pub met : (bs : List ℕ) (at : ℕ) {r d : TreeCommand} → at < length bs → command r ≡ treeCommand (rawAt bs at) → r ≡ d → Reads bs at (command d)
-met bs at h e q = subst (λ (c : model.TreeCommand). Reads bs at c) (sym e ∙ ap command q) (tree-reads bs at h)
+pub met : (bs : List ℕ) (at : ℕ) {r d : TreeCommand} → at < length bs → command r ≡ treeCommand (rawAt bs at) → r ≡ d → ReadsCommand bs at (command d)
+met bs at h e q = subst (λ (c : model.TreeCommand). ReadsCommand bs at c) (sym e ∙ ap command q) (tree-reads bs at h)

@@ -12,7 +12,7 @@ use Rattle.model.specs.Definitions.TreeChecks.{treeForm}
 use Rattle.model.specs.Theorems.Documents.{commandsThen, documentCommands, document-commands, content-of-form}
 use Rattle.model.specs.Theorems.Reading.{no-tree-commands}
 use Rattle.tree_checks.specs.Elements.{opensIn}
-use Rattle.tree_checks.specs.Commands.{Reads}
+use Rattle.tree_checks.specs.Commands.{ReadsCommand}
 
 -- the commands of a content open its elements
 opens-then : (k : Content) (cs : List TreeCommand) → opensIn (commandsThen k cs) ≡ elements k + opensIn cs
@@ -55,7 +55,7 @@ counting-end bs at n h i =
     sym (add-zero n) ∙ rw none at (i .whole)
 
 -- a command that is not alien: what it opens is counted, and the others are left
-counting-on : {bs : List ℕ} (at n m : ℕ) (c : TreeCommand) → Counting bs at n → Reads bs at c → (c ≡ alienT → ⊥) → m ≤ n + treeWidth c
+counting-on : {bs : List ℕ} (at n m : ℕ) (c : TreeCommand) → Counting bs at n → ReadsCommand bs at c → (c ≡ alienT → ⊥) → m ≤ n + treeWidth c
     → ((rest : List TreeCommand) → n + opensIn (c ∷ rest) ≡ m + opensIn rest) → Counting bs (at + treeWidth c) m
 counting-on {bs} at n m c i r known few same =
     let left : n + opensIn (treeCommands (drop at bs)) ≡ m + opensIn (treeCommands (drop (at + treeWidth c) bs))
@@ -64,7 +64,7 @@ counting-on {bs} at n m c i r known few same =
 
 module _ {bs : List ℕ} where
   -- an element is counted
-  pub counting-opens : {t : ℕ} (at n : ℕ) → Counting bs at n → Reads bs at (opens t) → Counting bs (at + 2) (n + 1)
+  pub counting-opens : {t : ℕ} (at n : ℕ) → Counting bs at n → ReadsCommand bs at (opens t) → Counting bs (at + 2) (n + 1)
   unfolding opensIn treeWidth
   counting-opens {t} at n i r =
       counting-on at n (n + 1) (opens t) i r (λ e. let z : _≡_ {A = ℕ} 0 1 = cc in omega arith) (omega arith) (λ rest. one-more n (opensIn rest))
@@ -73,21 +73,21 @@ module _ {bs : List ℕ} where
       one-more n k = omega arith
 
   -- a character is none
-  pub counting-character : {c : ℕ} (at n : ℕ) → Counting bs at n → Reads bs at (character c) → Counting bs (at + 2) n
+  pub counting-character : {c : ℕ} (at n : ℕ) → Counting bs at n → ReadsCommand bs at (character c) → Counting bs (at + 2) n
   unfolding opensIn treeWidth
   counting-character {c} at n i r = counting-on at n n (character c) i r (λ e. let z : _≡_ {A = ℕ} 0 1 = cc in omega arith) (omega arith) (λ rest. refl)
 
   -- nor is a close
-  pub counting-closes : (at n : ℕ) → Counting bs at n → Reads bs at closes → Counting bs (at + 1) n
+  pub counting-closes : (at n : ℕ) → Counting bs at n → ReadsCommand bs at closes → Counting bs (at + 1) n
   unfolding opensIn treeWidth
   counting-closes at n i r = counting-on at n n closes i r (λ e. let z : _≡_ {A = ℕ} 0 1 = cc in omega arith) (omega arith) (λ rest. refl)
 
   -- nor is 3F
-  pub counting-treeEnd : (at n : ℕ) → Counting bs at n → Reads bs at treeEnd → Counting bs (at + 1) n
+  pub counting-treeEnd : (at n : ℕ) → Counting bs at n → ReadsCommand bs at treeEnd → Counting bs (at + 1) n
   unfolding opensIn treeWidth
   counting-treeEnd at n i r = counting-on at n n treeEnd i r (λ e. let z : _≡_ {A = ℕ} 0 1 = cc in omega arith) (omega arith) (λ rest. refl)
 
   -- an alien command ends the count
-  pub counting-alien : (at n : ℕ) → Counting bs at n → Reads bs at alienT → n ≡ opensIn (treeCommands bs)
+  pub counting-alien : (at n : ℕ) → Counting bs at n → ReadsCommand bs at alienT → n ≡ opensIn (treeCommands bs)
   unfolding opensIn
   counting-alien at n i r = sym (add-zero n) ∙ rw (r .reads) at (i .whole)

@@ -10,7 +10,7 @@ use Rattle.model.specs.Definitions.Commands.{TreeCommand, opens, character, clo
 use Rattle.model.specs.Definitions.TreeChecks.{TreeState, noRoot, inside, rootClosed, treeEnded, closed, treeStep, treeComplete, treeForm}
 use Rattle.model.specs.Theorems.Reading.{rawAt, tree-reads, left-stops, left-goes, goes-within, left-ends, no-tree-commands}
 use Rattle.tree_checks.specs.Machines.{formLeft, InForm, AfterEnd}
-use Rattle.tree_checks.specs.Commands.{Reads}
+use Rattle.tree_checks.specs.Commands.{ReadsCommand}
 
 -- the machine stops at an alien command
 form-alien : (s : TreeState) → treeStep s alienT ≡ stops
@@ -21,15 +21,15 @@ form-alien rootClosed = refl
 form-alien treeEnded = refl
 
 -- a command that the form's machine refuses is the verdict
-pub form-stops : {bs : List ℕ} {at : ℕ} {c : TreeCommand} (s : TreeState) → Reads bs at c → treeStep s c ≡ stops → formLeft bs s at ≡ treeForm bs → fails at ≡ treeForm bs
+pub form-stops : {bs : List ℕ} {at : ℕ} {c : TreeCommand} (s : TreeState) → ReadsCommand bs at c → treeStep s c ≡ stops → formLeft bs s at ≡ treeForm bs → fails at ≡ treeForm bs
 form-stops {bs} {at} s r e w = sym (left-stops treeCommands treeWidth alienT treeStep treeComplete form-alien s r e) ∙ w
 
 -- one that it goes on from leaves the verdict to what is behind it
-form-goes : {bs : List ℕ} {at : ℕ} {c : TreeCommand} (s n : TreeState) → Reads bs at c → treeStep s c ≡ goes n → formLeft bs s at ≡ treeForm bs → formLeft bs n (at + treeWidth c) ≡ treeForm bs
+form-goes : {bs : List ℕ} {at : ℕ} {c : TreeCommand} (s n : TreeState) → ReadsCommand bs at c → treeStep s c ≡ goes n → formLeft bs s at ≡ treeForm bs → formLeft bs n (at + treeWidth c) ≡ treeForm bs
 form-goes s n r e w = sym (left-goes treeCommands treeWidth alienT treeStep treeComplete form-alien s n r e) ∙ w
 
 -- and stays within the document
-form-within : {bs : List ℕ} {at : ℕ} {c : TreeCommand} (s n : TreeState) → Reads bs at c → treeStep s c ≡ goes n → at + treeWidth c ≤ length bs
+form-within : {bs : List ℕ} {at : ℕ} {c : TreeCommand} (s n : TreeState) → ReadsCommand bs at c → treeStep s c ≡ goes n → at + treeWidth c ≤ length bs
 form-within s n r e = goes-within treeCommands treeWidth alienT treeStep treeComplete form-alien s n r e
 
 -- where no byte is left, the state decides
@@ -48,12 +48,12 @@ unfolding treeForm treeComplete pick
 form-empty bs h = sym (form-ends bs noRoot 0 (omega arith))
 
 -- the machine stops at a first command that opens no element
-pub form-first-stops : {bs : List ℕ} {c : TreeCommand} → Reads bs 0 c → treeStep noRoot c ≡ stops → fails 0 ≡ treeForm bs
+pub form-first-stops : {bs : List ℕ} {c : TreeCommand} → ReadsCommand bs 0 c → treeStep noRoot c ≡ stops → fails 0 ≡ treeForm bs
 unfolding treeForm
 form-first-stops r e = form-stops noRoot r e refl
 
 -- after the root element was opened
-pub form-first : {bs : List ℕ} {t : ℕ} → Reads bs 0 (opens t) → InForm bs 1 2
+pub form-first : {bs : List ℕ} {t : ℕ} → ReadsCommand bs 0 (opens t) → InForm bs 1 2
 unfolding treeStep treeWidth treeForm closed
 form-first r = record {
   within = form-within noRoot (inside 0) r refl;
@@ -62,7 +62,7 @@ form-first r = record {
 }
 
 -- an element is opened in an element
-pub form-opens : {bs : List ℕ} {t : ℕ} (depth at : ℕ) → 0 < depth → InForm bs depth at → Reads bs at (opens t) → InForm bs (depth + 1) (at + 2)
+pub form-opens : {bs : List ℕ} {t : ℕ} (depth at : ℕ) → 0 < depth → InForm bs depth at → ReadsCommand bs at (opens t) → InForm bs (depth + 1) (at + 2)
 unfolding treeStep treeWidth closed
 form-opens zero at h i r = absurd (omega arith)
 form-opens {bs} (suc n) at h i r =
@@ -73,7 +73,7 @@ form-opens {bs} (suc n) at h i r =
     }
 
 -- a character leaves the state as it is
-pub form-character : {bs : List ℕ} {c : ℕ} (depth at : ℕ) → 0 < depth → InForm bs depth at → Reads bs at (character c) → InForm bs depth (at + 2)
+pub form-character : {bs : List ℕ} {c : ℕ} (depth at : ℕ) → 0 < depth → InForm bs depth at → ReadsCommand bs at (character c) → InForm bs depth (at + 2)
 unfolding treeStep treeWidth closed
 form-character zero at h i r = absurd (omega arith)
 form-character {bs} (suc n) at h i r =
@@ -84,7 +84,7 @@ form-character {bs} (suc n) at h i r =
     }
 
 -- a close leaves one open element less
-pub form-closes : {bs : List ℕ} (depth at : ℕ) → 0 < depth → InForm bs depth at → Reads bs at closes → InForm bs (depth - 1) (at + 1)
+pub form-closes : {bs : List ℕ} (depth at : ℕ) → 0 < depth → InForm bs depth at → ReadsCommand bs at closes → InForm bs (depth - 1) (at + 1)
 unfolding treeStep treeWidth closed
 form-closes zero at h i r = absurd (omega arith)
 form-closes {bs} (suc n) at h i r =
@@ -95,13 +95,13 @@ form-closes {bs} (suc n) at h i r =
     }
 
 -- 3F may not stand in an element
-pub form-end-inside : {bs : List ℕ} (depth at : ℕ) → 0 < depth → InForm bs depth at → Reads bs at treeEnd → fails at ≡ treeForm bs
+pub form-end-inside : {bs : List ℕ} (depth at : ℕ) → 0 < depth → InForm bs depth at → ReadsCommand bs at treeEnd → fails at ≡ treeForm bs
 unfolding treeStep closed
 form-end-inside zero at h i r = absurd (omega arith)
 form-end-inside (suc n) at h i r = form-stops (inside n) r refl (i .whole)
 
 -- an alien command is refused in every state
-pub form-alien-inside : {bs : List ℕ} (depth at : ℕ) → InForm bs depth at → Reads bs at alienT → fails at ≡ treeForm bs
+pub form-alien-inside : {bs : List ℕ} (depth at : ℕ) → InForm bs depth at → ReadsCommand bs at alienT → fails at ≡ treeForm bs
 form-alien-inside depth at i r = form-stops (closed depth) r (form-alien (closed depth)) (i .whole)
 
 -- where no element is open, the root is closed
@@ -110,12 +110,12 @@ form-root-closed zero at h i = i
 form-root-closed (suc n) at h i = absurd (omega arith)
 
 -- only 3F may stand behind the root
-pub form-root-stops : {bs : List ℕ} {c : TreeCommand} (at : ℕ) → InForm bs 0 at → Reads bs at c → treeStep rootClosed c ≡ stops → fails at ≡ treeForm bs
+pub form-root-stops : {bs : List ℕ} {c : TreeCommand} (at : ℕ) → InForm bs 0 at → ReadsCommand bs at c → treeStep rootClosed c ≡ stops → fails at ≡ treeForm bs
 unfolding closed
 form-root-stops at i r e = form-stops rootClosed r e (i .whole)
 
 -- behind that, the document has ended
-pub form-root-end : {bs : List ℕ} (at : ℕ) → InForm bs 0 at → Reads bs at treeEnd → AfterEnd bs (at + 1)
+pub form-root-end : {bs : List ℕ} (at : ℕ) → InForm bs 0 at → ReadsCommand bs at treeEnd → AfterEnd bs (at + 1)
 unfolding treeStep treeWidth closed
 form-root-end at i r = record {
   within = form-within rootClosed treeEnded r refl;

@@ -13,7 +13,7 @@ use Rattle.model.specs.Definitions.Commands.{TreeCommand, opens, character, clo
 use Rattle.model.specs.Definitions.TreeChecks.{maxLevels, levelStep, treeLevels}
 use Rattle.model.specs.Theorems.Reading.{left-stops, left-goes, goes-within, left-ends, no-tree-commands}
 use Rattle.tree_checks.specs.Machines.{InLevels}
-use Rattle.tree_checks.specs.Commands.{Reads}
+use Rattle.tree_checks.specs.Commands.{ReadsCommand}
 
 -- the machine stops at an alien command
 levels-alien : (n : ℕ) → levelStep n alienT ≡ stops
@@ -21,7 +21,7 @@ unfolding levelStep
 levels-alien n = refl
 
 -- a command that the machine goes on from leaves the verdict to what is behind it
-levels-goes : {bs : List ℕ} {at : ℕ} {c : TreeCommand} (m n : ℕ) → Reads bs at c → levelStep m c ≡ goes n → n ≤ 128 → InLevels bs m at → InLevels bs n (at + treeWidth c)
+levels-goes : {bs : List ℕ} {at : ℕ} {c : TreeCommand} (m n : ℕ) → ReadsCommand bs at c → levelStep m c ≡ goes n → n ≤ 128 → InLevels bs m at → InLevels bs n (at + treeWidth c)
 levels-goes m n r e low i = record {
   within = goes-within treeCommands treeWidth alienT levelStep (λ n. true) levels-alien m n r e;
   low = low;
@@ -29,7 +29,7 @@ levels-goes m n r e low i = record {
 }
 
 -- one that it refuses is the verdict
-levels-stops : {bs : List ℕ} {at : ℕ} {c : TreeCommand} (n : ℕ) → Reads bs at c → levelStep n c ≡ stops → InLevels bs n at → fails at ≡ treeLevels bs
+levels-stops : {bs : List ℕ} {at : ℕ} {c : TreeCommand} (n : ℕ) → ReadsCommand bs at c → levelStep n c ≡ stops → InLevels bs n at → fails at ≡ treeLevels bs
 levels-stops n r e i = sym (left-stops treeCommands treeWidth alienT levelStep (λ n. true) levels-alien n r e) ∙ i .whole
 
 -- at the beginning no element is open
@@ -43,34 +43,34 @@ unfolding pick
 levels-end bs n at h i = sym (left-ends treeCommands treeWidth alienT levelStep (λ n. true) levels-alien no-tree-commands bs n at h) ∙ i .whole
 
 -- an element is opened
-pub levels-opens : {bs : List ℕ} {t : ℕ} (n at : ℕ) → n < 128 → InLevels bs n at → Reads bs at (opens t) → InLevels bs (n + 1) (at + 2)
+pub levels-opens : {bs : List ℕ} {t : ℕ} (n at : ℕ) → n < 128 → InLevels bs n at → ReadsCommand bs at (opens t) → InLevels bs (n + 1) (at + 2)
 unfolding levelStep goesIf treeWidth
 levels-opens n at h i r = levels-goes n (n + 1) r (rw (lt-ltb n 128 h, add-one n)) (omega arith) i
 
 -- the 129th level is the verdict
-pub levels-deep : {bs : List ℕ} {t : ℕ} (n at : ℕ) → 128 ≤ n → InLevels bs n at → Reads bs at (opens t) → fails at ≡ treeLevels bs
+pub levels-deep : {bs : List ℕ} {t : ℕ} (n at : ℕ) → 128 ≤ n → InLevels bs n at → ReadsCommand bs at (opens t) → fails at ≡ treeLevels bs
 unfolding levelStep goesIf
 levels-deep n at h i r = levels-stops n r (rw (le-ltb n 128 h)) i
 
 -- a character leaves the number of open elements as it is
-pub levels-character : {bs : List ℕ} {c : ℕ} (n at : ℕ) → InLevels bs n at → Reads bs at (character c) → InLevels bs n (at + 2)
+pub levels-character : {bs : List ℕ} {c : ℕ} (n at : ℕ) → InLevels bs n at → ReadsCommand bs at (character c) → InLevels bs n (at + 2)
 unfolding levelStep treeWidth
 levels-character n at i r = levels-goes n n r refl (i .low) i
 
 -- an element is closed, if one is open
-pub levels-closed : {bs : List ℕ} (n at : ℕ) → InLevels bs n at → Reads bs at closes → InLevels bs (pred n) (at + 1)
+pub levels-closed : {bs : List ℕ} (n at : ℕ) → InLevels bs n at → ReadsCommand bs at closes → InLevels bs (pred n) (at + 1)
 unfolding levelStep treeWidth
 levels-closed n at i r = levels-goes n (pred n) r refl (let low : n ≤ 128 = i .low in omega arith) i
 
 -- the same as the code has it, by a test whether one is open
-pub levels-closes : {bs : List ℕ} (n m at : ℕ) → ((0 < n) × (m ≡ n - 1)) ⊎ ((n ≤ 0) × (m ≡ n)) → InLevels bs n at → Reads bs at closes → InLevels bs m (at + 1)
+pub levels-closes : {bs : List ℕ} (n m at : ℕ) → ((0 < n) × (m ≡ n - 1)) ⊎ ((n ≤ 0) × (m ≡ n)) → InLevels bs n at → ReadsCommand bs at closes → InLevels bs m (at + 1)
 levels-closes {bs} n m at came i r = subst (λ (d : ℕ). InLevels bs d (at + 1)) (⊎-elim (λ w. omega arith) (λ w. omega arith) came) (levels-closed n at i r)
 
 -- 3F changes nothing
-pub levels-treeEnd : {bs : List ℕ} (n at : ℕ) → InLevels bs n at → Reads bs at treeEnd → InLevels bs n (at + 1)
+pub levels-treeEnd : {bs : List ℕ} (n at : ℕ) → InLevels bs n at → ReadsCommand bs at treeEnd → InLevels bs n (at + 1)
 unfolding levelStep treeWidth
 levels-treeEnd n at i r = levels-goes n n r refl (i .low) i
 
 -- an alien command is the verdict
-pub levels-at-alien : {bs : List ℕ} (n at : ℕ) → InLevels bs n at → Reads bs at alienT → fails at ≡ treeLevels bs
+pub levels-at-alien : {bs : List ℕ} (n at : ℕ) → InLevels bs n at → ReadsCommand bs at alienT → fails at ≡ treeLevels bs
 levels-at-alien n at i r = levels-stops n r (levels-alien n) i

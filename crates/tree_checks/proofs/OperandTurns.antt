@@ -12,7 +12,7 @@ use Rattle.model.specs.Definitions.Conformance.{allowed}
 use Rattle.model.specs.Definitions.TreeChecks.{operandStep, treeOperands}
 use Rattle.model.specs.Theorems.Reading.{left-stops, left-goes, goes-within, left-ends, no-tree-commands}
 use Rattle.tree_checks.specs.Machines.{InOperands}
-use Rattle.tree_checks.specs.Commands.{Reads}
+use Rattle.tree_checks.specs.Commands.{ReadsCommand}
 
 module _ (types : ℕ) where
   -- the machine stops at an alien command
@@ -21,14 +21,14 @@ module _ (types : ℕ) where
   operands-alien u = refl
 
   -- a command that the machine goes on from leaves the verdict to what is behind it
-  operands-goes : {bs : List ℕ} {at : ℕ} {c : TreeCommand} → Reads bs at c → operandStep types tt c ≡ goes tt → InOperands types bs at → InOperands types bs (at + treeWidth c)
+  operands-goes : {bs : List ℕ} {at : ℕ} {c : TreeCommand} → ReadsCommand bs at c → operandStep types tt c ≡ goes tt → InOperands types bs at → InOperands types bs (at + treeWidth c)
   operands-goes r e i = record {
     within = goes-within treeCommands treeWidth alienT (operandStep types) (λ u. true) operands-alien tt tt r e;
     whole = sym (left-goes treeCommands treeWidth alienT (operandStep types) (λ u. true) operands-alien tt tt r e) ∙ i .whole;
   }
 
   -- one that it refuses is the verdict
-  operands-stops : {bs : List ℕ} {at : ℕ} {c : TreeCommand} → Reads bs at c → operandStep types tt c ≡ stops → InOperands types bs at → fails at ≡ treeOperands types bs
+  operands-stops : {bs : List ℕ} {at : ℕ} {c : TreeCommand} → ReadsCommand bs at c → operandStep types tt c ≡ stops → InOperands types bs at → fails at ≡ treeOperands types bs
   operands-stops r e i = sym (left-stops treeCommands treeWidth alienT (operandStep types) (λ u. true) operands-alien tt r e) ∙ i .whole
 
   -- at the beginning all is left
@@ -42,35 +42,35 @@ module _ (types : ℕ) where
   operands-end bs at h i = sym (left-ends treeCommands treeWidth alienT (operandStep types) (λ u. true) operands-alien no-tree-commands bs tt at h) ∙ i .whole
 
   -- an element of a type that exists
-  pub operands-opens : {bs : List ℕ} {t : ℕ} (at : ℕ) → t < types → InOperands types bs at → Reads bs at (opens t) → InOperands types bs (at + 2)
+  pub operands-opens : {bs : List ℕ} {t : ℕ} (at : ℕ) → t < types → InOperands types bs at → ReadsCommand bs at (opens t) → InOperands types bs (at + 2)
   unfolding operandStep goesIf treeWidth
   operands-opens {t = t} at h i r = operands-goes r (rw (lt-ltb t types h)) i
 
   -- one of a type that does not exist is the verdict
-  pub operands-no-type : {bs : List ℕ} {t : ℕ} (at : ℕ) → types ≤ t → InOperands types bs at → Reads bs at (opens t) → fails at ≡ treeOperands types bs
+  pub operands-no-type : {bs : List ℕ} {t : ℕ} (at : ℕ) → types ≤ t → InOperands types bs at → ReadsCommand bs at (opens t) → fails at ≡ treeOperands types bs
   unfolding operandStep goesIf
   operands-no-type {t = t} at h i r = operands-stops r (rw (le-ltb t types h)) i
 
   -- a character that is allowed
-  pub operands-character : {bs : List ℕ} {c : ℕ} (at : ℕ) → allowed c ≡ true → InOperands types bs at → Reads bs at (character c) → InOperands types bs (at + 2)
+  pub operands-character : {bs : List ℕ} {c : ℕ} (at : ℕ) → allowed c ≡ true → InOperands types bs at → ReadsCommand bs at (character c) → InOperands types bs (at + 2)
   unfolding operandStep goesIf treeWidth
   operands-character at h i r = operands-goes r (rw h) i
 
   -- one that is not allowed is the verdict
-  pub operands-not-allowed : {bs : List ℕ} {c : ℕ} (at : ℕ) → allowed c ≡ false → InOperands types bs at → Reads bs at (character c) → fails at ≡ treeOperands types bs
+  pub operands-not-allowed : {bs : List ℕ} {c : ℕ} (at : ℕ) → allowed c ≡ false → InOperands types bs at → ReadsCommand bs at (character c) → fails at ≡ treeOperands types bs
   unfolding operandStep goesIf
   operands-not-allowed at h i r = operands-stops r (rw h) i
 
   -- a close has no operand
-  pub operands-closes : {bs : List ℕ} (at : ℕ) → InOperands types bs at → Reads bs at closes → InOperands types bs (at + 1)
+  pub operands-closes : {bs : List ℕ} (at : ℕ) → InOperands types bs at → ReadsCommand bs at closes → InOperands types bs (at + 1)
   unfolding operandStep treeWidth
   operands-closes at i r = operands-goes r refl i
 
   -- nor has 3F
-  pub operands-treeEnd : {bs : List ℕ} (at : ℕ) → InOperands types bs at → Reads bs at treeEnd → InOperands types bs (at + 1)
+  pub operands-treeEnd : {bs : List ℕ} (at : ℕ) → InOperands types bs at → ReadsCommand bs at treeEnd → InOperands types bs (at + 1)
   unfolding operandStep treeWidth
   operands-treeEnd at i r = operands-goes r refl i
 
   -- an alien command is the verdict
-  pub operands-at-alien : {bs : List ℕ} (at : ℕ) → InOperands types bs at → Reads bs at alienT → fails at ≡ treeOperands types bs
+  pub operands-at-alien : {bs : List ℕ} (at : ℕ) → InOperands types bs at → ReadsCommand bs at alienT → fails at ≡ treeOperands types bs
   operands-at-alien at i r = operands-stops r (operands-alien tt) i

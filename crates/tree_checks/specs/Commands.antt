@@ -15,5 +15,5 @@ command End = model.treeEnd
 command Alien = model.alienT
 
 -- the command c stands at an offset
-abbrev pub Reads : List ℕ → ℕ → model.TreeCommand → Type 0
-Reads bs at c = ReadsAt model.treeCommands model.treeWidth model.alienT bs at c
+abbrev pub ReadsCommand : List ℕ → ℕ → model.TreeCommand → Type 0
+ReadsCommand bs at c = ReadsAt model.treeCommands model.treeWidth model.alienT bs at c

@@ -19,11 +19,11 @@ use Rattle.model.specs.Theorems.Runs.{passes-fails}
 use Rattle.model.specs.Theorems.Reading.{rawAt, tree-reads, left-stops, left-goes, left-ends, no-tree-commands}
 use Rattle.loaded_table.specs.Loaded.{tableBy, typesIn, kindsOf, countsOf, membersIn, kind-of, Bounded}
 use Rattle.tree_checks.specs.Machines.{InForm, InLevels}
-use Rattle.tree_checks.specs.Commands.{Reads}
+use Rattle.tree_checks.specs.Commands.{ReadsCommand}
 use Rattle.tree_checks.proofs.FormTurns.{form-empty, form-first, form-first-stops, form-short, form-opens, form-character, form-closes, form-end-inside, form-alien-inside, form-root-stops, form-root-end, form-more}
 use Rattle.tree_checks.proofs.LevelTurns.{levels-start, levels-opens, levels-deep, levels-character, levels-closed}
 use Rattle.tree_checks.proofs.OperandTurns.{operands-start, operands-opens, operands-no-type, operands-character, operands-not-allowed, operands-closes}
-use Rattle.tree_expected.specs.Expected.{restOf, Readable, Opens, Holds, Closes, Unfit, Refuses, rests, expectedLeft, Passed, InRoot, Inside, Outside}
+use Rattle.tree_expected.specs.Expected.{restOf, TypeReadable, MayOpen, MayHold, Closes, Unfit, Refuses, rests, expectedLeft, Passed, InRoot, Inside, Outside}
 use Rattle.tree_expected.proofs.Rests.{rest-none}
 
 -- ---- the machine of check 11
@@ -35,12 +35,12 @@ expect-alien S [] = refl
 expect-alien S (κ ∷ around) = refl
 
 -- a command that the machine refuses is the verdict
-expect-stops : (S : Table) {bs : List ℕ} {at : ℕ} {c : TreeCommand} (s : List Kind) → Reads bs at c → expectStep S s c ≡ stops
+expect-stops : (S : Table) {bs : List ℕ} {at : ℕ} {c : TreeCommand} (s : List Kind) → ReadsCommand bs at c → expectStep S s c ≡ stops
     → expectedLeft S bs s at ≡ treeExpected S bs → fails at ≡ treeExpected S bs
 expect-stops S s r e w = sym (left-stops treeCommands treeWidth alienT (expectStep S) (λ s. true) (expect-alien S) s r e) ∙ w
 
 -- one that it goes on from leaves the verdict to what is behind it
-expect-goes : (S : Table) {bs : List ℕ} {at : ℕ} {c : TreeCommand} (s n : List Kind) → Reads bs at c → expectStep S s c ≡ goes n
+expect-goes : (S : Table) {bs : List ℕ} {at : ℕ} {c : TreeCommand} (s n : List Kind) → ReadsCommand bs at c → expectStep S s c ≡ goes n
     → expectedLeft S bs s at ≡ treeExpected S bs → expectedLeft S bs n (at + treeWidth c) ≡ treeExpected S bs
 expect-goes S s n r e w = sym (left-goes treeCommands treeWidth alienT (expectStep S) (λ s. true) (expect-alien S) s n r e) ∙ w
 
@@ -64,7 +64,7 @@ rests-same rows opened had opened' had' (suc n) p q =
     rw (p n (omega arith), q n (omega arith), rests-same rows opened had opened' had' n (λ i h. p i (omega arith)) (λ i h. q i (omega arith)))
 
 -- behind the command that opens the root
-pub inside-root : (rows bs opened had : List ℕ) → Bounded rows → Reads bs 0 (opens 0) → 0 < typesIn rows → length opened ≡ 128 → length had ≡ 128
+pub inside-root : (rows bs opened had : List ℕ) → Bounded rows → ReadsCommand bs 0 (opens 0) → 0 < typesIn rows → length opened ≡ 128 → length had ≡ 128
     → Inside rows bs opened had 0 0 0 2
 unfolding treeExpected expectStep goesIf admits after treeWidth rests
 inside-root rows bs opened had b r some lo lh = record {
@@ -81,7 +81,7 @@ inside-root rows bs opened had b r some lo lh = record {
 
 module _ {rows bs opened had : List ℕ} {top m h at : ℕ} (i : Inside rows bs opened had top m h at) where
   -- the type of the innermost element can be read
-  pub inside-readable : Readable rows m
+  pub inside-readable : TypeReadable rows m
   inside-readable =
       let exists : m < typesIn rows = i .type-exists in
       let few : typesIn rows ≤ 64 = i .bounded .few-types in
@@ -100,10 +100,10 @@ module _ {rows bs opened had : List ℕ} {top m h at : ℕ} (i : Inside rows bs 
       rw (type-here, had-here, others)
 
   -- an element that may come is opened
-  pub inside-opens : {x r : ℕ} → Opens rows bs m h at x r → top + 1 < 128 → x < typesIn rows → Inside rows bs (set opened top m) (set had top r) (top + 1) x 0 (at + 2)
+  pub inside-opens : {x r : ℕ} → MayOpen rows bs m h at x r → top + 1 < 128 → x < typesIn rows → Inside rows bs (set opened top m) (set had top r) (top + 1) x 0 (at + 2)
   unfolding expectStep goesIf treeWidth
   inside-opens {x} {r} o room exists =
-      let reads : Reads bs at (opens x) = o .reads in
+      let reads : ReadsCommand bs at (opens x) = o .reads in
       let S : Table = tableBy rows in
       let around : List Kind = rests rows opened had top in
       record {
@@ -128,10 +128,10 @@ module _ {rows bs opened had : List ℕ} {top m h at : ℕ} (i : Inside rows bs 
           rw (getD-set-other opened top j m 0 other) (i .types-exist j (omega arith))
 
   -- text stays text
-  pub inside-character : {c : ℕ} → Holds rows bs m h at c → allowed c ≡ true → Inside rows bs opened had top m h (at + 2)
+  pub inside-character : {c : ℕ} → MayHold rows bs m h at c → allowed c ≡ true → Inside rows bs opened had top m h (at + 2)
   unfolding expectStep goesIf treeWidth
   inside-character {c} o fine =
-      let reads : Reads bs at (character c) = o .reads in
+      let reads : ReadsCommand bs at (character c) = o .reads in
       let s : List Kind = restOf rows m h ∷ rests rows opened had top in
       record {
         bounded = i .bounded;
@@ -186,19 +186,19 @@ module _ {rows bs opened had : List ℕ} {top m h at : ℕ} (i : Inside rows bs 
     }
 
   -- a command that the machine refuses is the verdict
-  refused : {c : TreeCommand} → Reads bs at c → expectStep (tableBy rows) (restOf rows m h ∷ rests rows opened had top) c ≡ stops → fails at ≡ treeExpected (tableBy rows) bs
+  refused : {c : TreeCommand} → ReadsCommand bs at c → expectStep (tableBy rows) (restOf rows m h ∷ rests rows opened had top) c ≡ stops → fails at ≡ treeExpected (tableBy rows) bs
   refused reads e = expect-stops (tableBy rows) (restOf rows m h ∷ rests rows opened had top) reads e (i .whole)
 
 -- ---- behind the root
 
 module _ {rows bs : List ℕ} {at : ℕ} (o : Outside rows bs at) where
   -- 3F is expected there
-  behind-end : Reads bs at treeEnd → expectedLeft (tableBy rows) bs [] (at + 1) ≡ treeExpected (tableBy rows) bs
+  behind-end : ReadsCommand bs at treeEnd → expectedLeft (tableBy rows) bs [] (at + 1) ≡ treeExpected (tableBy rows) bs
   unfolding expectStep treeWidth
   behind-end r = expect-goes (tableBy rows) (sequence [] ∷ []) [] r refl (o .whole)
 
   -- and where it is the last byte, check 11 passes
-  pub outside-ends : Reads bs at treeEnd → length bs ≤ at + 1 → passes ≡ treeExpected (tableBy rows) bs
+  pub outside-ends : ReadsCommand bs at treeEnd → length bs ≤ at + 1 → passes ≡ treeExpected (tableBy rows) bs
   outside-ends r last = sym (expect-ends (tableBy rows) bs [] (at + 1) last) ∙ behind-end r
 
 -- ---- where the checks before have passed
@@ -217,11 +217,11 @@ module _ {rows bs : List ℕ} (p : Passed rows bs) where
   passed-nonempty = below-still 0 (length bs) (λ none. passes-fails (p .form) (sym (form-empty bs (omega arith))))
 
   -- none but a command that opens an element stands at the beginning
-  pub passed-stops {ℓ} : {X : Type ℓ} {c : TreeCommand} → Reads bs 0 c → treeStep noRoot c ≡ stops → X
+  pub passed-stops {ℓ} : {X : Type ℓ} {c : TreeCommand} → ReadsCommand bs 0 c → treeStep noRoot c ≡ stops → X
   passed-stops r e = passes-fails (p .form) (sym (form-first-stops r e))
 
   -- the type of the root exists
-  pub passed-root : {t : ℕ} → Reads bs 0 (opens t) → t < typesIn rows
+  pub passed-root : {t : ℕ} → ReadsCommand bs 0 (opens t) → t < typesIn rows
   passed-root {t} r = below-still t (typesIn rows) (λ none. passes-fails (p .operands) (sym (operands-no-type (typesIn rows) 0 none (operands-start (typesIn rows) bs) r)))
 
   -- bytes are left where the form check has not ended
@@ -233,15 +233,15 @@ module _ {rows bs : List ℕ} (p : Passed rows bs) where
     passed-more = form-left (top + 1) at (i .form)
 
     -- there is room for an element that is opened
-    pub passed-room : {x : ℕ} → Reads bs at (opens x) → top + 1 < 128
+    pub passed-room : {x : ℕ} → ReadsCommand bs at (opens x) → top + 1 < 128
     passed-room r = below-still (top + 1) 128 (λ none. passes-fails (p .levels) (sym (levels-deep (top + 1) at none (i .levels) r)))
 
     -- and its type exists
-    pub passed-exists : {x : ℕ} → Reads bs at (opens x) → x < typesIn rows
+    pub passed-exists : {x : ℕ} → ReadsCommand bs at (opens x) → x < typesIn rows
     passed-exists {x} r = below-still x (typesIn rows) (λ none. passes-fails (p .operands) (sym (operands-no-type (typesIn rows) at none (i .operands) r)))
 
     -- a character is allowed
-    pub passed-allowed : {c : ℕ} → Reads bs at (character c) → allowed c ≡ true
+    pub passed-allowed : {c : ℕ} → ReadsCommand bs at (character c) → allowed c ≡ true
     passed-allowed {c} r = go (allowed c) refl
       where
         go : (b : Bool) → allowed c ≡ b → allowed c ≡ true
@@ -249,7 +249,7 @@ module _ {rows bs : List ℕ} (p : Passed rows bs) where
         go false e = passes-fails (p .operands) (sym (operands-not-allowed (typesIn rows) at e (i .operands) r))
 
     -- a command that is unfit is the verdict; 3F and an alien one do not stand in an element
-    refused-by : (c : TreeCommand) → Reads bs at c → Unfit (restOf rows m h) c → fails at ≡ treeExpected (tableBy rows) bs
+    refused-by : (c : TreeCommand) → ReadsCommand bs at c → Unfit (restOf rows m h) c → fails at ≡ treeExpected (tableBy rows) bs
     unfolding expectStep goesIf
     refused-by (opens x) r u = refused i r (rw u)
     refused-by (character c) r u = refused i r (rw u)
@@ -262,13 +262,13 @@ module _ {rows bs : List ℕ} (p : Passed rows bs) where
 
   module _ {at : ℕ} (o : Outside rows bs at) where
     -- behind 3F nothing is left
-    last-byte : Reads bs at treeEnd → length bs ≤ at + 1
+    last-byte : ReadsCommand bs at treeEnd → length bs ≤ at + 1
     last-byte r =
         let before : length bs < at + 2 = below-still (length bs) (at + 2) (λ more. passes-fails (p .form) (sym (form-more bs (at + 1) (omega arith) (form-root-end at (o .form) r)))) in
         omega arith
 
     -- any other command than 3F is refused by the form check
-    behind-root : (c : TreeCommand) → Reads bs at c → passes ≡ treeExpected (tableBy rows) bs
+    behind-root : (c : TreeCommand) → ReadsCommand bs at c → passes ≡ treeExpected (tableBy rows) bs
     unfolding treeStep
     behind-root (opens t) r = passes-fails (p .form) (sym (form-root-stops at (o .form) r refl))
     behind-root (character c) r = passes-fails (p .form) (sym (form-root-stops at (o .form) r refl))
@@ -283,10 +283,10 @@ module _ {rows bs : List ℕ} (p : Passed rows bs) where
 -- ---- the root
 
 -- an element of another type than 0 is not expected
-pub refused-root : (S : Table) {bs : List ℕ} {x : ℕ} → Reads bs 0 (opens x) → (x ≡ 0 → ⊥) → fails 0 ≡ treeExpected S bs
+pub refused-root : (S : Table) {bs : List ℕ} {x : ℕ} → ReadsCommand bs 0 (opens x) → (x ≡ 0 → ⊥) → fails 0 ≡ treeExpected S bs
 unfolding treeExpected expectStep goesIf admits
 refused-root S {x = x} r other = expect-stops S (sequence (0 ∷ []) ∷ []) r (rw (ne-eqb x 0 other)) refl
 
 -- behind one of type 0 the loop begins
-pub root-begins : {rows bs : List ℕ} {x : ℕ} → Passed rows bs → Reads bs 0 (opens x) → x ≡ 0 → InRoot rows bs
+pub root-begins : {rows bs : List ℕ} {x : ℕ} → Passed rows bs → ReadsCommand bs 0 (opens x) → x ≡ 0 → InRoot rows bs
 root-begins p r e = record { passed = p; root = rw e at r }

@@ -15,18 +15,18 @@ use Rattle.model.specs.Definitions.Basics.{memberOf}
 use Rattle.model.specs.Definitions.Table.{empty, sequence, list, isText}
 use Rattle.model.specs.Definitions.Conformance.{admits, after, complete}
 use Rattle.loaded_table.specs.Loaded.{kindFrom, kindsOf, countsOf, membersIn}
-use Rattle.tree_expected.specs.Expected.{restFrom, restOf, Readable, Opening}
+use Rattle.tree_expected.specs.Expected.{restFrom, restOf, TypeReadable, Opening}
 
 -- ---- a type that can be read
 
 -- there is room for all members
-pub members-long : (rows : List ℕ) (t : ℕ) → Readable rows t → length (membersIn rows) ≡ 1024
+pub members-long : (rows : List ℕ) (t : ℕ) → TypeReadable rows t → length (membersIn rows) ≡ 1024
 members-long rows t r =
     let size : length rows ≡ 1281 = r .bounded .size in
     simp (length-take, length-drop, size)
 
 -- so there is for those of the type
-pub row-long : (rows : List ℕ) (t : ℕ) → Readable rows t → getD (countsOf rows) t 0 ≤ length (drop (t * 16) (membersIn rows))
+pub row-long : (rows : List ℕ) (t : ℕ) → TypeReadable rows t → getD (countsOf rows) t 0 ≤ length (drop (t * 16) (membersIn rows))
 row-long rows t r =
     let below : t < 64 = r .below in
     let few : getD (countsOf rows) t 0 ≤ 16 = r .bounded .few-members t in
@@ -105,7 +105,7 @@ module _ (rows : List ℕ) (m h x : ℕ) where
       opening-none rows m h x (rw (e, none))
 
   -- it admits its next member only
-  sequence-admits : Readable rows m → getD (kindsOf rows) m 0 ≡ 2 → h < getD (countsOf rows) m 0 → eqb x (getD (membersIn rows) (m * 16 + h) 0) ≡ admits (restOf rows m h) x
+  sequence-admits : TypeReadable rows m → getD (kindsOf rows) m 0 ≡ 2 → h < getD (countsOf rows) m 0 → eqb x (getD (membersIn rows) (m * 16 + h) 0) ≡ admits (restOf rows m h) x
   unfolding admits count row
   sequence-admits r e next =
       let within : h < length (take count row) = let long : count ≤ length row = row-long rows m r in simp length-take (omega arith) in
@@ -114,13 +114,13 @@ module _ (rows : List ℕ) (m h x : ℕ) where
       = drop-cons (take count row) h 0 within ∙ ap (λ (t : ℕ). t ∷ drop (suc h) (take count row)) here in
       rw (e, members)
 
-  pub opening-next : Readable rows m → getD (kindsOf rows) m 0 ≡ 2 → h < getD (countsOf rows) m 0 → x ≡ getD (membersIn rows) (m * 16 + h) 0 → Opening rows m h x (h + 1)
+  pub opening-next : TypeReadable rows m → getD (kindsOf rows) m 0 ≡ 2 → h < getD (countsOf rows) m 0 → x ≡ getD (membersIn rows) (m * 16 + h) 0 → Opening rows m h x (h + 1)
   unfolding count row
   opening-next r e next same =
       let onward : restOf rows m (h + 1) ≡ after (restOf rows m h) = rw (e, add-one h) (sequence-suc (take count row) h) in
       opening-some rows m h x (h + 1) (omega arith) (sym (eq-eqb _ _ same) ∙ sequence-admits r e next) onward
 
-  pub opening-other : Readable rows m → getD (kindsOf rows) m 0 ≡ 2 → h < getD (countsOf rows) m 0 → (x ≡ getD (membersIn rows) (m * 16 + h) 0 → ⊥) → Opening rows m h x 0
+  pub opening-other : TypeReadable rows m → getD (kindsOf rows) m 0 ≡ 2 → h < getD (countsOf rows) m 0 → (x ≡ getD (membersIn rows) (m * 16 + h) 0 → ⊥) → Opening rows m h x 0
   opening-other r e next other = opening-none rows m h x (sym (ne-eqb _ _ other) ∙ sequence-admits r e next)
 
   -- a choice admits no second member
@@ -165,7 +165,7 @@ sequence-complete (x ∷ l) zero = leb·suc-zero (length l)
 sequence-complete (x ∷ l) (suc had) = leb·suc-suc (length l) had ∙ sequence-complete l had
 
 -- a sequence may be closed where it has had all its members
-pub complete-sequence : (rows : List ℕ) (m h : ℕ) → Readable rows m → getD (kindsOf rows) m 0 ≡ 2 → leb (getD (countsOf rows) m 0) h ≡ complete (restOf rows m h)
+pub complete-sequence : (rows : List ℕ) (m h : ℕ) → TypeReadable rows m → getD (kindsOf rows) m 0 ≡ 2 → leb (getD (countsOf rows) m 0) h ≡ complete (restOf rows m h)
 complete-sequence rows m h r e =
     let l : List ℕ = take (getD (countsOf rows) m 0) (drop (m * 16) (membersIn rows)) in
     let long : getD (countsOf rows) m 0 ≤ length (drop (m * 16) (membersIn rows)) = row-long rows m r in
@@ -248,7 +248,7 @@ searching-end x from count ms i h s =
     rw none at (s .whole)
 
 -- there is room for the members of a type that can be read
-pub members-within : (rows : List ℕ) (m : ℕ) → Readable rows m → m * 16 + getD (countsOf rows) m 0 ≤ length (membersIn rows)
+pub members-within : (rows : List ℕ) (m : ℕ) → TypeReadable rows m → m * 16 + getD (countsOf rows) m 0 ≤ length (membersIn rows)
 members-within rows m r =
     let below : m < 64 = r .below in
     let few : getD (countsOf rows) m 0 ≤ 16 = r .bounded .few-members m in

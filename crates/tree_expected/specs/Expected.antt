@@ -11,7 +11,7 @@ use Rattle.model.specs.Definitions.Conformance.{admits, after, complete}
 use Rattle.model.specs.Definitions.Table.{Kind, text, empty, sequence, choice, list, Table, isText}
 use Rattle.model.specs.Definitions.TreeChecks.{treeForm, treeLevels, treeOperands, expectStep, treeExpected}
 use Rattle.loaded_table.specs.Loaded.{tableBy, typesIn, kindsOf, countsOf, membersIn, Bounded}
-use Rattle.tree_checks.specs.Commands.{Reads}
+use Rattle.tree_checks.specs.Commands.{ReadsCommand}
 use Rattle.tree_checks.specs.Machines.{InForm, InLevels, InOperands}
 use Rattle.tree_expected.specs.declared.Turn.{Turn}
 use Rattle.tree_expected.specs.declared.Turn.the-variants.{Opened, Character, Closed, Refused}
@@ -32,7 +32,7 @@ abbrev pub restOf : List ℕ → ℕ → ℕ → Kind
 restOf rows t had = restFrom (getD (kindsOf rows) t 0) (getD (countsOf rows) t 0) (drop (t * 16) (membersIn rows)) had
 
 -- type t can be read from a loaded table
-pub record Readable (rows : List ℕ) (t : ℕ) : Type 0 where
+pub record TypeReadable (rows : List ℕ) (t : ℕ) : Type 0 where
   pub bounded : Bounded rows
   pub below : t < 64
 
@@ -49,19 +49,19 @@ SaysText rows m b = (h : ℕ) → b ≡ isText (restOf rows m h)
 -- ---- one command, in an element of type m that has had h elements
 
 -- an element of type x that may come is opened, and `next` is how many there are then
-pub record Opens (rows bs : List ℕ) (m h at x next : ℕ) : Type 0 where
-  pub reads : Reads bs at (opens x)
+pub record MayOpen (rows bs : List ℕ) (m h at x next : ℕ) : Type 0 where
+  pub reads : ReadsCommand bs at (opens x)
   pub opening : Opening rows m h x next
   pub some : 0 < next
 
 -- a character that may come
-pub record Holds (rows bs : List ℕ) (m h at c : ℕ) : Type 0 where
-  pub reads : Reads bs at (character c)
+pub record MayHold (rows bs : List ℕ) (m h at c : ℕ) : Type 0 where
+  pub reads : ReadsCommand bs at (character c)
   pub text : isText (restOf rows m h) ≡ true
 
 -- a close that may come
 pub record Closes (rows bs : List ℕ) (m h at : ℕ) : Type 0 where
-  pub reads : Reads bs at closes
+  pub reads : ReadsCommand bs at closes
   pub ready : complete (restOf rows m h) ≡ true
 
 -- a command that may not follow, or that stands in no element
@@ -75,13 +75,13 @@ Unfit κ alienT = Unit
 -- such a command stands at an offset
 pub record Refuses (rows bs : List ℕ) (m h at : ℕ) : Type 0 where
   pub met : TreeCommand
-  pub reads : Reads bs at met
+  pub reads : ReadsCommand bs at met
   pub unfit : Unfit (restOf rows m h) met
 
 -- what an answer says of the command at an offset
 abbrev pub Does : List ℕ → List ℕ → ℕ → ℕ → ℕ → Turn → Type 0
-Does rows bs m h at (Opened x next) = Opens rows bs m h at x next
-Does rows bs m h at (Character c) = Holds rows bs m h at c
+Does rows bs m h at (Opened x next) = MayOpen rows bs m h at x next
+Does rows bs m h at (Character c) = MayHold rows bs m h at c
 Does rows bs m h at Closed = Closes rows bs m h at
 Does rows bs m h at Refused = Refuses rows bs m h at
 
@@ -108,7 +108,7 @@ pub record Passed (rows bs : List ℕ) : Type 0 where
 -- a document that has passed them begins with an element of type 0
 pub record InRoot (rows bs : List ℕ) : Type 0 where
   pub passed : Passed rows bs
-  pub root : Reads bs 0 (opens 0)
+  pub root : ReadsCommand bs 0 (opens 0)
 
 -- The machines of the four checks at an offset in an element of type m that has had h elements: what is left gives the
 -- verdict of the whole. The arrays have the types of the `top` elements around it, and how many elements each has had.

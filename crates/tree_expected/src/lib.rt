@@ -20,7 +20,8 @@ ghost use Rattle.model.specs.Definitions.Conformance as model;
 ghost use Rattle.model.specs.Definitions.TreeChecks.{treeExpected};
 ghost use Rattle.answers.specs.Answers.{verdict};
 ghost use Rattle.loaded_table.specs.Loaded.{tableBy, countsOf, membersIn};
-ghost use Rattle.tree_expected.specs.Expected.{Passed, InRoot, Readable, Opening, SaysText, Does, restOf};
+ghost use Rattle.tree_expected.specs.Expected.{Passed, InRoot, TypeReadable, Opening, SaysText, Does, restOf};
+ghost use Rattle.model.specs.Definitions.TableChecks.{maxMembers};
 
 // What a command does in the innermost element: it opens an element of a type in it, which has had so many elements with that;
 // it is a character, or closes it; or it may not come.
@@ -96,7 +97,7 @@ fn inside<'a>(table: &'a [u16; TABLE], t: &'a [u8]) -> Verdict
 
 // What the command at an offset does in an element of type m that has had h elements.
 fn turn_at<'a>(table: &'a [u16; TABLE], t: &'a [u8], at: usize, m: usize, h: usize) -> Turn
-    requires { ⌜ Readable (now table) m × (at < length (now t)) ⌝ }
+    requires { ⌜ TypeReadable (now table) m × (at < length (now t)) ⌝ }
     ensures { λ r. ⌜ Does (now (table .entry)) (now (t .entry)) m h at r ⌝ }
 {
     let c = command_at(t, at);
@@ -131,7 +132,7 @@ fn turn_at<'a>(table: &'a [u16; TABLE], t: &'a [u8], at: usize, m: usize, h: usi
 // How many elements one of type m has had with one of type x that comes behind h others; 0 where that may not come. Of a choice
 // and of a list only whether there was one is kept.
 pub fn opening(table: &[u16; TABLE], m: usize, h: usize, x: usize) -> usize
-    requires { ⌜ Readable (now table) m ⌝ }
+    requires { ⌜ TypeReadable (now table) m ⌝ }
     ensures { λ r. ⌜ Opening (now (table .entry)) m h x r ⌝ }
 {
     let k = kind(table, m);
@@ -156,8 +157,8 @@ pub fn opening(table: &[u16; TABLE], m: usize, h: usize, x: usize) -> usize
 
 // Whether x is among the members of type m. The loop passes members that are not x.
 fn member_of(table: &[u16; TABLE], m: usize, x: usize) -> bool
-    requires { ⌜ Readable (now table) m ⌝ }
-    ensures { λ r. ⌜ r ≡ memberOf x (take (getD (countsOf (now (table .entry))) m 0) (drop (m * 16) (membersIn (now (table .entry))))) ⌝ }
+    requires { ⌜ TypeReadable (now table) m ⌝ }
+    ensures { λ r. ⌜ r ≡ memberOf x (take (getD (countsOf (now (table .entry))) m 0) (drop (m * maxMembers) (membersIn (now (table .entry))))) ⌝ }
 {
     let many = count(table, m);
     let mut i = 0;
@@ -172,7 +173,7 @@ fn member_of(table: &[u16; TABLE], m: usize, x: usize) -> bool
 
 // Whether an element of type m holds text.
 pub fn is_text(table: &[u16; TABLE], m: usize) -> bool
-    requires { ⌜ Readable (now table) m ⌝ }
+    requires { ⌜ TypeReadable (now table) m ⌝ }
     ensures { λ r. ⌜ SaysText (now (table .entry)) m r ⌝ }
 {
     kind(table, m) == TEXT
@@ -180,7 +181,7 @@ pub fn is_text(table: &[u16; TABLE], m: usize) -> bool
 
 // Whether an element of type m that has had h elements may be closed.
 pub fn complete(table: &[u16; TABLE], m: usize, h: usize) -> bool
-    requires { ⌜ Readable (now table) m ⌝ }
+    requires { ⌜ TypeReadable (now table) m ⌝ }
     ensures { λ r. ⌜ r ≡ model.complete (restOf (now (table .entry)) m h) ⌝ }
 {
     let k = kind(table, m);

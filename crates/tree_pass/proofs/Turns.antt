@@ -9,19 +9,19 @@ use Rattle.model.specs.Definitions.Commands.{TreeCommand, opens, treeCommand}
 use Rattle.model.specs.Definitions.Conformance.{allowed}
 use Rattle.model.specs.Theorems.Reading.{rawAt, tree-reads}
 use Rattle.loaded_table.specs.Loaded.{typesIn}
-use Rattle.tree_checks.specs.Commands.{Reads}
+use Rattle.tree_checks.specs.Commands.{ReadsCommand}
 use Rattle.tree_checks.proofs.Commands.{opens-at}
 use Rattle.tree_checks.proofs.Elements.{Counting, counting-start, counting-opens, counting-character, counting-closes, counting-treeEnd, counting-end}
 use Rattle.tree_checks.proofs.FormTurns.{form-root-end, form-ended}
 use Rattle.tree_checks.proofs.LevelTurns.{levels-treeEnd, levels-end}
 use Rattle.tree_checks.proofs.OperandTurns.{operands-treeEnd, operands-end}
-use Rattle.tree_expected.specs.Expected.{Opens, Holds, Closes, Inside, Outside}
+use Rattle.tree_expected.specs.Expected.{MayOpen, MayHold, Closes, Inside, Outside}
 use Rattle.tree_expected.proofs.ExpectedTurns.{inside-root, inside-readable, inside-opens, inside-character, inside-closes, outside-closes, outside-ends}
-use Rattle.tree_pass.specs.Passing.{Begun, Entered, Accepted, Innermost, Ends}
+use Rattle.tree_pass.specs.Passing.{Begun, RootEntered, Accepted, Innermost, Ends}
 
 -- the command at an offset within the document stands there
-pub stands : {bs : List ℕ} {at : ℕ} {c : TreeCommand} → at < length bs → c ≡ treeCommand (rawAt bs at) → Reads bs at c
-stands {bs} {at} h e = subst (λ (c : TreeCommand). Reads bs at c) (sym e) (tree-reads bs at h)
+pub stands : {bs : List ℕ} {at : ℕ} {c : TreeCommand} → at < length bs → c ≡ treeCommand (rawAt bs at) → ReadsCommand bs at c
+stands {bs} {at} h e = subst (λ (c : TreeCommand). ReadsCommand bs at c) (sym e) (tree-reads bs at h)
 
 -- a document of at least two bytes that begins with 30 and 0
 pub begun : {bs : List ℕ} → 2 ≤ length bs → length bs ≤ 60000 → getD bs 0 0 ≡ 0x30 → getD bs 1 0 ≡ 0 → Begun bs
@@ -35,7 +35,7 @@ pub record Passing (rows bs opened had : List ℕ) (top m h n at : ℕ) : Type 0
   pub counting : Counting bs at n
 
 -- behind the command that opens the root
-pub passing-root : (rows bs opened had : List ℕ) → Entered rows bs → length opened ≡ 128 → length had ≡ 128 → Passing rows bs opened had 0 0 0 1 2
+pub passing-root : (rows bs opened had : List ℕ) → RootEntered rows bs → length opened ≡ 128 → length had ≡ 128 → Passing rows bs opened had 0 0 0 1 2
 passing-root rows bs opened had e lo lh = record {
   inside = inside-root rows bs opened had (e .bounded) (e .begun .root) (e .some) lo lh;
   counting = counting-opens 0 0 (counting-start bs) (e .begun .root);
@@ -49,14 +49,14 @@ module _ {rows bs opened had : List ℕ} {top m h n at : ℕ} (p : Passing rows 
       record { readable = inside-readable (p .inside); low = omega arith; more = more }
 
   -- an element is opened
-  pub passing-opens : {x next : ℕ} → Opens rows bs m h at x next × (x < typesIn rows) × (top + 1 < 128) → Passing rows bs (set opened top m) (set had top next) (top + 1) x 0 (n + 1) (at + 2)
+  pub passing-opens : {x next : ℕ} → MayOpen rows bs m h at x next × (x < typesIn rows) × (top + 1 < 128) → Passing rows bs (set opened top m) (set had top next) (top + 1) x 0 (n + 1) (at + 2)
   passing-opens o = record {
     inside = inside-opens (p .inside) (o .0) (o .2) (o .1);
     counting = counting-opens at n (p .counting) (o .0 .reads);
   }
 
   -- a character
-  pub passing-character : {c : ℕ} → Holds rows bs m h at c × (allowed c ≡ true) → Passing rows bs opened had top m h n (at + 2)
+  pub passing-character : {c : ℕ} → MayHold rows bs m h at c × (allowed c ≡ true) → Passing rows bs opened had top m h n (at + 2)
   passing-character o = record {
     inside = inside-character (p .inside) (o .0) (o .1);
     counting = counting-character at n (p .counting) (o .0 .reads);

@@ -9,19 +9,19 @@ use Rattle.model.specs.Definitions.Commands.{opens, treeEnd, treeCommands}
 use Rattle.model.specs.Definitions.Conformance.{allowed}
 use Rattle.model.specs.Definitions.TreeChecks.{treeForm, treeLevels, treeOperands, treeExpected}
 use Rattle.loaded_table.specs.Loaded.{tableBy, typesIn, Bounded}
-use Rattle.tree_checks.specs.Commands.{Reads}
+use Rattle.tree_checks.specs.Commands.{ReadsCommand}
 use Rattle.tree_checks.specs.Elements.{opensIn}
-use Rattle.tree_expected.specs.Expected.{Readable, Opening, SaysText, Opens, Holds, Closes}
+use Rattle.tree_expected.specs.Expected.{TypeReadable, Opening, SaysText, MayOpen, MayHold, Closes}
 use Rattle.tree_expected.specs.declared.Turn.{Turn}
 use Rattle.tree_expected.specs.declared.Turn.the-variants.{Opened, Character, Closed, Refused}
 
 -- a document that is not too long and begins with an element of type 0
 pub record Begun (bs : List ℕ) : Type 0 where
   pub short : length bs ≤ 60000
-  pub root : Reads bs 0 (opens 0)
+  pub root : ReadsCommand bs 0 (opens 0)
 
 -- the same by a table that has a type 0
-pub record Entered (rows bs : List ℕ) : Type 0 where
+pub record RootEntered (rows bs : List ℕ) : Type 0 where
   pub bounded : Bounded rows
   pub begun : Begun bs
   pub some : 0 < typesIn rows
@@ -39,7 +39,7 @@ pub record Accepted (rows bs : List ℕ) (n : ℕ) : Type 0 where
 
 -- an element of type m has `top` elements around it, and at least two bytes are left
 pub record Innermost (rows bs : List ℕ) (top m at : ℕ) : Type 0 where
-  pub readable : Readable rows m
+  pub readable : TypeReadable rows m
   pub low : top < 128
   pub more : at + 1 < length bs
 
@@ -56,8 +56,8 @@ pub record Textual (rows : List ℕ) (m c : ℕ) : Type 0 where
 
 -- what an answer says of the command at an offset
 abbrev pub Checked : List ℕ → List ℕ → ℕ → ℕ → ℕ → ℕ → Turn → Type 0
-Checked rows bs top m h at (Opened x next) = Opens rows bs m h at x next × (x < typesIn rows) × (top + 1 < 128)
-Checked rows bs top m h at (Character c) = Holds rows bs m h at c × (allowed c ≡ true)
+Checked rows bs top m h at (Opened x next) = MayOpen rows bs m h at x next × (x < typesIn rows) × (top + 1 < 128)
+Checked rows bs top m h at (Character c) = MayHold rows bs m h at c × (allowed c ≡ true)
 Checked rows bs top m h at Closed = Closes rows bs m h at
 Checked rows bs top m h at Refused = Unit
 
@@ -65,6 +65,6 @@ Checked rows bs top m h at Refused = Unit
 
 -- 3F stands at an offset, and nothing behind it; r is n
 pub record Ends (bs : List ℕ) (at n r : ℕ) : Type 0 where
-  pub reads : Reads bs at treeEnd
+  pub reads : ReadsCommand bs at treeEnd
   pub last : length bs ≤ at + 1
   pub same : r ≡ n

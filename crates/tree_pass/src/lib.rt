@@ -17,8 +17,9 @@ ghost use mathlib.Core.Bool.{true};
 ghost use Prim.Native.Nat.{_<_};
 ghost use lib.ListN.{length};
 ghost use Rattle.loaded_table.specs.Loaded.{Bounded};
-ghost use Rattle.tree_expected.specs.Expected.{Readable};
-ghost use Rattle.tree_pass.specs.Passing.{Begun, Entered, Accepted, Innermost, Enters, Textual, Checked, Ends};
+ghost use Rattle.tree_expected.specs.Expected.{TypeReadable};
+ghost use Rattle.tree_pass.specs.Passing.{Begun, RootEntered, Accepted, Innermost, Enters, Textual, Checked, Ends};
+ghost use Rattle.model.specs.Definitions.TreeChecks.{maxLevels};
 
 // The number of elements of a document that all checks pass by a loaded table; 0 says only that some check may fail.
 pub fn elements<'a>(table: &'a [u16; TABLE], t: &'a [u8]) -> usize
@@ -53,7 +54,7 @@ fn begins(t: &[u8]) -> bool
 // The same of a document that begins with an element of type 0. The loop keeps the innermost element's type and how many
 // elements it has had, the same of each element around it, the outermost first, and the number of elements that were opened.
 fn inside<'a>(table: &'a [u16; TABLE], t: &'a [u8]) -> usize
-    requires { ⌜ Entered (now table) (now t) ⌝ }
+    requires { ⌜ RootEntered (now table) (now t) ⌝ }
     ensures { λ r. ⌜ (0 < r → Accepted (now (table .entry)) (now (t .entry)) r) ⌝ }
 {
     let mut opened = [0usize; MAX_LEVELS];
@@ -135,7 +136,7 @@ fn checked_at<'a>(
 // How many elements one of type m with `top` elements around it has had with one of type x that comes behind h others; 0 where
 // that may not come, where there is no such type, or where it would stand too deep.
 fn entering(table: &[u16; TABLE], top: usize, m: usize, h: usize, x: u8) -> usize
-    requires { ⌜ Readable (now table) m × (top < 128) ⌝ }
+    requires { ⌜ TypeReadable (now table) m × (top < maxLevels) ⌝ }
     ensures { λ r. ⌜ (0 < r → Enters (now (table .entry)) top m h x r) ⌝ }
 {
     if types(table) <= x as usize {
@@ -149,7 +150,7 @@ fn entering(table: &[u16; TABLE], top: usize, m: usize, h: usize, x: u8) -> usiz
 
 // Whether a byte is a character that an element of type m may hold.
 fn holds(table: &[u16; TABLE], m: usize, c: u8) -> bool
-    requires { ⌜ Readable (now table) m ⌝ }
+    requires { ⌜ TypeReadable (now table) m ⌝ }
     ensures { λ r. ⌜ (r ≡ true → Textual (now (table .entry)) m c) ⌝ }
 {
     if is_text(table, m) { allowed(c) } else { false }

@@ -1,4 +1,4 @@
--- `load` meets its contract. The invariant is `Loading` of Turns.antt, the measure what is left of the document.
+-- `load` meets its contract. The invariant is `EmbeddingLoading` of Turns.antt, the measure what is left of the document.
 use mathlib.Core.Path.{_≡_, _∙_}
 use Prim.Native.Nat.{_+_, _-_}
 use native.Mathlib.Omega.{arith}
@@ -8,12 +8,12 @@ use Rattle.loaded_table.specs.Loaded.{tableBy}
 use Rattle.embedding_checks.specs.Commands.{command}
 use Rattle.embedding_load.specs.Loading.{loadedAt}
 use Rattle.embedding_load.proofs.Sources.{source-in}
-use Rattle.embedding_load.proofs.Turns.{Loading, Turn, loading-starts, turn, turned, loading-ends}
+use Rattle.embedding_load.proofs.Turns.{EmbeddingLoading, EmbeddingTurn, loading-starts, turn, turned, loading-ends}
 use Rattle.embedding_load.proofs.load.Statement.{statement}
 use Rattle.embedding_load.proofs.load.Tie as tie
 
 abbrev Inv-loop : tie.InvT-loop
-Inv-loop source em map₀ at₀ place₀ map at place = (length map ≡ 2112) × Loading em (tableBy source) (loadedAt place map) at
+Inv-loop source em map₀ at₀ place₀ map at place = (length map ≡ 2112) × EmbeddingLoading em (tableBy source) (loadedAt place map) at
 
 abbrev μ-loop : tie.MeasureT-loop
 μ-loop source em map₀ at₀ place₀ map at place = length em - at
@@ -30,7 +30,7 @@ startOf c = c .before .before .before
 
 -- what a turn needs and gives
 here : (c : tie.After-command-at Inv-loop μ-loop)
-    → Turn (now (startOf (c .before) .args .em)) (tableBy (now (startOf (c .before) .args .source))) (loadedAt (c .before .before .loop .place) (c .before .before .loop .map)) (c .before .before .loop .at) (command (c .command-at .result))
+    → EmbeddingTurn (now (startOf (c .before) .args .em)) (tableBy (now (startOf (c .before) .args .source))) (loadedAt (c .before .before .loop .place) (c .before .before .loop .map)) (c .before .before .loop .at) (command (c .command-at .result))
 here c = turn (c .before .loop-test .taken) (c .command-at .ensures) (c .before .before .loop .inv .1)
 
 command-at-requires : tie.Need-command-at-requires Inv-loop μ-loop
@@ -44,7 +44,7 @@ width-requires c κs = tt
 
 -- the invariant behind the command
 again : (c : tie.After-width Inv-loop μ-loop)
-    → Loading (now (startOf (c .before .before .before .before) .args .em)) (tableBy (now (startOf (c .before .before .before .before) .args .source))) (loadedAt (c .before .put .result) (c .before .put .last .0)) (c .before .before .before .before .before .loop .at + c .width .result)
+    → EmbeddingLoading (now (startOf (c .before .before .before .before) .args .em)) (tableBy (now (startOf (c .before .before .before .before) .args .source))) (loadedAt (c .before .put .result) (c .before .put .last .0)) (c .before .before .before .before .before .loop .at + c .width .result)
 again c = turned (here (c .before .before .before)) (c .before .put .ensures .put-there) (c .width .ensures)
 
 add-at : tie.Need-add-at Inv-loop μ-loop

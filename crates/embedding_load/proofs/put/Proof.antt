@@ -1,24 +1,24 @@
 -- `put` meets its contract: each command by what it stores.
 use mathlib.Core.Path.{refl}
 use native.Mathlib.Omega.{arith}
-use Rattle.embedding_load.specs.Loading.{Arrays, loadedAt, Maps, Begins, Steps, puts}
+use Rattle.embedding_load.specs.Loading.{MapArrays, loadedAt, TypeMayFollow, PathMayBegin, StepMayFollow, puts}
 use Rattle.embedding_load.proofs.Rooms.{told-room, told-puts, path-room, step-room, target-stored, path-stored, step-stored}
 use borrow.Author.Needs.{needs}
 use Rattle.embedding_load.proofs.put.Statement.{statement}
 use Rattle.embedding_load.proofs.put.Tie as tie
 
 -- what is loaded before the command
-abbrev loadedBefore : tie.Start → Arrays
+abbrev loadedBefore : tie.Start → MapArrays
 loadedBefore c = loadedAt (c .args .p) (c .args .map .now)
 
 -- room for a map, for a path, for a step
-maps-here : (c : tie.After-known-told) → Maps (loadedBefore (c .before .before .before))
+maps-here : (c : tie.After-known-told) → TypeMayFollow (loadedBefore (c .before .before .before))
 maps-here c = let start = c .before .before .before in told-room (loadedBefore start) (start .args .at) (c .before .c .given .1) (start .pre)
 
-begins-here : (c : tie.After-enum-told) → Begins (loadedBefore (c .before .before)) (c .before .before .args .at)
+begins-here : (c : tie.After-enum-told) → PathMayBegin (loadedBefore (c .before .before)) (c .before .before .args .at)
 begins-here c = let start = c .before .before in told-room (loadedBefore start) (start .args .at) (c .enum-told .given .1) (start .pre)
 
-steps-here : (c : tie.After-enum-told2) → Steps (loadedBefore (c .before .before))
+steps-here : (c : tie.After-enum-told2) → StepMayFollow (loadedBefore (c .before .before))
 steps-here c = let start = c .before .before in told-room (loadedBefore start) (start .args .at) (c .enum-told2 .given .1) (start .pre)
 
 enum-known-c : tie.Need-enum-known-c

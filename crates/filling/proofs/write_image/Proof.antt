@@ -7,20 +7,20 @@ use lib.ListN.{length, length-append}
 use Rattle.writing.specs.Writing.{Writes}
 use Rattle.writing.specs.Laws.{writes-then, writes-length}
 use Rattle.filling.specs.Contents.{spans-from}
-use Rattle.filling.specs.Asked.{Fits, ImageAsked}
+use Rattle.filling.specs.Asked.{ImageFits, ImageAsked}
 use Rattle.filling.specs.Whole.{held, image-root, image-within, image-row, image-bytes}
 use Rattle.filling.proofs.write_image.Statement.{statement}
 use Rattle.filling.proofs.write_image.Tie as tie
 
 -- there is room for the root, what it holds, and the end
-whole-room : {source pool places tr : List ℕ} {long : ℕ} (f : Fits (ImageAsked source pool places tr) 0 long) → 2 + length (held (f .asked)) + 2 ≤ long
+whole-room : {source pool places tr : List ℕ} {long : ℕ} (f : ImageFits (ImageAsked source pool places tr) 0 long) → 2 + length (held (f .asked)) + 2 ≤ long
 whole-room f =
     let inner = held (f .asked) in
     omega
     (arith, f .room, ap length (image-bytes (f .asked)), length-append (0x30 ∷ 0 ∷ []) ((inner ++ 0x32 ∷ []) ++ 0x3F ∷ []), length-append (inner ++ 0x32 ∷ []) (0x3F ∷ []), length-append inner (0x32 ∷ []))
 
 -- behind what the root holds there is room for two bytes
-inner-room : {source pool places tr old out₁ out₂ : List ℕ} {at₁ at₂ : ℕ} (f : Fits (ImageAsked source pool places tr) 0 (length old)) → Writes old out₁ 0 (0x30 ∷ 0 ∷ []) at₁ → Writes out₁ out₂ at₁ (held (f .asked)) at₂
+inner-room : {source pool places tr old out₁ out₂ : List ℕ} {at₁ at₂ : ℕ} (f : ImageFits (ImageAsked source pool places tr) 0 (length old)) → Writes old out₁ 0 (0x30 ∷ 0 ∷ []) at₁ → Writes out₁ out₂ at₁ (held (f .asked)) at₂
     → at₂ + 2 ≤ length out₂
 inner-room f opened inner = omega (arith, whole-room f, opened .after, writes-length opened, inner .after, writes-length inner)
 

@@ -3,7 +3,7 @@ use mathlib.Core.Path.{subst, _∙_}
 use Prim.Native.Nat.{ℕ, _-_, _<_}
 use native.Mathlib.Omega.{arith}
 use borrow.Author.Needs.{needs}
-use Rattle.growing.specs.Growing.{Spans}
+use Rattle.growing.specs.Growing.{MemberRange}
 use Rattle.growing.specs.Laws.{puts-length}
 use Rattle.growing.proofs.Members.{Members, members-none, members-all, closing-fits, member-place, member-task, member-room, member-written, small, filler-fits, filler-written, opening-fits, step-reads, inside-fits, element-written, hole-fits, hole-written, end-fits}
 use borrow.Fn.Kinds.{In}
@@ -104,7 +104,7 @@ element-loop-holds t c =
     let start = c .before .before .before .before .before .before .before .before .before .before .before .before .before in
     let some = c .before .before .before .before .before .before .before .before .before .before .if1 .left in
     members-none (start .pre .1 .0) some (inside-fits (start .pre .1 .0) some (c .before .before .before .before .before .put2 .ensures) (start .pre .1 .1)) (c .before .before .if2 .left) (c .members-below .result)
-    (subst (λ (q : ℕ). Spans (start .args .target .now) (start .args .t) q (c .members-below .result)) (c .before .first-step .ensures .0) (c .members-below .ensures))
+    (subst (λ (q : ℕ). MemberRange (start .args .target .now) (start .args .t) q (c .members-below .result)) (c .before .first-step .ensures .0) (c .members-below .ensures))
 
 element-sub-member : (t : ℕ) → element-lts.Need-sub-member (calls t) (element-at t) element.Post element-Inv-loop element-μ-loop
 element-sub-member t c = omega (arith, c .before .loop .inv .low, c .before .loop .inv .growing .low)

@@ -6,20 +6,20 @@ use native.Mathlib.Omega.{arith}
 use lib.ListN.{getD}
 use borrow.Author.Needs.{needs}
 use Rattle.model.specs.Definitions.Content.{Content, end, char, elem}
-use Rattle.scanning.specs.Scanning.{At}
+use Rattle.scanning.specs.Scanning.{ContentAt}
 use Rattle.scanning.specs.Laws.{content-within, element-first, opens}
 use Rattle.measuring.specs.Measured.{typeAhead}
 use Rattle.measuring.proofs.type_ahead.Statement.{statement}
 use Rattle.measuring.proofs.type_ahead.Tie as tie
 
 module _ {tr : List ℕ} {from : ℕ} where
-  ahead-opens : (k : Content) → At tr from k → getD tr from 0 ≡ 0x30 → getD tr (from + 1) 0 ≡ typeAhead k
+  ahead-opens : (k : Content) → ContentAt tr from k → getD tr from 0 ≡ 0x30 → getD tr (from + 1) 0 ≡ typeAhead k
   unfolding typeAhead
   ahead-opens k a first =
       let o = opens k a first in
       o .named ∙ sym (ap typeAhead (o .is))
 
-  ahead-none : (k : Content) → At tr from k → (getD tr from 0 ≡ 0x30 → ⊥) → typeAhead k ≡ 0
+  ahead-none : (k : Content) → ContentAt tr from k → (getD tr from 0 ≡ 0x30 → ⊥) → typeAhead k ≡ 0
   unfolding typeAhead
   ahead-none end a other = refl
   ahead-none (char c r) a other = refl

@@ -5,12 +5,12 @@ use native.Mathlib.Omega.{arith}
 use borrow.Author.Needs.{needs}
 use Rattle.own_rows.specs.Making.{edgeRoom}
 use Rattle.preparing.specs.Preparing.{roomOf}
-use Rattle.preparing.proofs.Adding.{Adds, adds-none, adds-more, adds-all}
+use Rattle.preparing.proofs.Adding.{EdgesAdded, adds-none, adds-more, adds-all}
 use Rattle.preparing.proofs.room.Statement.{statement}
 use Rattle.preparing.proofs.room.Tie as tie
 
 abbrev Inv-loop : tie.InvT-loop
-Inv-loop source target map all total₀ i₀ total i = Adds map total₀ all total i
+Inv-loop source target map all total₀ i₀ total i = EdgesAdded map total₀ all total i
 
 abbrev μ-loop : tie.MeasureT-loop
 μ-loop source target map all total₀ i₀ total i = all - i

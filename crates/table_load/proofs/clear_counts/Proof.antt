@@ -2,13 +2,13 @@
 use mathlib.Core.Path.{_≡_}
 use Prim.Native.Nat.{_-_, _≤_}
 use native.Mathlib.Omega.{arith}
-use Rattle.table_load.specs.Loading.{Cleared}
+use Rattle.table_load.specs.Loading.{CountsCleared}
 use Rattle.table_load.proofs.Shapes.{cleared-more}
 use Rattle.table_load.proofs.clear_counts.Statement.{statement}
 use Rattle.table_load.proofs.clear_counts.Tie as tie
 
 abbrev Inv-loop : tie.InvT-loop
-Inv-loop table₀ t₀ table t = (t ≤ 64) × Cleared t table
+Inv-loop table₀ t₀ table t = (t ≤ 64) × CountsCleared t table
 
 abbrev μ-loop : tie.MeasureT-loop
 μ-loop table₀ t₀ table t = 64 - t

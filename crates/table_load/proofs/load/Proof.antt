@@ -1,4 +1,4 @@
--- `load` meets its contract. The invariant is `Loading` of Turns.antt, the measure what is left of the document.
+-- `load` meets its contract. The invariant is `TableLoading` of Turns.antt, the measure what is left of the document.
 use mathlib.Core.Path.{_≡_, _∙_}
 use Prim.Native.Nat.{_+_, _-_}
 use native.Mathlib.Omega.{arith}
@@ -6,12 +6,12 @@ use lib.ListN.{length}
 use denote.Ref.{now}
 use Rattle.table_checks.specs.Read.{command}
 use Rattle.table_load.specs.Loading.{loadedIn}
-use Rattle.table_load.proofs.Turns.{Loading, Turn, loading-starts, loading-few, turn, turned, loading-ends}
+use Rattle.table_load.proofs.Turns.{TableLoading, TableTurn, loading-starts, loading-few, turn, turned, loading-ends}
 use Rattle.table_load.proofs.load.Statement.{statement}
 use Rattle.table_load.proofs.load.Tie as tie
 
 abbrev Inv-loop : tie.InvT-loop
-Inv-loop t table₀ types₀ at₀ table types at = (length table ≡ 1281) × Loading t (loadedIn types table) at
+Inv-loop t table₀ types₀ at₀ table types at = (length table ≡ 1281) × TableLoading t (loadedIn types table) at
 
 abbrev μ-loop : tie.MeasureT-loop
 μ-loop t table₀ types₀ at₀ table types at = length t - at
@@ -27,7 +27,7 @@ loop-holds c =
 
 -- what a turn needs and gives
 here : (c : tie.After-command-at Inv-loop μ-loop)
-    → Turn (now (c .before .before .before .before .before .before .args .t)) (loadedIn (c .before .before .loop .types) (c .before .before .loop .table)) (c .before .before .loop .at) (command (c .command-at .result))
+    → TableTurn (now (c .before .before .before .before .before .before .args .t)) (loadedIn (c .before .before .loop .types) (c .before .before .loop .table)) (c .before .before .loop .at) (command (c .command-at .result))
 here c = turn _ _ _ (c .before .loop-test .taken) (c .command-at .ensures) (c .before .before .loop .inv .1)
 
 command-at-requires : tie.Need-command-at-requires Inv-loop μ-loop
@@ -41,7 +41,7 @@ width-requires c κs = tt
 
 -- the invariant behind the command
 again : (c : tie.After-width Inv-loop μ-loop)
-    → Loading (now (c .before .before .before .before .before .before .before .before .before .args .t)) (loadedIn (c .before .put .result) (c .before .put .last .0)) (c .before .before .before .before .before .loop .at + c .width .result)
+    → TableLoading (now (c .before .before .before .before .before .before .before .before .before .args .t)) (loadedIn (c .before .put .result) (c .before .put .last .0)) (c .before .before .before .before .before .loop .at + c .width .result)
 again c = turned (here (c .before .before .before)) (c .before .put .ensures) (c .width .ensures)
 
 add-at : tie.Need-add-at Inv-loop μ-loop

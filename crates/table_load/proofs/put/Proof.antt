@@ -2,13 +2,13 @@
 use mathlib.Core.Path.{refl}
 use borrow.Author.Needs.{needs}
 use Rattle.model.specs.Definitions.Commands.{textType, emptyType, sequenceType, choiceType}
-use Rattle.table_load.specs.Loading.{Arrays, loadedIn, puts, Begins, Joins}
+use Rattle.table_load.specs.Loading.{TableArrays, loadedIn, puts, TypeMayBegin, MemberMayJoin}
 use Rattle.table_load.proofs.Rooms.{told-room, told-put, join-room, list-room, begun-put, list-put, member-put}
 use Rattle.table_load.proofs.put.Statement.{statement}
 use Rattle.table_load.proofs.put.Tie as tie
 
 -- what is loaded before the command
-abbrev loaded : tie.Start → Arrays
+abbrev loaded : tie.Start → TableArrays
 loaded c = loadedIn (c .args .types) (c .args .table .now)
 
 enum-told : tie.Need-enum-told
@@ -39,7 +39,7 @@ enum-known-c : tie.Need-enum-known-c
 enum-known-c c = search needs
 
 -- room for a list
-begins-here : (c : tie.After-c) → Begins (loaded (c .before .before))
+begins-here : (c : tie.After-c) → TypeMayBegin (loaded (c .before .before))
 begins-here c = told-room (loaded (c .before .before)) (c .c .given .1) (c .before .before .pre)
 
 begin-requires-5 : tie.Need-begin-requires-5
@@ -54,7 +54,7 @@ enum-known-c-2 : tie.Need-enum-known-c-2
 enum-known-c-2 c = search needs
 
 -- room for a member
-joins-here : (c : tie.After-c2) → Joins (loaded (c .before .before))
+joins-here : (c : tie.After-c2) → MemberMayJoin (loaded (c .before .before))
 joins-here c = told-room (loaded (c .before .before)) (c .c2 .given .1) (c .before .before .pre)
 
 sub-join : tie.Need-sub-join

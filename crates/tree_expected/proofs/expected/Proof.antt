@@ -3,14 +3,14 @@ use mathlib.Core.Path.{_≡_, refl}
 use borrow.Author.Needs.{needs}
 use Rattle.model.specs.Definitions.TreeChecks.{treeStep}
 use Rattle.tree_checks.specs.declared.command.TreeCommand.{TreeCommand}
-use Rattle.tree_checks.specs.Commands.{command, Reads}
+use Rattle.tree_checks.specs.Commands.{command, ReadsCommand}
 use Rattle.tree_checks.proofs.Commands.{met}
 use Rattle.tree_expected.proofs.ExpectedTurns.{passed-nonempty, passed-stops, refused-root, root-begins}
 use Rattle.tree_expected.proofs.expected.Statement.{statement}
 use Rattle.tree_expected.proofs.expected.Tie as tie
 
 -- the command that was read stands at the beginning
-here : (c : tie.After-command-at) {d : TreeCommand} → c .command-at .result ≡ d → Reads (c .before .before .args .t .now) 0 (command d)
+here : (c : tie.After-command-at) {d : TreeCommand} → c .command-at .result ≡ d → ReadsCommand (c .before .before .args .t .now) 0 (command d)
 here c q = met _ _ (passed-nonempty (c .before .before .pre)) (c .command-at .ensures) q
 
 pub expected-spec : {M : Type 1} → statement M

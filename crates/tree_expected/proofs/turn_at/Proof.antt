@@ -3,13 +3,13 @@ use mathlib.Core.Path.{_≡_, sym, _∙_}
 use native.Mathlib.Omega.{arith}
 use borrow.Author.Needs.{needs}
 use Rattle.tree_checks.specs.declared.command.TreeCommand.{TreeCommand}
-use Rattle.tree_checks.specs.Commands.{command, Reads}
+use Rattle.tree_checks.specs.Commands.{command, ReadsCommand}
 use Rattle.tree_checks.proofs.Commands.{met}
 use Rattle.tree_expected.proofs.turn_at.Statement.{statement}
 use Rattle.tree_expected.proofs.turn_at.Tie as tie
 
 -- the command that was read stands there
-here : (c : tie.After-command-at) {d : TreeCommand} → c .command-at .result ≡ d → Reads (c .before .before .args .t .now) (c .before .before .args .at) (command d)
+here : (c : tie.After-command-at) {d : TreeCommand} → c .command-at .result ≡ d → ReadsCommand (c .before .before .args .t .now) (c .before .before .args .at) (command d)
 here c q = met _ _ (c .before .before .pre .1) (c .command-at .ensures) q
 
 pub turn-at-spec : {M : Type 1} → statement M

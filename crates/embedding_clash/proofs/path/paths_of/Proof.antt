@@ -2,12 +2,12 @@
 use mathlib.Core.Path.{refl}
 use Prim.Native.Nat.{_-_, _≤_}
 use native.Mathlib.Omega.{arith}
-use Rattle.embedding_clash.proofs.ClashLaws.{Stored, stored-none, stored-more, stored-all}
+use Rattle.embedding_clash.proofs.ClashLaws.{PathsStored, stored-none, stored-more, stored-all}
 use Rattle.embedding_clash.proofs.path.paths_of.Statement.{statement}
 use Rattle.embedding_clash.proofs.path.paths_of.Tie as tie
 
 abbrev Inv-loop : tie.InvT-loop
-Inv-loop em map b n paths₀ i₀ paths i = (i ≤ n) × Stored em map b i paths
+Inv-loop em map b n paths₀ i₀ paths i = (i ≤ n) × PathsStored em map b i paths
 
 abbrev μ-loop : tie.MeasureT-loop
 μ-loop em map b n paths₀ i₀ paths i = n - i

@@ -3,14 +3,14 @@ use mathlib.Core.Path.{_≡_, refl}
 use borrow.Author.Needs.{needs}
 use Rattle.model.specs.Definitions.TreeChecks.{treeStep}
 use Rattle.tree_checks.specs.declared.command.TreeCommand.{TreeCommand}
-use Rattle.tree_checks.specs.Commands.{command, Reads}
+use Rattle.tree_checks.specs.Commands.{command, ReadsCommand}
 use Rattle.tree_checks.proofs.Commands.{met}
 use Rattle.tree_checks.proofs.FormTurns.{form-short, form-root-stops, form-root-end}
 use Rattle.tree_checks.proofs.form.after_root.Statement.{statement}
 use Rattle.tree_checks.proofs.form.after_root.Tie as tie
 
 -- the command that was read stands there
-here : (c : tie.After-command-at) {d : TreeCommand} → c .command-at .result ≡ d → Reads (c .before .before .before .args .t .now) (c .before .before .before .args .at) (command d)
+here : (c : tie.After-command-at) {d : TreeCommand} → c .command-at .result ≡ d → ReadsCommand (c .before .before .before .args .t .now) (c .before .before .before .args .at) (command d)
 here c q = met _ _ (c .before .if1 .left) (c .command-at .ensures) q
 
 pub after-root-spec : {M : Type 1} → statement M

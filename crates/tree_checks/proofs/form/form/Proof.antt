@@ -3,14 +3,14 @@ use mathlib.Core.Path.{_≡_, refl}
 use borrow.Author.Needs.{needs}
 use Rattle.model.specs.Definitions.TreeChecks.{treeStep}
 use Rattle.tree_checks.specs.declared.command.TreeCommand.{TreeCommand}
-use Rattle.tree_checks.specs.Commands.{command, Reads}
+use Rattle.tree_checks.specs.Commands.{command, ReadsCommand}
 use Rattle.tree_checks.proofs.Commands.{met}
 use Rattle.tree_checks.proofs.FormTurns.{form-empty, form-first, form-first-stops}
 use Rattle.tree_checks.proofs.form.form.Statement.{statement}
 use Rattle.tree_checks.proofs.form.form.Tie as tie
 
 -- the command that was read stands at the beginning
-here : (c : tie.After-command-at) {d : TreeCommand} → c .command-at .result ≡ d → Reads (c .before .before .before .args .t .now) 0 (command d)
+here : (c : tie.After-command-at) {d : TreeCommand} → c .command-at .result ≡ d → ReadsCommand (c .before .before .before .args .t .now) 0 (command d)
 here c q = met _ _ (search needs) (c .command-at .ensures) q
 
 pub form-spec : {M : Type 1} → statement M

@@ -6,7 +6,7 @@ use lib.ListN.{length}
 use native.Mathlib.Omega.{arith}
 use borrow.Author.Needs.{needs}
 use Rattle.tree_checks.specs.declared.command.TreeCommand.{TreeCommand}
-use Rattle.tree_checks.specs.Commands.{command, Reads}
+use Rattle.tree_checks.specs.Commands.{command, ReadsCommand}
 use Rattle.tree_checks.specs.Machines.{InForm}
 use Rattle.tree_checks.proofs.Commands.{met}
 use Rattle.tree_checks.proofs.FormTurns.{form-short, form-root-closed, form-opens, form-character, form-closes, form-end-inside, form-alien-inside}
@@ -20,7 +20,7 @@ abbrev μ-loop : tie.MeasureT-loop
 μ-loop t start at₀ depth₀ at depth = length t - at
 
 -- the command that was read stands there
-here : (c : tie.After-command-at Inv-loop μ-loop) {d : TreeCommand} → c .command-at .result ≡ d → Reads (c .before .before .before .before .before .args .t .now) (c .before .before .before .loop .at) (command d)
+here : (c : tie.After-command-at Inv-loop μ-loop) {d : TreeCommand} → c .command-at .result ≡ d → ReadsCommand (c .before .before .before .before .before .args .t .now) (c .before .before .before .loop .at) (command d)
 here c q = met _ _ (c .before .if1 .left) (c .command-at .ensures) q
 
 -- what is left behind each command
