@@ -12,10 +12,7 @@ use borrow.Author.Tests.{le-leb}
 use Rattle.answers.specs.declared.Carried.{Carried}
 use Rattle.answers.specs.Answers.{carriedResult}
 use Rattle.carry_prepared.specs.Carrying.{Carriable, Carries}
-use Rattle.loaded_setting.specs.Ready.{settingIn, Ready}
-use Rattle.loaded_table.specs.Loaded.{tableBy}
-use Rattle.loaded_setting.specs.Trees.{SoundTree}
-use Rattle.rows.specs.Rows.{Rows, Sizes}
+use Rattle.loaded_setting.specs.Ready.{settingIn}
 use Rattle.measuring.specs.Measured.{Measurable, ImageSize}
 use Rattle.writing.specs.Writing.{Writes}
 use Rattle.filling.specs.Asked.{ImageFits, ImageAsked}

@@ -21,7 +21,7 @@ use Rattle.model.specs.Definitions.Table.{Table}
 use Rattle.model.specs.Definitions.Embedding.{Edge, Embedding, noMap, targetOf, embeddingOf}
 use Rattle.model.specs.Definitions.EmbeddingChecks.{embeddingForm, embeddingLimits, embeddingOperands, rootToRoot, wrongEnd, wrongSteps, pathClash}
 use Rattle.model.specs.Definitions.Refusals as refusals
-use Rattle.model.specs.Definitions.Refusals.{sound, has, faultAt, faultUnless, fits, maxLength}
+use Rattle.model.specs.Definitions.Refusals.{sound, has, faultAt, faultUnless, fits}
 use Rattle.model.specs.Definitions.Entries.{judgedEmbedding}
 use Rattle.model.specs.Theorems.Facts.{All, Walks}
 use Rattle.model.specs.Theorems.JudgedEmbeddings.{paths-walk}

@@ -14,7 +14,6 @@ use embedding_load::load;
 use loaded_embedding::MAP;
 use loaded_table::TABLE;
 ghost use mathlib.Core.Path.{_≡_};
-ghost use lib.ListN.{length};
 ghost use Rattle.answers.specs.Answers.{judged};
 ghost use Rattle.loaded_table.specs.Loaded.{tableBy};
 ghost use Rattle.loaded_embedding.specs.Loaded.{embeddingBy, Cleared};

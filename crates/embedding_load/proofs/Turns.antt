@@ -19,7 +19,7 @@ use Rattle.model.specs.Definitions.Basics.{passes, Next, goes, stops, run}
 use Rattle.model.specs.Definitions.Commands.{EmbeddingCommand, mapsTo, path, step, embeddingEnd, alienE, embeddingCommand, embeddingCommands, embeddingWidth}
 use Rattle.model.specs.Definitions.Table.{Table, edgesOf}
 use Rattle.model.specs.Definitions.Embedding.{Embedding, EmbeddingTail, withEmbeddingCommand, embeddingTail, embeddingOf}
-use Rattle.model.specs.Definitions.EmbeddingChecks.{EmbeddingState, due, embeddingEnded, embeddingStep, embeddingComplete, embeddingForm, maxSteps, stepCount, embeddingLimits}
+use Rattle.model.specs.Definitions.EmbeddingChecks.{EmbeddingState, due, embeddingEnded, embeddingStep, embeddingComplete, embeddingForm, stepCount, embeddingLimits}
 use Rattle.model.specs.Theorems.JudgedTables.{goes-if, pick-passes}
 use Rattle.model.specs.Theorems.Runs.{passes-fails, goes-stops}
 use Rattle.model.specs.Theorems.Tools.{true-false}

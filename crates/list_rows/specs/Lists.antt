@@ -10,7 +10,6 @@ use lib.Dec.{ltb}
 use borrow.Author.Tests.{ltb-true, ltb-false}
 use Rattle.model.specs.Definitions.Table.{Table, kindOf, list, edgesOf}
 use Rattle.model.specs.Definitions.Embedding.{Divided, divide}
-use Rattle.model.specs.Definitions.EmbeddingChecks.{maxSteps}
 use Rattle.model.specs.Definitions.Image.{Setting, Placement, placed, place, onlyPath, isPlaced}
 use Rattle.model.specs.Definitions.Templates.{child, Hole, Shape, gap, framed, shaped, Symbol, rowOf, holesOf, template, templateBy, itemTemplate, itemBy, dividedOf, items}
 use Rattle.model.specs.Theorems.Facts.{All, all-none, all-more, Fits}

@@ -17,7 +17,7 @@ use Rattle.tree_judge.specs.Judging.{TreeJudged}
 use Rattle.loaded_table.specs.Loaded as loaded_table
 use Rattle.loaded_table.specs.Loaded.{Stands}
 use Rattle.model.specs.Definitions.Table.{Table, tableOf}
-use Rattle.model.specs.Definitions.Refusals.{Document, source-table, target-table, embedding, tree, documentNumber, faulty, sound, has, fits, maxLength}
+use Rattle.model.specs.Definitions.Refusals.{Document, source-table, target-table, embedding, tree, documentNumber, faulty, sound, has, fits}
 use Rattle.model.specs.Definitions.Image.{Setting}
 use Rattle.model.specs.Definitions.Entries.{Result, Outcome, settingOf, answerOf, untouched, unlessFaulty, judgedTable, judgedEmbedding, judgedTree}
 use Rattle.model.specs.Theorems.Facts.{SoundTable}

@@ -11,7 +11,6 @@ use borrow.Author.Tests.{lt-ltb}
 use Rattle.model.specs.Definitions.Basics.{pick}
 use Rattle.model.specs.Definitions.Table.{text, empty, sequence, choice, Table, kindOf, edgesOf}
 use Rattle.model.specs.Definitions.Embedding.{targetOf, pathsOf}
-use Rattle.model.specs.Definitions.EmbeddingChecks.{maxSteps}
 use Rattle.model.specs.Definitions.Filler.{fillers}
 use Rattle.model.specs.Definitions.Image.{Setting, Placement, placed, place, pathOfMember, onlyPath}
 use Rattle.model.specs.Definitions.Templates.{Shape, gap, shaped, rowOf, Hole, child, holesAlong, holesOf, template, templateBy}

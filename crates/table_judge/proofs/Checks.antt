@@ -23,7 +23,7 @@ use Rattle.model.specs.Definitions.Table.{tableOf}
 use Rattle.model.specs.Definitions.Heights.{heightOf, endlessType}
 use Rattle.model.specs.Definitions.TableChecks.{tableForm, tableLimits, tableOperands, tableRepeats}
 use Rattle.model.specs.Definitions.Refusals as refusals
-use Rattle.model.specs.Definitions.Refusals.{sound, has, faultAt, faultUnless, fits, maxLength}
+use Rattle.model.specs.Definitions.Refusals.{sound, has, faultAt, faultUnless, fits}
 use Rattle.model.specs.Definitions.Entries.{judgedTable}
 use Rattle.model.specs.Theorems.Facts.{SoundTable}
 use Rattle.model.specs.Theorems.JudgedTables.{table-sound}

@@ -15,7 +15,7 @@ use Rattle.loaded_table.specs.Loaded.{tableFrom, tableIn, typesIn, kindsOf, cou
 use Rattle.model.specs.Definitions.Basics.{passes, Next, goes, stops, run, goesIf}
 use Rattle.model.specs.Definitions.Commands.{TableCommand, textType, emptyType, sequenceType, choiceType, listType, member, tableEnd, alien, tableCommand, tableCommands, tableWidth}
 use Rattle.model.specs.Definitions.Table.{Kind, text, empty, sequence, choice, list, Table, TableTail, withCommand, tableTail, tableOf}
-use Rattle.model.specs.Definitions.TableChecks.{TableState, noType, whole, members, tableEnded, begins, joins, finishes, tableRole, tableMove, tableStep, tableComplete, tableForm, TableCount, maxTypes, maxMembers, oneTypeMore, limitStep, tableLimits}
+use Rattle.model.specs.Definitions.TableChecks.{TableState, noType, whole, members, tableEnded, begins, joins, finishes, tableRole, tableMove, tableStep, tableComplete, tableForm, TableCount, maxMembers, oneTypeMore, limitStep, tableLimits}
 use Rattle.model.specs.Theorems.JudgedTables.{goes-if}
 use Rattle.model.specs.Theorems.Runs.{passes-fails, goes-stops}
 use Rattle.model.specs.Theorems.Reading.{rawAt, ReadsAt, left-stops, left-goes, table-reads, no-table-commands}

@@ -16,7 +16,7 @@ use table_checks::command::TableCommand;
 use table_checks::command::command_at;
 use table_checks::command::width;
 ghost use mathlib.Core.Path.{_≡_};
-ghost use Prim.Native.Nat.{_+_, _*_, _≤_, _<_};
+ghost use Prim.Native.Nat.{_+_, _≤_, _<_};
 ghost use lib.ListN.{length, getD, set};
 ghost use Rattle.loaded_table.specs.Loaded.{countsOf, countsStart, memberPlace, membersStart, tableSize};
 ghost use Rattle.model.specs.Definitions.Basics.{passes};

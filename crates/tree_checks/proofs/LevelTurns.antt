@@ -10,7 +10,7 @@ use lib.ListN.{length}
 use borrow.Author.Tests.{lt-ltb, le-ltb}
 use Rattle.model.specs.Definitions.Basics.{pick, passes, fails, goes, stops, goesIf}
 use Rattle.model.specs.Definitions.Commands.{TreeCommand, opens, character, closes, treeEnd, alienT, treeCommands, treeWidth}
-use Rattle.model.specs.Definitions.TreeChecks.{maxLevels, levelStep, treeLevels}
+use Rattle.model.specs.Definitions.TreeChecks.{levelStep, treeLevels}
 use Rattle.model.specs.Theorems.Reading.{left-stops, left-goes, goes-within, left-ends, no-tree-commands}
 use Rattle.tree_checks.specs.Machines.{InLevels}
 use Rattle.tree_checks.specs.Commands.{ReadsCommand}

@@ -9,7 +9,7 @@ use borrow.Author.Tests.{le-leb, lt-leb}
 use Rattle.model.specs.Definitions.Basics.{Verdict, passes, fails}
 use Rattle.model.specs.Definitions.Table.{Table}
 use Rattle.model.specs.Definitions.TreeChecks.{treeForm, treeLevels, treeOperands, treeExpected}
-use Rattle.model.specs.Definitions.Refusals.{Fault, Judged, sound, has, too-long, bad-form, over-limit, bad-operand, unexpected, faultAt, faultUnless, fits, maxLength}
+use Rattle.model.specs.Definitions.Refusals.{Fault, Judged, sound, has, too-long, bad-form, over-limit, bad-operand, unexpected, faultAt, faultUnless, fits}
 use Rattle.model.specs.Definitions.Entries.{judgedTree}
 use Rattle.answers.specs.declared.Verdict as answers
 use Rattle.answers.specs.declared.Judged as answers-judged

@@ -3,7 +3,7 @@ use borrow.Author.Needs.{needs}
 use borrow.Author.Tests.{lt-ltb, le-ltb}
 use native.Mathlib.Numerals.{add-one}
 use Rattle.model.specs.Definitions.Basics.{goesIf}
-use Rattle.model.specs.Definitions.EmbeddingChecks.{stepCount, maxSteps}
+use Rattle.model.specs.Definitions.EmbeddingChecks.{stepCount}
 use Rattle.embedding_checks.proofs.limits.step_count.Statement.{statement}
 use Rattle.embedding_checks.proofs.limits.step_count.Tie as tie
 

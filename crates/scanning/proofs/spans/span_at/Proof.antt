@@ -1,7 +1,7 @@
 -- `span_at` meets its contract: past an element, past a character, or no way.
 use native.Mathlib.Omega.{arith}
 use borrow.Author.Needs.{needs}
-use Rattle.scanning.proofs.Spanning.{inside-within, behind-within, element-span, element-last, character-span}
+use Rattle.scanning.proofs.Spanning.{inside-within, element-span, element-last, character-span}
 use Rattle.scanning.proofs.spans.span_at.Statement.{statement}
 use Rattle.scanning.proofs.spans.span_at.Tie as tie
 

@@ -3,7 +3,6 @@ use native.Mathlib.Numerals.{add-one}
 use borrow.Author.Needs.{needs}
 use borrow.Author.Tests.{lt-ltb, le-ltb}
 use Rattle.model.specs.Definitions.Basics.{goesIf}
-use Rattle.model.specs.Definitions.TableChecks.{maxMembers}
 use Rattle.table_checks.specs.Limits.{oneMemberMore}
 use Rattle.table_checks.proofs.limits.member_more.Statement.{statement}
 use Rattle.table_checks.proofs.limits.member_more.Tie as tie

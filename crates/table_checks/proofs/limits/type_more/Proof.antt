@@ -3,7 +3,7 @@ use native.Mathlib.Numerals.{add-one}
 use borrow.Author.Needs.{needs}
 use borrow.Author.Tests.{lt-ltb, le-ltb}
 use Rattle.model.specs.Definitions.Basics.{goesIf}
-use Rattle.model.specs.Definitions.TableChecks.{oneTypeMore, maxTypes}
+use Rattle.model.specs.Definitions.TableChecks.{oneTypeMore}
 use Rattle.table_checks.proofs.limits.type_more.Statement.{statement}
 use Rattle.table_checks.proofs.limits.type_more.Tie as tie
 
