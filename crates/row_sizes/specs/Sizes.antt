@@ -1,21 +1,20 @@
 -- Sizes from the numbers that the loaded target table keeps are those of the model, held at 60,001.
-use mathlib.Core.Path.{_≡_, refl, sym, ap, _∙_}
+use mathlib.Core.Path.{_≡_, refl, ap, _∙_}
 use mathlib.Core.List.{List, [], _∷_}
-use Prim.Native.Nat.{ℕ, suc, _+_, _-_, _*_, _≤_, _<_, min, max}
+use Prim.Native.Nat.{ℕ, zero, suc, _+_, _-_, _*_, _≤_, _<_, min, max}
 use native.Mathlib.Omega.{arith}
 use lib.ListN.{length, drop, getD, length-take}
-use Rattle.model.specs.Definitions.Table.{Kind, text, empty, sequence, choice, list, Table, kindOf}
+use Rattle.model.specs.Definitions.Table.{Table, kindOf}
 use Rattle.model.specs.Definitions.Image.{Setting}
 use Rattle.model.specs.Definitions.Heights.{heightOf}
 use Rattle.model.specs.Definitions.Filler.{fillerLength}
 use Rattle.model.specs.Definitions.Templates.{Symbol, opening, closing, filler, hole, rowLength, rowLevels, rowFiller, template, itemTemplate, dividedOf, ownLength, ownFiller, ownLevels, itemLength, itemFiller, itemLevels}
 use Rattle.model.specs.Theorems.Facts.{All, all-none, all-more}
 use Rattle.model.specs.Theorems.Templates.{TypeBelow, template-types, item-types}
-use Rattle.loaded_table.specs.Loaded.{Bounded, Kept, tableBy, typesIn, kindsOf, countsOf, membersIn, length-of, kind-of}
+use Rattle.loaded_table.specs.Loaded.{Bounded, Kept, kindFrom, tableBy, typesIn, kindsOf, countsOf, membersIn, length-of, kind-of}
 use Rattle.loaded_setting.specs.Ready.{settingIn, Ready}
-use Rattle.rows.specs.Rows.{rowIndex, sourceRow, itemRow, FirstChild, of-text, of-empty, of-sequence, of-choice, of-list, Rows, SizeAt, Sizes, HasRows, typeRow, rowsBefore}
-use Rattle.rows.specs.Laws.{code-choice}
-use Rattle.row_sizes.specs.Sizing.{heightAt, fillAt, Sized}
+use Rattle.rows.specs.Rows.{rowIndex, sourceRow, itemRow, FirstChild, of-choice, Rows, SizeAt, Sizes, HasRows, rowsBefore}
+use Rattle.row_sizes.specs.Sizing.{heightAt, fillAt, TypeSized}
 
 module _ {target : List ℕ} {T : Table} (kept : Kept target T) where
   -- parts of a sum may be held
@@ -56,23 +55,22 @@ module _ {target : List ℕ} {T : Table} (kept : Kept target T) where
         filler-is = at .filler-is ∙ filler-same row types;
       }
 
-index-small : (κ : Kind) (t : ℕ) → ((ms : List ℕ) → κ ≡ choice ms → length ms ≤ 16) → FirstChild t κ → rowIndex κ t < 16
+index-below : (code count t n : ℕ) (row : List ℕ) → (code ≡ 3 → count ≤ n) → ((code ≡ 3 → ⊥) → 1 ≤ n) → FirstChild t (kindFrom code count row) → rowIndex (kindFrom code count row) t < n
 unfolding rowIndex
-index-small text t few of-text = omega arith
-index-small empty t few of-empty = omega arith
-index-small (sequence ms) t few of-sequence = omega arith
-index-small (choice ms) t few (of-choice h) = omega (arith, h, few ms refl)
-index-small (list m) t few of-list = omega arith
+index-below zero count t n row few one chosen = one (λ e. omega arith)
+index-below (suc zero) count t n row few one chosen = one (λ e. omega arith)
+index-below (suc (suc zero)) count t n row few one chosen = one (λ e. omega arith)
+index-below (suc (suc (suc zero))) count t n row few one (of-choice h) = omega (arith, h, length-take count row, few refl)
+index-below (suc (suc (suc (suc code)))) count t n row few one chosen = one (λ e. omega arith)
 
--- which of its rows a source type takes
+-- which of its rows a source type takes: one of the first n, where a choice has no more members and another type has one row
+pub source-index-below : (source : List ℕ) (s t n : ℕ) → s < typesIn source → (getD (kindsOf source) s 0 ≡ 3 → getD (countsOf source) s 0 ≤ n) → ((getD (kindsOf source) s 0 ≡ 3 → ⊥) → 1 ≤ n)
+    → FirstChild t (kindOf (tableBy source) s) → rowIndex (kindOf (tableBy source) s) t < n
+source-index-below source s t n exists few one chosen =
+    rw (kind-of source s exists) (index-below (getD (kindsOf source) s 0) (getD (countsOf source) s 0) t n (drop (s * 16) (membersIn source)) few one (rw (kind-of source s exists) at chosen))
+
 pub source-index-small : {source : List ℕ} → Bounded source → (s t : ℕ) → s < typesIn source → FirstChild t (kindOf (tableBy source) s) → rowIndex (kindOf (tableBy source) s) t < 16
-source-index-small {source} bounded s t exists chosen =
-    let few : (ms : List ℕ) → kindOf (tableBy source) s ≡ choice ms → length ms ≤ 16 =
-    λ ms e.
-    let row = drop (s * 16) (membersIn source) in
-    let found = code-choice (getD (kindsOf source) s 0) (getD (countsOf source) s 0) row ms (sym (kind-of source s exists) ∙ e) in
-    omega (arith, ap length (found .1), length-take (getD (countsOf source) s 0) row, bounded .few-members s) in
-    index-small (kindOf (tableBy source) s) t few chosen
+source-index-small {source} bounded s t exists chosen = source-index-below source s t 16 exists (λ e. bounded .few-members s) (λ e. omega arith) chosen
 
 -- the row of a source type is one of the rows
 pub source-row-small : {source : List ℕ} → Bounded source → (s t : ℕ) → s < typesIn source → FirstChild t (kindOf (tableBy source) s)
@@ -80,9 +78,9 @@ pub source-row-small : {source : List ℕ} → Bounded source → (s t : ℕ) �
 unfolding sourceRow
 source-row-small bounded s t exists chosen = omega (arith, source-index-small bounded s t exists chosen)
 
--- sizes of all rows are the sizes of a setting's templates
+-- sizes of the rows of all source types are the sizes of a setting's templates
 pub sized-all : {source target map em pool places sizes : List ℕ} → Ready source target map em → Rows (settingIn source target map em) pool places
-    → HasRows sizes (typesIn source) → Sized target pool places (rowsBefore (typesIn source)) sizes → Sizes (settingIn source target map em) sizes
+    → HasRows sizes (typesIn source) → ((s : ℕ) → s < typesIn source → TypeSized source target pool places sizes s) → Sizes (settingIn source target map em) sizes
 unfolding ownLength ownFiller ownLevels itemLength itemFiller itemLevels itemRow
 sized-all {source} {target} {map} {em} {pool} {places} {sizes} ready rows long sized =
     record {
@@ -90,11 +88,11 @@ sized-all {source} {target} {map} {em} {pool} {places} {sizes} ready rows long s
       own-size = λ s t exists chosen.
           let row = template-types X (ready .valid) s t exists in
           size-same (ready .kept) 0 (template X s t) row
-          (rw (rows .own-depth s t exists chosen, rows .template-at s t exists chosen) at (sized .at (sourceRow (tableBy source) s t) (source-row-small (ready .source-bounded) s t (omega (arith, length-of source)) chosen)));
+          (rw (rows .own-depth s t exists chosen, rows .template-at s t exists chosen) at (sized s (omega (arith, length-of source)) .own t chosen .at));
       item-size = λ s m exists e.
           let row = item-types X (ready .valid) s m exists e in
           size-same (ready .kept) (length (dividedOf X s .before)) (itemTemplate X s) row
-          (rw (rows .item-depth s m exists e, rows .item-at s m exists e) at (sized .at (typeRow s 16) (omega (arith, length-of source))));
+          (rw (rows .item-depth s m exists e, rows .item-at s m exists e) at (sized s (omega (arith, length-of source)) .item .at));
     }
   where
     X : Setting

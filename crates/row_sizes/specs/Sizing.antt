@@ -2,11 +2,12 @@
 use mathlib.Core.Path.{_≡_}
 use mathlib.Core.List.{List, [], _∷_}
 use Prim.Native.Nat.{ℕ, _+_, _≤_, _<_, min, max}
-use lib.ListN.{getD}
+use lib.ListN.{length, getD}
+use Rattle.model.specs.Definitions.Table.{kindOf}
 use Rattle.model.specs.Definitions.Templates.{Symbol, rowLength, rowLevels, rowFiller}
-use Rattle.loaded_table.specs.Loaded.{heightsOf, fillOf}
+use Rattle.loaded_table.specs.Loaded.{heightsOf, fillOf, tableBy}
 use Rattle.rows.specs.declared.Size.{Size}
-use Rattle.rows.specs.Rows.{symbolOf, depthIn, rowAt, SizeAt}
+use Rattle.rows.specs.Rows.{symbolOf, depthIn, rowAt, SizeAt, FirstChild, sourceRow, itemRow}
 use Rattle.row_sizes.specs.declared.Sums.{Sums}
 
 -- the height and the filler length that are kept of a type
@@ -37,7 +38,16 @@ pub record Measures (target : List ℕ) (row : List Symbol) (depth : ℕ) (r : S
   pub bytes : r .bytes ≡ min 60001 (rowLength (fillAt target) row)
   pub filler : r .filler ≡ min 60001 (rowFiller (fillAt target) row)
 
--- the sizes of the first rows are stored
-pub record Sized (target pool places : List ℕ) (many : ℕ) (sizes : List ℕ) : Type 0 where
-  pub at : (r : ℕ) → r < many
-      → SizeAt sizes r (rowLevels (heightAt target) (depthIn places r) (rowAt pool places r)) (rowLength (fillAt target) (rowAt pool places r)) (rowFiller (fillAt target) (rowAt pool places r))
+-- the size of row r is stored
+pub record Sized (target pool places sizes : List ℕ) (r : ℕ) : Type 0 where
+  pub at : SizeAt sizes r (rowLevels (heightAt target) (depthIn places r) (rowAt pool places r)) (rowLength (fillAt target) (rowAt pool places r)) (rowFiller (fillAt target) (rowAt pool places r))
+
+-- what is stored stays
+pub record Keeps (target pool places before after : List ℕ) : Type 0 where
+  pub long : length after ≡ length before
+  pub kept : (r : ℕ) → Sized target pool places before r → Sized target pool places after r
+
+-- the sizes of the rows of source type s are stored
+pub record TypeSized (source target pool places sizes : List ℕ) (s : ℕ) : Type 0 where
+  pub own : (t : ℕ) → FirstChild t (kindOf (tableBy source) s) → Sized target pool places sizes (sourceRow (tableBy source) s t)
+  pub item : Sized target pool places sizes (itemRow s)

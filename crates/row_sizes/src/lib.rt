@@ -3,18 +3,21 @@ ghost use mathlib.Core.Path.{_≡_};
 ghost use mathlib.Core.List.{List};
 ghost use Prim.Native.Nat.{ℕ, _+_, _-_, _*_, _≤_, _<_, min, max};
 ghost use lib.ListN.{length};
-ghost use Rattle.loaded_table.specs.Loaded.{Bounded, typesIn};
+ghost use Rattle.model.specs.Definitions.Table.{kindOf};
+ghost use Rattle.loaded_table.specs.Loaded.{Bounded, typesIn, tableBy};
 ghost use Rattle.loaded_setting.specs.Ready.{settingIn, Ready};
-ghost use Rattle.rows.specs.Rows.{toOf, rowIn, Rows, Sizes, HasRow, HasRows, IsWord, setRow};
-ghost use Rattle.row_sizes.specs.Sizing.{Small, Adds, Measures};
+ghost use Rattle.rows.specs.Rows.{toOf, rowIn, rowIndex, FirstChild, Rows, Sizes, HasRow, HasRows, IsWord, setRow};
+ghost use Rattle.row_sizes.specs.Sizing.{Small, Adds, Measures, Sized, Keeps, TypeSized};
 use codes::MAX_TYPES;
 use codes::OVER_BYTES;
+use loaded_table::CHOICE;
 use loaded_table::TABLE;
 use rows::CHILD;
 use rows::FILLER;
 use rows::ITEMS;
 use rows::Size;
 use rows::TYPE_ROWS;
+use rows::item_row;
 
 // What a part of a row comes to, and how many elements are open behind it.
 pub struct Sums {
@@ -121,7 +124,7 @@ fn row_size(target: &[u16; TABLE], pool: &[u8], from: usize, to: usize, depth: u
     }
 }
 
-// Finds and stores the sizes of all rows.
+// Finds and stores the sizes of the rows that source types use.
 pub fn size_rows(
     source: &[u16; TABLE],
     target: &[u16; TABLE],
@@ -135,16 +138,59 @@ pub fn size_rows(
     ensures { λ r. ⌜ ((map em : List ℕ) → Ready (now (source .entry)) (now (target .entry)) map em → Rows (settingIn (now (source .entry)) (now (target .entry)) map em) (now (pool .entry)) (now (places .entry)) → Sizes (settingIn (now (source .entry)) (now (target .entry)) map em) (now (sizes .exit))) ⌝ }
 {
     let types = loaded_table::types(source);
-    let rows = MAX_TYPES + types * TYPE_ROWS;
-    let mut row = 0;
-    while row < rows {
-        let from = rows::from(places, row);
-        let to = rows::to(places, row);
-        let depth = rows::depth(places, row);
-        let size = row_size(target, pool, from, to, depth);
-        store(sizes, row, size);
-        row += 1;
+    let mut s = 0;
+    while s < types {
+        size_type(source, target, pool, places, sizes, s);
+        s += 1;
     }
+}
+
+// Finds and stores the sizes of the rows of a source type.
+fn size_type(
+    source: &[u16; TABLE],
+    target: &[u16; TABLE],
+    pool: &[u8],
+    places: &[u32],
+    sizes: &mut [u16],
+    s: usize,
+)
+    requires { ⌜ s < typesIn (now source) ⌝ }
+    requires bounded { ⌜ Bounded (now source) ⌝ }
+    requires long { ⌜ HasRows (now places) (typesIn (now source)) × HasRows (now sizes) (typesIn (now source)) ⌝ }
+    requires within { ⌜ ((row : ℕ) → toOf (now places) row ≤ length (now pool)) ⌝ }
+    ensures { λ r. ⌜ Keeps (now (target .entry)) (now (pool .entry)) (now (places .entry)) (now (sizes .entry)) (now (sizes .exit)) × TypeSized (now (source .entry)) (now (target .entry)) (now (pool .entry)) (now (places .entry)) (now (sizes .exit)) s ⌝ }
+{
+    let rows = rows_of(source, s);
+    let mut j = 0;
+    while j < rows {
+        size_row(target, pool, places, sizes, MAX_TYPES + (s * TYPE_ROWS + j));
+        j += 1;
+    }
+    size_row(target, pool, places, sizes, item_row(s));
+}
+
+// How many rows type s has, besides that of an item: a choice has one for each member.
+fn rows_of(source: &[u16; TABLE], s: usize) -> usize
+    requires { ⌜ s < typesIn (now source) ⌝ }
+    requires bounded { ⌜ Bounded (now source) ⌝ }
+    ensures { λ r. ⌜ (r ≤ 16) × ((t : ℕ) → FirstChild t (kindOf (tableBy (now (source .entry))) s) → rowIndex (kindOf (tableBy (now (source .entry))) s) t < r) ⌝ }
+{
+    if loaded_table::kind(source, s) == CHOICE {
+        return loaded_table::count(source, s);
+    }
+    1
+}
+
+// Finds and stores the size of a row.
+fn size_row(target: &[u16; TABLE], pool: &[u8], places: &[u32], sizes: &mut [u16], row: usize)
+    requires { ⌜ HasRow (now places) row × HasRow (now sizes) row × (toOf (now places) row ≤ length (now pool)) ⌝ }
+    ensures { λ r. ⌜ Keeps (now (target .entry)) (now (pool .entry)) (now (places .entry)) (now (sizes .entry)) (now (sizes .exit)) × Sized (now (target .entry)) (now (pool .entry)) (now (places .entry)) (now (sizes .exit)) row ⌝ }
+{
+    let from = rows::from(places, row);
+    let to = rows::to(places, row);
+    let depth = rows::depth(places, row);
+    let size = row_size(target, pool, from, to, depth);
+    store(sizes, row, size);
 }
 
 // Stores the size of a row.
