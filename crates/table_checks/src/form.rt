@@ -10,7 +10,7 @@ ghost use Rattle.table_checks.specs.Read.{command};
 ghost use Rattle.table_checks.specs.Forms.{state, next};
 
 // Before the first type; after a whole type; among members, of which two, one or none are still needed; after 1F.
-enum State {
+pub enum State {
     NoType,
     Whole,
     NeedsTwo,
@@ -20,7 +20,7 @@ enum State {
 }
 
 // On to a next state, or the command is refused.
-enum Next {
+pub enum Next {
     Goes(State),
     Stops,
 }
@@ -58,7 +58,7 @@ fn finish(s: State) -> Next
 
 // What a command makes of the state, by its role. The arm with an operand stands apart: joined to the one above it, the
 // compiled loop is five times slower.
-fn step(s: State, c: TableCommand) -> Next
+pub fn step(s: State, c: TableCommand) -> Next
     ensures { λ r. ⌜ next r ≡ tableStep (state s) (command c) ⌝ }
 {
     match c {
@@ -73,7 +73,7 @@ fn step(s: State, c: TableCommand) -> Next
 }
 
 // Whether the commands may end in a state: only behind 1F.
-fn complete(s: State) -> bool
+pub fn complete(s: State) -> bool
     ensures { λ r. ⌜ r ≡ tableComplete (state s) ⌝ }
 {
     match s {

@@ -12,13 +12,13 @@ ghost use Rattle.table_checks.specs.Read.{command};
 ghost use Rattle.table_checks.specs.Limits.{counts, next, oneMemberMore};
 
 // Types so far, and members of the last one.
-struct Counts {
-    types: usize,
-    members: usize,
+pub struct Counts {
+    pub types: usize,
+    pub members: usize,
 }
 
 // On to the next counts, or the command is refused.
-enum Next {
+pub enum Next {
     Goes(Counts),
     Stops,
 }
@@ -55,7 +55,7 @@ fn member_more(n: Counts) -> Next
 }
 
 // What a command makes of the counts.
-fn step(n: Counts, c: TableCommand) -> Next
+pub fn step(n: Counts, c: TableCommand) -> Next
     ensures { λ r. ⌜ next r ≡ limitStep (counts n) (command c) ⌝ }
 {
     match c {

@@ -44,6 +44,10 @@ pub fn judge(t: &[u8], table: &mut [u16; TABLE]) -> Judged
     if MAX_BYTES < t.len() {
         return Judged::Has(Fault::TooLong);
     }
+    // Where a table is right, one pass shows it; the single checks say which fails where.
+    if table_checks::formed::formed(t) {
+        return judge_loaded(t, table);
+    }
     let form = table_checks::form::form(t);
     if let Verdict::Fails(at) = form {
         return Judged::Has(Fault::BadForm(at));
