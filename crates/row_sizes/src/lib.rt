@@ -6,7 +6,7 @@ ghost use lib.ListN.{length};
 ghost use Rattle.model.specs.Definitions.Table.{kindOf};
 ghost use Rattle.loaded_table.specs.Loaded.{Bounded, typesIn, tableBy};
 ghost use Rattle.loaded_setting.specs.Ready.{settingIn, Ready};
-ghost use Rattle.rows.specs.Rows.{toOf, rowIn, rowIndex, FirstChild, Rows, Sizes, HasRow, HasRows, IsWord, setRow};
+ghost use Rattle.rows.specs.Rows.{toOf, rowIn, rowIndex, FirstChild, Rows, Sizes, HasRow, HasRows, IsWord};
 ghost use Rattle.row_sizes.specs.Sizing.{Small, Adds, Measures, Sized, Keeps, TypeSized};
 use codes::MAX_TYPES;
 use codes::OVER_BYTES;
@@ -190,14 +190,6 @@ fn size_row(target: &[u16; TABLE], pool: &[u8], places: &[u32], sizes: &mut [u16
     let to = rows::to(places, row);
     let depth = rows::depth(places, row);
     let size = row_size(target, pool, from, to, depth);
-    store(sizes, row, size);
-}
-
-// Stores the size of a row.
-fn store(sizes: &mut [u16], row: usize, size: Size)
-    requires { ⌜ HasRow (now sizes) row × (size .levels ≤ 60001) × (size .bytes ≤ 60001) × (size .filler ≤ 60001) ⌝ }
-    ensures { λ r. ⌜ now (sizes .exit) ≡ setRow (now (sizes .entry)) row (size .levels) (size .bytes) (size .filler) ⌝ }
-{
     let levels = size.levels;
     let bytes = size.bytes;
     let filler = size.filler;

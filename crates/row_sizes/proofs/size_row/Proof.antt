@@ -10,11 +10,6 @@ row-size-requires c κs =
     let start = c .before .before .before .before .before .before in
     (omega (arith, c .before .to .ensures, start .pre .2), omega (arith, c .depth .ensures, c .before .before .before .before .shared-slice-known2 .given (3 * start .args .row + 2)))
 
-store-requires : tie.Need-store-requires
-store-requires c κs =
-    let size = c .before .row-size .ensures in
-    (c .before .before .before .before .before .before .before .before .pre .1, omega (arith, size .levels), omega (arith, size .bytes), omega (arith, size .filler))
-
 returns : tie.Need-returns
 returns c =
     let long = c .before .before .before .before .before .before .before .before .before .before .before .pre .1 in
@@ -22,7 +17,7 @@ returns c =
     let to = c .before .before .before .before .before .before .to .ensures in
     let depth = c .before .before .before .before .before .depth .ensures in
     let size = c .before .before .before .before .row-size .ensures in
-    let stored = c .before .before .store .ensures in
+    let stored = c .before .before .store-size .ensures in
     sized-more long from to depth size stored
 
 pub size-row-spec : {M : Type 1} → statement M
@@ -33,6 +28,9 @@ size-row-spec =
     (λ c κs. c .before .before .before .before .pre .0)
     (λ c κs. c .before .before .before .before .before .pre .0)
     row-size-requires
-    store-requires
+    (λ c. omega (arith, c .before .row-size .ensures .levels))
+    (λ c. omega (arith, c .before .row-size .ensures .bytes))
+    (λ c. omega (arith, c .before .row-size .ensures .filler))
+    (λ c κs. c .before .before .before .before .before .before .before .before .pre .1)
     (λ c. returns c .0 .long)
     returns)
