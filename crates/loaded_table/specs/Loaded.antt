@@ -55,6 +55,9 @@ fillStart = 192
 abbrev pub membersStart : ℕ
 membersStart = 256
 
+abbrev pub typesPlace : ℕ
+typesPlace = 1280
+
 -- a length as it is kept: beyond the most bytes of a document it doesn't matter how far
 abbrev pub heldLength : ℕ → ℕ
 heldLength n = min 60001 n

@@ -4,7 +4,7 @@
 ghost use mathlib.Core.Path.{_≡_};
 ghost use Prim.Native.Nat.{_<_, _+_, _*_};
 ghost use lib.ListN.{getD, set};
-ghost use Rattle.loaded_table.specs.Loaded.{typesIn, kindsOf, countsOf, heightsOf, fillOf, membersIn, countsStart, fillStart, heightsStart, memberPlace, membersStart, tableSize};
+ghost use Rattle.loaded_table.specs.Loaded.{typesIn, kindsOf, countsOf, heightsOf, fillOf, membersIn, countsStart, fillStart, heightsStart, memberPlace, membersStart, tableSize, typesPlace};
 ghost use Rattle.model.specs.Definitions.TableChecks.{maxMembers, maxTypes};
 use codes::MAX_MEMBERS;
 
@@ -100,7 +100,7 @@ pub fn member(table: &[u16; TABLE], t: usize, i: usize) -> usize
 
 // Stores the number of types.
 pub fn set_types(table: &mut [u16; TABLE], types: u16)
-    ensures { λ r. ⌜ now (table .exit) ≡ set (now (table .entry)) 1280 types ⌝ }
+    ensures { λ r. ⌜ now (table .exit) ≡ set (now (table .entry)) typesPlace types ⌝ }
 {
     table[TYPES] = types;
 }

@@ -1,13 +1,14 @@
 // The sizes of prepared rows: levels, bytes and bytes of filler, each held at 60,001, found by one loop along each row.
 ghost use mathlib.Core.Path.{_≡_};
 ghost use mathlib.Core.List.{List};
-ghost use Prim.Native.Nat.{ℕ, _+_, _-_, _*_, _≤_, _<_, min, max};
+ghost use Prim.Native.Nat.{ℕ, _+_, _-_, _*_, _≤_, _<_, max};
 ghost use lib.ListN.{length};
 ghost use Rattle.model.specs.Definitions.Table.{kindOf};
-ghost use Rattle.loaded_table.specs.Loaded.{Bounded, typesIn, tableBy};
+ghost use Rattle.loaded_table.specs.Loaded.{Bounded, typesIn, tableBy, heldLength};
 ghost use Rattle.loaded_setting.specs.Ready.{settingIn, Ready};
 ghost use Rattle.rows.specs.Rows.{toOf, rowIn, rowIndex, FirstChild, Rows, Sizes, HasRow, HasRows, IsWord};
 ghost use Rattle.row_sizes.specs.Sizing.{Small, Adds, Measures, Sized, Keeps, TypeSized};
+ghost use Rattle.model.specs.Definitions.TableChecks.{maxMembers};
 use codes::MAX_TYPES;
 use codes::OVER_BYTES;
 use loaded_table::CHOICE;
@@ -36,7 +37,7 @@ fn wide(x: u8) -> usize
 
 // A number held at 60,001.
 fn held(x: usize) -> usize
-    ensures { λ r. ⌜ r ≡ min 60001 x ⌝ }
+    ensures { λ r. ⌜ r ≡ heldLength x ⌝ }
 {
     if x < OVER_BYTES {
         return x;
@@ -173,7 +174,7 @@ fn size_type(
 fn rows_of(source: &[u16; TABLE], s: usize) -> usize
     requires { ⌜ s < typesIn (now source) ⌝ }
     requires bounded { ⌜ Bounded (now source) ⌝ }
-    ensures { λ r. ⌜ (r ≤ 16) × ((t : ℕ) → FirstChild t (kindOf (tableBy (now (source .entry))) s) → rowIndex (kindOf (tableBy (now (source .entry))) s) t < r) ⌝ }
+    ensures { λ r. ⌜ (r ≤ maxMembers) × ((t : ℕ) → FirstChild t (kindOf (tableBy (now (source .entry))) s) → rowIndex (kindOf (tableBy (now (source .entry))) s) t < r) ⌝ }
 {
     if loaded_table::kind(source, s) == CHOICE {
         return loaded_table::count(source, s);
