@@ -6,58 +6,20 @@ use Rattle.answer_numbers.proofs.Numbering.{for-outcome}
 use Rattle.answer_numbers.proofs.carried.Statement.{statement}
 use Rattle.answer_numbers.proofs.carried.Tie as tie
 
-enum-told : tie.Need-enum-told
-enum-told c = search needs
-
-refusing-requires : tie.Need-refusing-requires
-refusing-requires c κs = search needs
-
-enum-told-2 : tie.Need-enum-told-2
-enum-told-2 c = search needs
-
-refusing-requires-2 : tie.Need-refusing-requires-2
-refusing-requires-2 c κs = search needs
-
-enum-told-3 : tie.Need-enum-told-3
-enum-told-3 c = search needs
-
-refusing-requires-3 : tie.Need-refusing-requires-3
-refusing-requires-3 c κs = search needs
-
-enum-known-c : tie.Need-enum-known-c
-enum-known-c c = search needs
-
-accepting-requires : tie.Need-accepting-requires
-accepting-requires c κs = search needs
-
-returns : tie.Need-returns
-unfolding answerOf numbersOf documentNumber
-returns c = for-outcome carriedResult (c .before .enum-told .given .1) (c .refusing .ensures)
-
-returns-2 : tie.Need-returns-2
-unfolding answerOf numbersOf documentNumber
-returns-2 c = for-outcome carriedResult (c .before .enum-told2 .given .1) (c .refusing2 .ensures)
-
-returns-3 : tie.Need-returns-3
-unfolding answerOf numbersOf documentNumber
-returns-3 c = for-outcome carriedResult (c .before .enum-told3 .given .1) (c .refusing3 .ensures)
-
-returns-4 : tie.Need-returns-4
-returns-4 c = for-outcome carriedResult (c .before .before .c .given .1) (c .accepting .ensures)
-
 pub carried-spec : {M : Type 1} → statement M
+unfolding answerOf numbersOf documentNumber
 carried-spec =
     tie.close
     (tie.spec
-    enum-told
-    refusing-requires
-    enum-told-2
-    refusing-requires-2
-    enum-told-3
-    refusing-requires-3
-    enum-known-c
-    accepting-requires
-    returns
-    returns-2
-    returns-3
-    returns-4)
+    (λ c. search needs)
+    (λ c κs. search needs)
+    (λ c. search needs)
+    (λ c κs. search needs)
+    (λ c. search needs)
+    (λ c κs. search needs)
+    (λ c. search needs)
+    (λ c κs. search needs)
+    (λ c. for-outcome carriedResult (c .before .enum-told .given .1) (c .refusing .ensures))
+    (λ c. for-outcome carriedResult (c .before .enum-told2 .given .1) (c .refusing2 .ensures))
+    (λ c. for-outcome carriedResult (c .before .enum-told3 .given .1) (c .refusing3 .ensures))
+    (λ c. for-outcome carriedResult (c .before .before .c .given .1) (c .accepting .ensures)))

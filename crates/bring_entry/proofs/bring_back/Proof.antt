@@ -17,30 +17,12 @@ use Rattle.bring_entry.proofs.bring_back.Tie as tie
 abbrev done : List ℕ → List ℕ → Setting → Outcome
 done out tr X = bringContent out (bringBackContent X (contentOf tr))
 
-judge-requires : tie.Need-judge-requires
-judge-requires c κs = (refl, refl, cleared-map)
-
-enum-known-setting : tie.Need-enum-known-setting
-enum-known-setting c = search needs
-
-faulting-requires : tie.Need-faulting-requires
-faulting-requires c κs = search needs
-
 returns : tie.Need-returns
 unfolding bringBack
 returns c = setting-refused _ _ _ _ _ _ (refusing _ _ _ _ _ _ _ (c .before .before .before .before .judge .ensures) (c .before .before .setting .given .1)) (c .faulting .ensures)
 
-enum-told : tie.Need-enum-told
-enum-told c = search needs
-
 judge-requires-2 : tie.Need-judge-requires-2
 judge-requires-2 c κs = standing _ _ _ _ _ _ _ (c .before .before .before .judge .ensures) (c .before .enum-told .given .1) .target-stands .bounded
-
-enum-known-judged : tie.Need-enum-known-judged
-enum-known-judged c = search needs
-
-faulting-requires-2 : tie.Need-faulting-requires-2
-faulting-requires-2 c κs = search needs
 
 returns-2 : tie.Need-returns-2
 unfolding bringBack
@@ -49,20 +31,11 @@ returns-2 c =
     let h = standing _ _ _ _ _ _ _ (setting .before .before .judge .ensures) (setting .enum-told .given .1) in
     tree-refused h (done _ _) (h .target-stands .same-table) (tree .judge2 .ensures) _ _ (c .before .before .judged .given .1) (c .faulting2 .ensures)
 
-enum-told-2 : tie.Need-enum-told-2
-enum-told-2 c = search needs
-
 bring-back-requires : tie.Need-bring-back-requires
 bring-back-requires c κs =
     let tree = c .before .before .before .before .before .before in let setting = tree .before .before in
     let h = standing _ _ _ _ _ _ _ (setting .before .before .judge .ensures) (setting .enum-told .given .1) in
     (standing-ready h, sound-tree _ _ _ (h .judges .target-sound) (h .target-stands) (tree .judge2 .ensures) (c .before .before .before .before .enum-told2 .given .1))
-
-brought-requires : tie.Need-brought-requires
-brought-requires c κs = search needs
-
-same-length : tie.Need-same-length
-same-length c = search needs
 
 returns-3 : tie.Need-returns-3
 unfolding bringBack
@@ -76,17 +49,17 @@ pub bring-back-spec : {M : Type 1} → statement M
 bring-back-spec =
     tie.close
     (tie.spec
-    judge-requires
-    enum-known-setting
-    faulting-requires
+    (λ c κs. (refl, refl, cleared-map))
+    (λ c. search needs)
+    (λ c κs. search needs)
     returns
-    enum-told
+    (λ c. search needs)
     judge-requires-2
-    enum-known-judged
-    faulting-requires-2
+    (λ c. search needs)
+    (λ c κs. search needs)
     returns-2
-    enum-told-2
+    (λ c. search needs)
     bring-back-requires
-    brought-requires
-    same-length
+    (λ c κs. search needs)
+    (λ c. search needs)
     returns-3)

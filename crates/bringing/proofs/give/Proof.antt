@@ -5,38 +5,20 @@ use borrow.Author.Needs.{needs}
 use Rattle.bringing.proofs.give.Statement.{statement}
 use Rattle.bringing.proofs.give.Tie as tie
 
-fill-spans-requires : tie.Need-fill-spans-requires
-fill-spans-requires c κs = search needs
-
 is-image-requires : tie.Need-is-image-requires
 is-image-requires c κs =
     let given = c .before .before .before .before .before .before .before .before .before .before .pre in
     (given .0, (source-read _ (given .0 .valid) (given .1 .0) (given .1 .1 .0), c .before .before .before .fill-spans .ensures))
-
-same-length : tie.Need-same-length
-same-length c = search needs
 
 returns : tie.Need-returns
 returns c =
     let given = c .before .before .before .before .before .before .before .before .before .before .before .before .pre in
     other-image _ (given .0 .valid) (given .1 .0) (given .1 .1 .0) _ (denied _ (c .before .is-image .ensures) (c .if1 .taken))
 
-same-length-2 : tie.Need-same-length-2
-same-length-2 c = search needs
-
 returns-2 : tie.Need-returns-2
 returns-2 c =
     let given = c .before .before .before .before .before .before .before .before .before .before .before .before .before .pre in
     source-no-room _ (given .0 .valid) (given .1 .0) (given .1 .1 .0) _ (confirmed _ (c .before .before .is-image .ensures) (c .before .if1 .left)) (c .if2 .taken)
-
-copy-requires : tie.Need-copy-requires
-copy-requires c κs = search needs
-
-same-length-3 : tie.Need-same-length-3
-same-length-3 c = search needs
-
-same-length-4 : tie.Need-same-length-4
-same-length-4 c = search needs
 
 returns-3 : tie.Need-returns-3
 returns-3 c =
@@ -47,13 +29,13 @@ pub give-spec : {M : Type 1} → statement M
 give-spec =
     tie.close
     (tie.spec
-    fill-spans-requires
+    (λ c κs. search needs)
     is-image-requires
-    same-length
+    (λ c. search needs)
     returns
-    same-length-2
+    (λ c. search needs)
     returns-2
-    copy-requires
-    same-length-3
-    same-length-4
+    (λ c κs. search needs)
+    (λ c. search needs)
+    (λ c. search needs)
     returns-3)

@@ -16,30 +16,12 @@ use Rattle.carry_entry.proofs.carry.Tie as tie
 abbrev done : List ℕ → List ℕ → Setting → Outcome
 done out tr X = carryContent out X (contentOf tr)
 
-judge-requires : tie.Need-judge-requires
-judge-requires c κs = (refl, refl, cleared-map)
-
-enum-known-setting : tie.Need-enum-known-setting
-enum-known-setting c = search needs
-
-faulting-requires : tie.Need-faulting-requires
-faulting-requires c κs = search needs
-
 returns : tie.Need-returns
 unfolding carry
 returns c = setting-refused _ _ _ _ _ _ (refusing _ _ _ _ _ _ _ (c .before .before .before .before .judge .ensures) (c .before .before .setting .given .1)) (c .faulting .ensures)
 
-enum-told : tie.Need-enum-told
-enum-told c = search needs
-
 judge-requires-2 : tie.Need-judge-requires-2
 judge-requires-2 c κs = standing _ _ _ _ _ _ _ (c .before .before .before .judge .ensures) (c .before .enum-told .given .1) .source-stands .bounded
-
-enum-known-judged : tie.Need-enum-known-judged
-enum-known-judged c = search needs
-
-faulting-requires-2 : tie.Need-faulting-requires-2
-faulting-requires-2 c κs = search needs
 
 returns-2 : tie.Need-returns-2
 unfolding carry
@@ -48,20 +30,11 @@ returns-2 c =
     let h = standing _ _ _ _ _ _ _ (setting .before .before .judge .ensures) (setting .enum-told .given .1) in
     tree-refused h (done _ _) (h .source-stands .same-table) (tree .judge2 .ensures) _ _ (c .before .before .judged .given .1) (c .faulting2 .ensures)
 
-enum-told-2 : tie.Need-enum-told-2
-enum-told-2 c = search needs
-
 carry-requires : tie.Need-carry-requires
 carry-requires c κs =
     let tree = c .before .before .before .before .before .before in let setting = tree .before .before in
     let h = standing _ _ _ _ _ _ _ (setting .before .before .judge .ensures) (setting .enum-told .given .1) in
     (standing-ready h, sound-tree _ _ _ (h .judges .source-sound) (h .source-stands) (tree .judge2 .ensures) (c .before .before .before .before .enum-told2 .given .1))
-
-carried-requires : tie.Need-carried-requires
-carried-requires c κs = search needs
-
-same-length : tie.Need-same-length
-same-length c = search needs
 
 returns-3 : tie.Need-returns-3
 unfolding carry
@@ -75,17 +48,17 @@ pub carry-spec : {M : Type 1} → statement M
 carry-spec =
     tie.close
     (tie.spec
-    judge-requires
-    enum-known-setting
-    faulting-requires
+    (λ c κs. (refl, refl, cleared-map))
+    (λ c. search needs)
+    (λ c κs. search needs)
     returns
-    enum-told
+    (λ c. search needs)
     judge-requires-2
-    enum-known-judged
-    faulting-requires-2
+    (λ c. search needs)
+    (λ c κs. search needs)
     returns-2
-    enum-told-2
+    (λ c. search needs)
     carry-requires
-    carried-requires
-    same-length
+    (λ c κs. search needs)
+    (λ c. search needs)
     returns-3)

@@ -8,9 +8,6 @@ use borrow.Author.Needs.{needs}
 use Rattle.embedding_judge.proofs.judge.Statement.{statement}
 use Rattle.embedding_judge.proofs.judge.Tie as tie
 
-returns : tie.Need-returns
-returns c = length-refused _ _ _ _ (c .if1 .taken)
-
 -- where check 2, check 3 and check 4 have passed
 form-passes : (c : tie.After-enum-told) → embeddingForm (tableBy (c .before .before .before .before .before .args .source .now)) (c .before .before .before .before .before .args .em .now) ≡ passes
 form-passes c = verdict-is _ (c .before .before .form .ensures) _ (c .enum-told .given .1) refl
@@ -21,41 +18,14 @@ limits-pass c = verdict-is _ (c .before .before .limits .ensures) _ (c .enum-tol
 operands-pass : (c : tie.After-enum-told3) → embeddingOperands (tableBy (c .before .before .before .before .before .before .before .before .before .before .before .args .target .now)) (c .before .before .before .before .before .before .before .before .before .before .before .args .em .now) ≡ passes
 operands-pass c = verdict-is _ (c .before .before .operands .ensures) _ (c .enum-told3 .given .1) refl
 
-form-requires : tie.Need-form-requires
-form-requires c κs = search needs
-
-enum-known-formed : tie.Need-enum-known-formed
-enum-known-formed c = search needs
-
 returns-2 : tie.Need-returns-2
 returns-2 c = form-refused _ _ _ _ (c .before .before .before .before .if1 .left) _ (verdict-is _ (c .before .before .before .form .ensures) _ (c .before .formed .given .1) refl)
-
-enum-told : tie.Need-enum-told
-enum-told c = search needs
-
-limits-requires : tie.Need-limits-requires
-limits-requires c κs = search needs
-
-enum-known-limited : tie.Need-enum-known-limited
-enum-known-limited c = search needs
 
 returns-3 : tie.Need-returns-3
 returns-3 c = limit-refused _ _ _ _ (c .before .before .before .before .before .before .before .if1 .left) (form-passes (c .before .before .before .before)) _ (verdict-is _ (c .before .before .before .limits .ensures) _ (c .before .limited .given .1) refl)
 
-enum-told-2 : tie.Need-enum-told-2
-enum-told-2 c = search needs
-
-operands-requires : tie.Need-operands-requires
-operands-requires c κs = search needs
-
-enum-known-right : tie.Need-enum-known-right
-enum-known-right c = search needs
-
 returns-4 : tie.Need-returns-4
 returns-4 c = operand-refused _ _ _ _ (c .before .before .before .before .before .before .before .before .before .before .if1 .left) (form-passes (c .before .before .before .before .before .before .before)) (limits-pass (c .before .before .before .before)) _ (verdict-is _ (c .before .before .before .operands .ensures) _ (c .before .right .given .1) refl)
-
-enum-told-3 : tie.Need-enum-told-3
-enum-told-3 c = search needs
 
 load-requires : tie.Need-load-requires
 load-requires c κs = ((c .before .before .before .before .before .before .before .before .before .before .before .before .pre .0 .source-bounded), (form-passes (c .before .before .before .before .before .before .before), (limits-pass (c .before .before .before .before), (c .before .before .before .before .before .before .before .before .before .before .if1 .left, c .before .before .before .before .before .before .before .before .before .before .before .before .pre .1))))
@@ -70,19 +40,19 @@ pub judge-spec : {M : Type 1} → statement M
 judge-spec =
     tie.close
     (tie.spec
-    returns
-    form-requires
-    enum-known-formed
+    (λ c. length-refused _ _ _ _ (c .if1 .taken))
+    (λ c κs. search needs)
+    (λ c. search needs)
     returns-2
-    enum-told
-    limits-requires
-    enum-known-limited
+    (λ c. search needs)
+    (λ c κs. search needs)
+    (λ c. search needs)
     returns-3
-    enum-told-2
-    operands-requires
-    enum-known-right
+    (λ c. search needs)
+    (λ c κs. search needs)
+    (λ c. search needs)
     returns-4
-    enum-told-3
+    (λ c. search needs)
     load-requires
     judge-paths-requires
     returns-5)

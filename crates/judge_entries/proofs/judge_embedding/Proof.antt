@@ -7,23 +7,8 @@ use borrow.Author.Needs.{needs}
 use Rattle.judge_entries.proofs.judge_embedding.Statement.{statement}
 use Rattle.judge_entries.proofs.judge_embedding.Tie as tie
 
-judge-requires : tie.Need-judge-requires
-judge-requires c κs = (refl, refl, cleared-map)
-
-enum-known-verdict : tie.Need-enum-known-verdict
-enum-known-verdict c = search needs
-
-faulting-requires : tie.Need-faulting-requires
-faulting-requires c κs = search needs
-
-enum-told : tie.Need-enum-told
-enum-told c = search needs
-
 edge-count-requires : tie.Need-edge-count-requires
 edge-count-requires c κs = standing _ _ _ _ _ _ _ (c .before .before .before .judge .ensures) (c .before .enum-told .given .1) .source-stands .bounded
-
-accepting-requires : tie.Need-accepting-requires
-accepting-requires c κs = search needs
 
 returns : tie.Need-returns
 returns c = embedding-refused _ _ _ _ (refusing _ _ _ _ _ _ _ (c .before .before .before .before .judge .ensures) (c .before .before .verdict .given .1)) (c .faulting .ensures)
@@ -35,11 +20,11 @@ pub judge-embedding-spec : {M : Type 1} → statement M
 judge-embedding-spec =
     tie.close
     (tie.spec
-    judge-requires
-    enum-known-verdict
-    faulting-requires
-    enum-told
+    (λ c κs. (refl, refl, cleared-map))
+    (λ c. search needs)
+    (λ c κs. search needs)
+    (λ c. search needs)
     edge-count-requires
-    accepting-requires
+    (λ c κs. search needs)
     returns
     returns-2)

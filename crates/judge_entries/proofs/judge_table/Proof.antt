@@ -4,24 +4,6 @@ use borrow.Author.Needs.{needs}
 use Rattle.judge_entries.proofs.judge_table.Statement.{statement}
 use Rattle.judge_entries.proofs.judge_table.Tie as tie
 
-judge-requires : tie.Need-judge-requires
-judge-requires c κs = search needs
-
-enum-known-judged : tie.Need-enum-known-judged
-enum-known-judged c = search needs
-
-faulting-requires : tie.Need-faulting-requires
-faulting-requires c κs = search needs
-
-enum-told : tie.Need-enum-told
-enum-told c = search needs
-
-types-requires : tie.Need-types-requires
-types-requires c κs = search needs
-
-accepting-requires : tie.Need-accepting-requires
-accepting-requires c κs = search needs
-
 returns : tie.Need-returns
 returns c = table-faulty (c .before .before .before .before .judge .ensures) _ (c .before .before .judged .given .1) (c .faulting .ensures)
 
@@ -32,11 +14,11 @@ pub judge-table-spec : {M : Type 1} → statement M
 judge-table-spec =
     tie.close
     (tie.spec
-    judge-requires
-    enum-known-judged
-    faulting-requires
-    enum-told
-    types-requires
-    accepting-requires
+    (λ c κs. search needs)
+    (λ c. search needs)
+    (λ c κs. search needs)
+    (λ c. search needs)
+    (λ c κs. search needs)
+    (λ c κs. search needs)
     returns
     returns-2)

@@ -4,18 +4,6 @@ use borrow.Author.Needs.{needs}
 use Rattle.judge_entries.proofs.judge_tree.Statement.{statement}
 use Rattle.judge_entries.proofs.judge_tree.Tie as tie
 
-judge-requires : tie.Need-judge-requires
-judge-requires c κs = search needs
-
-enum-known-judged : tie.Need-enum-known-judged
-enum-known-judged c = search needs
-
-faulting-requires : tie.Need-faulting-requires
-faulting-requires c κs = search needs
-
-enum-told : tie.Need-enum-told
-enum-told c = search needs
-
 judge-tree-by-requires : tie.Need-judge-tree-by-requires
 judge-tree-by-requires c κs = loaded-bounded (c .before .before .before .judge .ensures) (c .before .enum-told .given .1)
 
@@ -29,10 +17,10 @@ pub judge-tree-spec : {M : Type 1} → statement M
 judge-tree-spec =
     tie.close
     (tie.spec
-    judge-requires
-    enum-known-judged
-    faulting-requires
-    enum-told
+    (λ c κs. search needs)
+    (λ c. search needs)
+    (λ c κs. search needs)
+    (λ c. search needs)
     judge-tree-by-requires
     returns
     returns-2)

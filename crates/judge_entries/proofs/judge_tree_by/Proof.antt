@@ -4,21 +4,6 @@ use borrow.Author.Needs.{needs}
 use Rattle.judge_entries.proofs.judge_tree_by.Statement.{statement}
 use Rattle.judge_entries.proofs.judge_tree_by.Tie as tie
 
-judge-requires : tie.Need-judge-requires
-judge-requires c κs = search needs
-
-enum-known-judged : tie.Need-enum-known-judged
-enum-known-judged c = search needs
-
-faulting-requires : tie.Need-faulting-requires
-faulting-requires c κs = search needs
-
-enum-told : tie.Need-enum-told
-enum-told c = search needs
-
-accepting-requires : tie.Need-accepting-requires
-accepting-requires c κs = search needs
-
 returns : tie.Need-returns
 returns c = tree-faulty (c .before .before .before .before .judge .ensures) _ (c .before .before .judged .given .1) (c .faulting .ensures)
 
@@ -29,10 +14,10 @@ pub judge-tree-by-spec : {M : Type 1} → statement M
 judge-tree-by-spec =
     tie.close
     (tie.spec
-    judge-requires
-    enum-known-judged
-    faulting-requires
-    enum-told
-    accepting-requires
+    (λ c κs. search needs)
+    (λ c. search needs)
+    (λ c κs. search needs)
+    (λ c. search needs)
+    (λ c κs. search needs)
     returns
     returns-2)

@@ -5,14 +5,13 @@ use Rattle.loaded_table.specs.Loaded.{in-section}
 use Rattle.loaded_table.proofs.kind.Statement.{statement}
 use Rattle.loaded_table.proofs.kind.Tie as tie
 
-add-number : tie.Need-add-number
-add-number c = search needs
-
-number-requires : tie.Need-number-requires
-number-requires c κs = search needs
-
 returns : tie.Need-returns
 returns c = (c .number .ensures .0 ∙ sym (in-section 0 64 (c .before .args .table .now) (c .before .args .t) (c .before .pre)), c .number .ensures .1)
 
 pub kind-spec : {M : Type 1} → statement M
-kind-spec = tie.close (tie.spec add-number number-requires returns)
+kind-spec =
+    tie.close
+    (tie.spec
+    (λ c. search needs)
+    (λ c κs. search needs)
+    returns)

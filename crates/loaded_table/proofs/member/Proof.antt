@@ -7,18 +7,6 @@ use Rattle.loaded_table.specs.Loaded.{in-section}
 use Rattle.loaded_table.proofs.member.Statement.{statement}
 use Rattle.loaded_table.proofs.member.Tie as tie
 
-mul-number : tie.Need-mul-number
-mul-number c = search needs
-
-add-number : tie.Need-add-number
-add-number c = search needs
-
-add-number-2 : tie.Need-add-number-2
-add-number-2 c = search needs
-
-number-requires : tie.Need-number-requires
-number-requires c κs = search needs
-
 returns : tie.Need-returns
 returns c =
     let start = c .before in
@@ -26,4 +14,11 @@ returns c =
     (c .number .ensures .0 ∙ sym (in-section 256 1024 (start .args .table .now) (start .args .t * 16 + start .args .i) near), c .number .ensures .1)
 
 pub member-spec : {M : Type 1} → statement M
-member-spec = tie.close (tie.spec mul-number add-number add-number-2 number-requires returns)
+member-spec =
+    tie.close
+    (tie.spec
+    (λ c. search needs)
+    (λ c. search needs)
+    (λ c. search needs)
+    (λ c κs. search needs)
+    returns)

@@ -12,12 +12,6 @@ Inv-loop target em start steps t d₀ here₀ d here = Divides target em start s
 abbrev μ-loop : tie.MeasureT-loop
 μ-loop target em start steps t d₀ here₀ d here = steps - d
 
-loop-holds : tie.Need-loop-holds Inv-loop μ-loop
-loop-holds c = divides-start (c .before .pre)
-
-step-requires : tie.Need-step-requires Inv-loop μ-loop
-step-requires c κs = place-within (c .before .loop .inv .walk) (c .loop-test .taken)
-
 sub-member : tie.Need-sub-member Inv-loop μ-loop
 sub-member c = step-bounds (c .before .before .loop .inv .walk) (c .before .loop-test .taken) (c .step .ensures .0) .0
 
@@ -36,19 +30,10 @@ returns c =
     let at = c .before .before .before .before in
     divides-list (at .before .loop .inv) (at .loop-test .taken) (c .before .before .before .step .ensures .0) (c .before .before .member .ensures .0) (rw (c .before .kind .ensures .0) at (c .if1 .taken))
 
-add-d : tie.Need-add-d Inv-loop μ-loop
-add-d c = omega (arith, c .before .before .before .before .loop-test .taken)
-
-loop-less : tie.Need-loop-less Inv-loop μ-loop
-loop-less c = omega (arith, c .before .before .before .before .loop-test .taken)
-
 loop-again : tie.Need-loop-again Inv-loop μ-loop
 loop-again c =
     let at = c .before .before .before .before in
     divides-on (at .before .loop .inv) (at .loop-test .taken) (c .before .before .before .step .ensures .0) (c .before .before .member .ensures .0) (rw (c .before .kind .ensures .0) at (c .if1 .left))
-
-returns-2 : tie.Need-returns-2 Inv-loop μ-loop
-returns-2 c = divides-none (c .before .loop .inv) (c .loop-test .left)
 
 pub list-depth-spec : {M : Type 1} → statement M
 list-depth-spec =
@@ -56,13 +41,13 @@ list-depth-spec =
     (tie.spec
     Inv-loop
     μ-loop
-    loop-holds
-    step-requires
+    (λ c. divides-start (c .before .pre))
+    (λ c κs. place-within (c .before .loop .inv .walk) (c .loop-test .taken))
     sub-member
     member-requires
     kind-requires
     returns
-    add-d
-    loop-less
+    (λ c. omega (arith, c .before .before .before .before .loop-test .taken))
+    (λ c. omega (arith, c .before .before .before .before .loop-test .taken))
     loop-again
-    returns-2)
+    (λ c. divides-none (c .before .loop .inv) (c .loop-test .left)))

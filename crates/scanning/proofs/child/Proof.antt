@@ -17,9 +17,6 @@ abbrev μ-loop : tie.MeasureT-loop
 two-left : (left : ℕ) → 1 ≤ left → (left ≡ 1 → ⊥) → 2 ≤ left
 two-left left some other = omega arith
 
-returns : tie.Need-returns Inv-loop μ-loop
-returns c = λ k a. rw (c .if1 .taken) (child-zero k)
-
 loop-holds : tie.Need-loop-holds Inv-loop μ-loop
 loop-holds c = record { some-left = omega (arith, c .if1 .left); reached = λ k a. record { content = k; there = a; same = refl } }
 
@@ -38,17 +35,11 @@ close-of-requires c κs = (c .before .before .before .before .before .before .be
 add-at : tie.Need-add-at Inv-loop μ-loop
 add-at c = omega (arith, reached-close (c .before .before .before .before .loop .inv .reached (c .before .before .before .before .before .before .before .before .pre .1 .0) (c .before .before .before .before .before .before .before .before .pre .1 .1)) (c .before .before .if2 .taken) (c .close-of .result) (c .close-of .ensures) .1)
 
-sub-left : tie.Need-sub-left Inv-loop μ-loop
-sub-left c = c .before .before .before .before .loop .inv .some-left
-
 loop-less : tie.Need-loop-less Inv-loop μ-loop
 loop-less c = let far = reached-close (c .before .before .before .before .loop .inv .reached (c .before .before .before .before .before .before .before .before .pre .1 .0) (c .before .before .before .before .before .before .before .before .pre .1 .1)) (c .before .before .if2 .taken) (c .close-of .result) (c .close-of .ensures) in omega (arith, far .0, far .1)
 
 loop-again : tie.Need-loop-again Inv-loop μ-loop
 loop-again c = let more = two-left _ (c .before .before .before .before .loop .inv .some-left) (c .before .if3 .left) in record { some-left = omega (arith, more); reached = λ k a. reached-next (c .before .before .before .before .loop .inv .reached k a) (c .before .before .if2 .taken) (c .close-of .result) (c .close-of .ensures) more }
-
-returns-3 : tie.Need-returns-3 Inv-loop μ-loop
-returns-3 c = λ k a. reached-none (c .before .before .loop .inv .reached k a) (c .if2 .left)
 
 pub child-spec : {M : Type 1} → statement M
 child-spec =
@@ -56,14 +47,14 @@ child-spec =
     (tie.spec
     Inv-loop
     μ-loop
-    returns
+    (λ c k a. rw (c .if1 .taken) (child-zero k))
     loop-holds
     shared-slice-read-if2
     add-inside
     returns-2
     close-of-requires
     add-at
-    sub-left
+    (λ c. c .before .before .before .before .loop .inv .some-left)
     loop-less
     loop-again
-    returns-3)
+    (λ c k a. reached-none (c .before .before .loop .inv .reached k a) (c .if2 .left)))

@@ -5,12 +5,6 @@ use Rattle.scanning.proofs.Searching.{typed-none, typed-found, typed-ot
 use Rattle.scanning.proofs.child_of_type.Statement.{statement}
 use Rattle.scanning.proofs.child_of_type.Tie as tie
 
-shared-slice-read-if1 : tie.Need-shared-slice-read-if1
-shared-slice-read-if1 c = omega (arith, content-within (c .before .pre .1))
-
-add-second : tie.Need-add-second
-add-second c = omega (arith, content-within (c .before .before .pre .1))
-
 shared-slice-read-if2 : tie.Need-shared-slice-read-if2
 shared-slice-read-if2 c = opens (c .before .before .before .pre .0) (c .before .before .before .pre .1) (c .before .if1 .taken) .two
 
@@ -23,17 +17,14 @@ returns c = λ k a. typed-found (c .before .before .before .before .args .t) k a
 returns-2 : tie.Need-returns-2
 returns-2 c = λ k a. typed-other (c .before .before .before .before .args .t) k a (c .before .before .if1 .taken) (c .if2 .left)
 
-returns-3 : tie.Need-returns-3
-returns-3 c = λ k a. typed-none (c .before .before .args .t) k a (c .if1 .left)
-
 pub child-of-type-spec : {M : Type 1} → statement M
 child-of-type-spec =
     tie.close
     (tie.spec
-    shared-slice-read-if1
-    add-second
+    (λ c. omega (arith, content-within (c .before .pre .1)))
+    (λ c. omega (arith, content-within (c .before .before .pre .1)))
     shared-slice-read-if2
     add-t11
     returns
     returns-2
-    returns-3)
+    (λ c k a. typed-none (c .before .before .args .t) k a (c .if1 .left)))

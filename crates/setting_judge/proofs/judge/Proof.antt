@@ -4,32 +4,14 @@ use borrow.Author.Needs.{needs}
 use Rattle.setting_judge.proofs.judge.Statement.{statement}
 use Rattle.setting_judge.proofs.judge.Tie as tie
 
-judge-requires : tie.Need-judge-requires
-judge-requires c κs = search needs
-
-enum-known-first : tie.Need-enum-known-first
-enum-known-first c = search needs
-
 returns : tie.Need-returns
 returns c = source-refused _ _ _ (c .before .before .before .judge .ensures) (c .before .first .given .1)
-
-enum-told : tie.Need-enum-told
-enum-told c = search needs
-
-judge-requires-2 : tie.Need-judge-requires-2
-judge-requires-2 c κs = search needs
-
-enum-known-second : tie.Need-enum-known-second
-enum-known-second c = search needs
 
 returns-2 : tie.Need-returns-2
 returns-2 c =
     let second = c .before .before .before in
     let first = second .before .before .before .before in
     target-refused _ _ _ (first .judge .ensures) (second .before .before .enum-told .given .1) (second .judge2 .ensures) (c .before .second .given .1)
-
-enum-told-2 : tie.Need-enum-told-2
-enum-told-2 c = search needs
 
 judge-requires-3 : tie.Need-judge-requires-3
 judge-requires-3 c κs =
@@ -38,9 +20,6 @@ judge-requires-3 c κs =
     let start = first .before .before .before .before .before in
     (judgeable (first .judge .ensures) (second .before .before .enum-told .given .1) (second .judge2 .ensures) (c .before .before .before .enum-told2 .given .1), start .pre .2)
 
-enum-known-third : tie.Need-enum-known-third
-enum-known-third c = search needs
-
 returns-3 : tie.Need-returns-3
 returns-3 c =
     let third = c .before .before .before in
@@ -48,9 +27,6 @@ returns-3 c =
     let first = second .before .before .before .before in
     embedding-refused (first .judge .ensures) (second .before .before .enum-told .given .1) (second .judge2 .ensures) (third .before .before .before .before .enum-told2 .given .1)
     (third .judge3 .ensures) (c .before .third .given .1)
-
-enum-told-3 : tie.Need-enum-told-3
-enum-told-3 c = search needs
 
 returns-4 : tie.Need-returns-4
 returns-4 c =
@@ -64,16 +40,16 @@ pub judge-spec : {M : Type 1} → statement M
 judge-spec =
     tie.close
     (tie.spec
-    judge-requires
-    enum-known-first
+    (λ c κs. search needs)
+    (λ c. search needs)
     returns
-    enum-told
-    judge-requires-2
-    enum-known-second
+    (λ c. search needs)
+    (λ c κs. search needs)
+    (λ c. search needs)
     returns-2
-    enum-told-2
+    (λ c. search needs)
     judge-requires-3
-    enum-known-third
+    (λ c. search needs)
     returns-3
-    enum-told-3
+    (λ c. search needs)
     returns-4)

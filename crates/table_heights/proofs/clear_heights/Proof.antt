@@ -14,18 +14,6 @@ Inv-loop table₀ t₀ table t = (t ≤ 64) × Elsewhere 128 64 table₀ table �
 abbrev μ-loop : tie.MeasureT-loop
 μ-loop table₀ t₀ table t = 64 - t
 
-loop-holds : tie.Need-loop-holds Inv-loop μ-loop
-loop-holds c = (omega arith, elsewhere-same 128 64 _, λ k low. absurd (omega arith))
-
-set-height-requires : tie.Need-set-height-requires Inv-loop μ-loop
-set-height-requires c κs = omega arith
-
-add-t : tie.Need-add-t Inv-loop μ-loop
-add-t c = omega arith
-
-loop-less : tie.Need-loop-less Inv-loop μ-loop
-loop-less c = omega arith
-
 loop-again : tie.Need-loop-again Inv-loop μ-loop
 loop-again c =
     let l = c .before .before .before in
@@ -45,9 +33,9 @@ clear-heights-spec =
     (tie.spec
     Inv-loop
     μ-loop
-    loop-holds
-    set-height-requires
-    add-t
-    loop-less
+    (λ c. (omega arith, elsewhere-same 128 64 _, λ k low. absurd (omega arith)))
+    (λ c κs. omega arith)
+    (λ c. omega arith)
+    (λ c. omega arith)
     loop-again
     returns)

@@ -37,12 +37,6 @@ round c =
     let l = c .before .before .before in
     subst (λ T. HoldsRound T (heightsOf (l .loop .table)) (heightsOf (c .height-round .last .0)) (c .height-round .result)) (table-elsewhere (omega arith) (omega arith) (l .loop .inv .1)) (c .height-round .ensures .1)
 
-clear-heights-requires : tie.Need-clear-heights-requires Inv-loop μ-loop
-clear-heights-requires c κs = c .before .pre
-
-types-requires : tie.Need-types-requires Inv-loop μ-loop
-types-requires c κs = tt
-
 loop-holds : tie.Need-loop-holds Inv-loop μ-loop
 loop-holds c =
     let rows = cleared c in
@@ -53,23 +47,11 @@ height-round-requires c κs =
     let l = c .before .before in
     bounded-elsewhere (omega arith) (omega arith) (l .loop .inv .1) (bounded (l .before))
 
-add-n : tie.Need-add-n Inv-loop μ-loop
-add-n c = omega (arith, c .before .before .before .before .before .types .ensures .1)
-
-loop-less : tie.Need-loop-less Inv-loop μ-loop
-loop-less c = omega arith
-
 loop-again : tie.Need-loop-again Inv-loop μ-loop
 loop-again c =
     let l = c .before .before .before .before in
     let n = l .before in
     (omega arith, elsewhere-both (l .loop .inv .1) (c .before .height-round .ensures .0), to-more (few n) (omega (arith, long n)) (l .loop .inv .2) (round (c .before)))
-
-add-n-2 : tie.Need-add-n-2 Inv-loop μ-loop
-add-n-2 c = omega (arith, c .before .before .before .before .before .types .ensures .1)
-
-loop-less-2 : tie.Need-loop-less-2 Inv-loop μ-loop
-loop-less-2 c = omega arith
 
 loop-again-2 : tie.Need-loop-again-2 Inv-loop μ-loop
 loop-again-2 c =
@@ -95,14 +77,14 @@ find-heights-spec =
     (tie.spec
     Inv-loop
     μ-loop
-    clear-heights-requires
-    types-requires
+    (λ c κs. c .before .pre)
+    (λ c κs. tt)
     loop-holds
     height-round-requires
-    add-n
-    loop-less
+    (λ c. omega (arith, c .before .before .before .before .before .types .ensures .1))
+    (λ c. omega arith)
     loop-again
-    add-n-2
-    loop-less-2
+    (λ c. omega (arith, c .before .before .before .before .before .types .ensures .1))
+    (λ c. omega arith)
     loop-again-2
     returns)

@@ -16,22 +16,6 @@ Inv-loop table all bits₀ t₀ bits t = (t ≤ all) × (bits ≡ word (finiteBi
 abbrev μ-loop : tie.MeasureT-loop
 μ-loop table all bits₀ t₀ bits t = all - t
 
-loop-holds : tie.Need-loop-holds Inv-loop μ-loop
-unfolding word finiteBits
-loop-holds c = (omega arith, refl)
-
-height-requires : tie.Need-height-requires Inv-loop μ-loop
-height-requires c κs = omega (arith, c .before .before .pre .0)
-
-shl-bits : tie.Need-shl-bits Inv-loop μ-loop
-shl-bits c = omega (arith, c .before .before .before .before .pre .0)
-
-add-t : tie.Need-add-t Inv-loop μ-loop
-add-t c = omega (arith, c .before .before .before .before .pre .0)
-
-loop-less : tie.Need-loop-less Inv-loop μ-loop
-loop-less c = omega arith
-
 loop-again : tie.Need-loop-again Inv-loop μ-loop
 loop-again c =
     let l = c .before .before .before in
@@ -53,15 +37,16 @@ returns c =
     rw all at (l .loop .inv .1)
 
 pub finite-bits-spec : {M : Type 1} → statement M
+unfolding word finiteBits
 finite-bits-spec =
     tie.close
     (tie.spec
     Inv-loop
     μ-loop
-    loop-holds
-    height-requires
-    shl-bits
-    add-t
-    loop-less
+    (λ c. (omega arith, refl))
+    (λ c κs. omega (arith, c .before .before .pre .0))
+    (λ c. omega (arith, c .before .before .before .before .pre .0))
+    (λ c. omega (arith, c .before .before .before .before .pre .0))
+    (λ c. omega arith)
     loop-again
     returns)

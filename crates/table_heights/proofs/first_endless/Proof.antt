@@ -13,14 +13,8 @@ use Rattle.table_heights.proofs.first_endless.Tie as tie
 long : (c : tie.Start) → length (heightsOf (c .args .table .now)) ≡ 64
 long c = section-long 128 64 (c .args .table .now) (omega (arith, c .pre .0 .size))
 
-types-requires : tie.Need-types-requires
-types-requires c κs = tt
-
 finite-bits-requires : tie.Need-finite-bits-requires
 finite-bits-requires c κs = (omega (arith, c .types .ensures .0, c .before .pre .0 .few-types), long (c .before))
-
-cast-t : tie.Need-cast-t
-cast-t c = omega (arith, trailing-le 64 (18446744073709551615 - c .finite-bits .result))
 
 returns : tie.Need-returns
 returns c =
@@ -42,8 +36,8 @@ pub first-endless-spec : {M : Type 1} → statement M
 first-endless-spec =
     tie.close
     (tie.spec
-    types-requires
+    (λ c κs. tt)
     finite-bits-requires
-    cast-t
+    (λ c. omega (arith, trailing-le 64 (18446744073709551615 - c .finite-bits .result)))
     returns
     returns-2)

@@ -8,13 +8,6 @@ use Rattle.model.specs.Definitions.Heights.{heightIn}
 use Rattle.table_heights.proofs.height_at.Statement.{statement}
 use Rattle.table_heights.proofs.height_at.Tie as tie
 
-height-requires : tie.Need-height-requires
-height-requires c κs = search needs
-
-returns : tie.Need-returns
-unfolding heightIn
-returns c = c .height .ensures
-
 returns-2 : tie.Need-returns-2
 unfolding heightIn
 returns-2 c =
@@ -22,9 +15,10 @@ returns-2 c =
     (sym (List·getD-eq-default (heightsOf rows) 0 (omega (arith, length-take 64 (drop 128 rows), c .if1 .left))), omega arith)
 
 pub height-at-spec : {M : Type 1} → statement M
+unfolding heightIn
 height-at-spec =
     tie.close
     (tie.spec
-    height-requires
-    returns
+    (λ c κs. search needs)
+    (λ c. c .height .ensures)
     returns-2)

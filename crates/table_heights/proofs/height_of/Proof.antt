@@ -9,21 +9,6 @@ use Rattle.table_heights.specs.Sections.{kind-sequence, kind-choice, kin
 use Rattle.table_heights.proofs.height_of.Statement.{statement}
 use Rattle.table_heights.proofs.height_of.Tie as tie
 
-kind-requires : tie.Need-kind-requires
-kind-requires c κs = omega (arith, c .pre .1, c .pre .0 .few-types)
-
-highest-requires : tie.Need-highest-requires
-highest-requires c κs = c .before .before .pre
-
-add-result : tie.Need-add-result
-add-result c = omega (arith, c .highest .ensures .1)
-
-lowest-requires : tie.Need-lowest-requires
-lowest-requires c κs = c .before .before .pre
-
-add-result-2 : tie.Need-add-result-2
-add-result-2 c = omega (arith, c .lowest .ensures .1)
-
 returns : tie.Need-returns
 unfolding heightOfKind
 returns c =
@@ -50,11 +35,11 @@ pub height-of-spec : {M : Type 1} → statement M
 height-of-spec =
     tie.close
     (tie.spec
-    kind-requires
-    highest-requires
-    add-result
-    lowest-requires
-    add-result-2
+    (λ c κs. omega (arith, c .pre .1, c .pre .0 .few-types))
+    (λ c κs. c .before .before .pre)
+    (λ c. omega (arith, c .highest .ensures .1))
+    (λ c κs. c .before .before .pre)
+    (λ c. omega (arith, c .lowest .ensures .1))
     returns
     returns-2
     returns-3)

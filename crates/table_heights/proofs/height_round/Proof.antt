@@ -32,16 +32,10 @@ few c = omega (arith, c .types .ensures .0, c .before .before .pre .few-types)
 here : (c : tie.In-loop Inv-loop μ-loop) → c .before .loop .t - 1 < c .before .before .types .result
 here c = omega (arith, c .loop-test .taken, c .before .loop .inv .1 .within, long (c .before .before))
 
-types-requires : tie.Need-types-requires Inv-loop μ-loop
-types-requires c κs = tt
-
 loop-holds : tie.Need-loop-holds Inv-loop μ-loop
 loop-holds c =
     let rows = before c in
     (elsewhere-same 128 64 rows, subst (λ k. Raising (tableBy rows) (heightsOf rows) k (heightsOf rows) _) (long c) (raising-starts (tableBy rows) (heightsOf rows) (section-long 128 64 rows (omega (arith, c .before .before .pre .size)))))
-
-sub-t : tie.Need-sub-t Inv-loop μ-loop
-sub-t c = omega (arith, c .loop-test .taken)
 
 height-of-requires : tie.Need-height-of-requires Inv-loop μ-loop
 height-of-requires c κs =
@@ -49,9 +43,6 @@ height-of-requires c κs =
     let n = l .before in
     let kept = l .loop .inv .0 in
     (bounded-elsewhere (omega arith) (omega arith) kept (n .before .before .pre), omega (arith, here (c .before), n .types .ensures .0, types-elsewhere (omega arith) (omega arith) kept))
-
-held-height-requires : tie.Need-held-height-requires Inv-loop μ-loop
-held-height-requires c κs = few (c .before .before .before .before)
 
 height-requires : tie.Need-height-requires Inv-loop μ-loop
 height-requires c κs = omega (arith, here (c .before .before .before .before), few (c .before .before .before .before .before .before))
@@ -88,9 +79,6 @@ loop-again c =
       subst (λ hs. Raising (tableBy rows) (heightsOf rows) (l .loop .t - 1) hs true) (sym stored) (raising-changed (l .loop .t) (i .loop-test .taken) (next (c .before .before .before .before .before)) (l .loop .inv .1)),
     )
 
-loop-less-2 : tie.Need-loop-less-2 Inv-loop μ-loop
-loop-less-2 c = omega (arith, c .before .before .before .before .before .before .loop-test .taken)
-
 loop-again-2 : tie.Need-loop-again-2 Inv-loop μ-loop
 loop-again-2 c =
     let i = c .before .before .before .before .before .before in
@@ -106,16 +94,16 @@ height-round-spec =
     (tie.spec
     Inv-loop
     μ-loop
-    types-requires
+    (λ c κs. tt)
     loop-holds
-    sub-t
+    (λ c. omega (arith, c .loop-test .taken))
     height-of-requires
-    held-height-requires
+    (λ c κs. few (c .before .before .before .before))
     height-requires
     cast-set-height
     set-height-requires
     loop-less
     loop-again
-    loop-less-2
+    (λ c. omega (arith, c .before .before .before .before .before .before .loop-test .taken))
     loop-again-2
     returns)

@@ -17,25 +17,10 @@ Inv-loop table t many best₀ i₀ best i = (i ≤ many) × (best < 65536) × (m
 abbrev μ-loop : tie.MeasureT-loop
 μ-loop table t many best₀ i₀ best i = many - i
 
-count-requires : tie.Need-count-requires Inv-loop μ-loop
-count-requires c κs = omega (arith, c .pre .1, c .pre .0 .few-types)
-
-loop-holds : tie.Need-loop-holds Inv-loop μ-loop
-loop-holds c = (omega arith, omega arith, omega arith)
-
 member-requires : tie.Need-member-requires Inv-loop μ-loop
 member-requires c κs =
     let s = c .before .before .before in
     (omega (arith, s .pre .1, s .pre .0 .few-types), omega (arith, c .loop-test .taken, c .before .before .count .ensures .0, s .pre .0 .few-members (s .args .t)))
-
-height-at-requires : tie.Need-height-at-requires Inv-loop μ-loop
-height-at-requires c κs = tt
-
-add-i : tie.Need-add-i Inv-loop μ-loop
-add-i c = omega arith
-
-loop-less : tie.Need-loop-less Inv-loop μ-loop
-loop-less c = omega arith
 
 loop-again : tie.Need-loop-again Inv-loop μ-loop
 loop-again c =
@@ -64,11 +49,11 @@ highest-spec =
     (tie.spec
     Inv-loop
     μ-loop
-    count-requires
-    loop-holds
+    (λ c κs. omega (arith, c .pre .1, c .pre .0 .few-types))
+    (λ c. (omega arith, omega arith, omega arith))
     member-requires
-    height-at-requires
-    add-i
-    loop-less
+    (λ c κs. tt)
+    (λ c. omega arith)
+    (λ c. omega arith)
     loop-again
     returns)

@@ -18,9 +18,6 @@ Inv-loop table t many best₀ i₀ best i = (i ≤ many) × (leastMember (height
 abbrev μ-loop : tie.MeasureT-loop
 μ-loop table t many best₀ i₀ best i = many - i
 
-count-requires : tie.Need-count-requires Inv-loop μ-loop
-count-requires c κs = omega (arith, c .pre .1, c .pre .0 .few-types)
-
 returns : tie.Need-returns Inv-loop μ-loop
 returns c =
     let n = c .before in
@@ -46,18 +43,6 @@ member-requires-2 c κs =
     let n = c .before .before .before .before in
     let s = n .before in
     (omega (arith, s .pre .1, s .pre .0 .few-types), omega (arith, c .loop-test .taken, n .count .ensures .0, s .pre .0 .few-members (s .args .t)))
-
-height-at-requires : tie.Need-height-at-requires Inv-loop μ-loop
-height-at-requires c κs = tt
-
-height-at-requires-2 : tie.Need-height-at-requires-2 Inv-loop μ-loop
-height-at-requires-2 c κs = tt
-
-add-i : tie.Need-add-i Inv-loop μ-loop
-add-i c = omega arith
-
-loop-less : tie.Need-loop-less Inv-loop μ-loop
-loop-less c = omega arith
 
 loop-again : tie.Need-loop-again Inv-loop μ-loop
 loop-again c =
@@ -91,14 +76,14 @@ least-member-spec =
     (tie.spec
     Inv-loop
     μ-loop
-    count-requires
+    (λ c κs. omega (arith, c .pre .1, c .pre .0 .few-types))
     returns
     member-requires
     loop-holds
     member-requires-2
-    height-at-requires
-    height-at-requires-2
-    add-i
-    loop-less
+    (λ c κs. tt)
+    (λ c κs. tt)
+    (λ c. omega arith)
+    (λ c. omega arith)
     loop-again
     returns-2)

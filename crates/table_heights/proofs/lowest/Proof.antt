@@ -11,19 +11,10 @@ use Rattle.table_heights.proofs.Members.{lowest-none}
 use Rattle.table_heights.proofs.lowest.Statement.{statement}
 use Rattle.table_heights.proofs.lowest.Tie as tie
 
-count-requires : tie.Need-count-requires
-count-requires c κs = omega (arith, c .pre .1, c .pre .0 .few-types)
-
 returns : tie.Need-returns
 returns c =
     let n = c .before in
     (lowest-none (heightsOf (n .before .args .table .now)) (membersAt (n .before .args .table .now) (n .before .args .t)) (members-long _ _ (n .before .pre) (n .count .ensures .0) ∙ c .if1 .taken), omega arith)
-
-least-member-requires : tie.Need-least-member-requires
-least-member-requires c κs = c .before .before .pre
-
-height-at-requires : tie.Need-height-at-requires
-height-at-requires c κs = tt
 
 returns-2 : tie.Need-returns-2
 returns-2 c =
@@ -37,8 +28,8 @@ pub lowest-spec : {M : Type 1} → statement M
 lowest-spec =
     tie.close
     (tie.spec
-    count-requires
+    (λ c κs. omega (arith, c .pre .1, c .pre .0 .few-types))
     returns
-    least-member-requires
-    height-at-requires
+    (λ c κs. c .before .before .pre)
+    (λ c κs. tt)
     returns-2)

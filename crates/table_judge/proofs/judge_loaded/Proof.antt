@@ -8,45 +8,21 @@ use Rattle.table_judge.proofs.Checks.{verdict-is, operand-refused, repe
 use Rattle.table_judge.proofs.judge_loaded.Statement.{statement}
 use Rattle.table_judge.proofs.judge_loaded.Tie as tie
 
-load-requires : tie.Need-load-requires
-load-requires c κs = search needs
-
-types-requires : tie.Need-types-requires
-types-requires c κs = tt
-
-operands-requires : tie.Need-operands-requires
-operands-requires c κs = search needs
-
-enum-known-operands : tie.Need-enum-known-operands
-enum-known-operands c = search needs
-
 returns : tie.Need-returns
 returns c =
     let o = c .before .before .before in
     let n = o .before in
     operand-refused _ _ (n .before .before .load .ensures) _ _ (n .types .ensures .0) (verdict-is _ (o .operands .ensures) _ (c .before .operands2 .given .1) refl)
 
-enum-told : tie.Need-enum-told
-enum-told c = search needs
-
 -- check 4 has passed
 operands-pass : (c : tie.After-enum-told) → tableOperands (c .before .before .before .types .result) (now (c .before .before .before .before .before .before .before .before .args .t)) ≡ passes
 operands-pass c = verdict-is _ (c .before .before .operands .ensures) _ (c .enum-told .given .1) refl
-
-repeats-requires : tie.Need-repeats-requires
-repeats-requires c κs = search needs
-
-enum-known-repeats : tie.Need-enum-known-repeats
-enum-known-repeats c = search needs
 
 returns-2 : tie.Need-returns-2
 returns-2 c =
     let o = c .before .before .before .before in
     let n = o .before .before .before in
     repeat-refused _ _ (n .before .before .load .ensures) _ _ (n .types .ensures .0) (operands-pass o) (verdict-is _ (c .before .before .before .repeats .ensures) _ (c .before .repeats2 .given .1) refl)
-
-enum-told-2 : tie.Need-enum-told-2
-enum-told-2 c = search needs
 
 -- check 5 has passed
 repeats-pass : (c : tie.After-enum-told2) → tableRepeats (now (c .before .before .before .before .before .before .before .before .before .before .before .args .t)) ≡ passes
@@ -59,9 +35,6 @@ first-endless-requires : tie.Need-first-endless-requires
 first-endless-requires c κs =
     ready _ _ (c .before .before .before .before .before .before .before .before .before .before .before .load .ensures) _ (c .before .find-heights .ensures)
 
-enum-known-endless : tie.Need-enum-known-endless
-enum-known-endless c = search needs
-
 returns-3 : tie.Need-returns-3
 returns-3 c =
     let r = c .before .before .before .before .before .before .before in
@@ -71,9 +44,6 @@ returns-3 c =
     let found = c .before .before .before .before .before .find-heights .ensures in
     endless-refused _ _ loaded _ found _ _ (n .types .ensures .0) (operands-pass o) (repeats-pass r)
     (endless-by _ _ loaded _ found (c .before .before .before .first-endless .ensures) (verdict-is _ refl _ (c .before .endless .given .1) refl))
-
-enum-told-3 : tie.Need-enum-told-3
-enum-told-3 c = search needs
 
 find-fill-requires : tie.Need-find-fill-requires
 find-fill-requires c κs =
@@ -93,20 +63,20 @@ pub judge-loaded-spec : {M : Type 1} → statement M
 judge-loaded-spec =
     tie.close
     (tie.spec
-    load-requires
-    types-requires
-    operands-requires
-    enum-known-operands
+    (λ c κs. search needs)
+    (λ c κs. tt)
+    (λ c κs. search needs)
+    (λ c. search needs)
     returns
-    enum-told
-    repeats-requires
-    enum-known-repeats
+    (λ c. search needs)
+    (λ c κs. search needs)
+    (λ c. search needs)
     returns-2
-    enum-told-2
+    (λ c. search needs)
     find-heights-requires
     first-endless-requires
-    enum-known-endless
+    (λ c. search needs)
     returns-3
-    enum-told-3
+    (λ c. search needs)
     find-fill-requires
     returns-4)

@@ -13,18 +13,6 @@ Inv-loop table₀ t₀ table t = (t ≤ 64) × CountsCleared t table
 abbrev μ-loop : tie.MeasureT-loop
 μ-loop table₀ t₀ table t = 64 - t
 
-loop-holds : tie.Need-loop-holds Inv-loop μ-loop
-loop-holds c = (omega arith, record { size = c .pre; none = λ t low. absurd (omega arith) })
-
-set-count-requires : tie.Need-set-count-requires Inv-loop μ-loop
-set-count-requires c κs = omega arith
-
-add-t : tie.Need-add-t Inv-loop μ-loop
-add-t c = omega arith
-
-loop-less : tie.Need-loop-less Inv-loop μ-loop
-loop-less c = omega arith
-
 loop-again : tie.Need-loop-again Inv-loop μ-loop
 loop-again c =
     let l = c .before .before .before in
@@ -37,4 +25,14 @@ returns c =
     rw all at (l .loop .inv .1)
 
 pub clear-counts-spec : {M : Type 1} → statement M
-clear-counts-spec = tie.close (tie.spec Inv-loop μ-loop loop-holds set-count-requires add-t loop-less loop-again returns)
+clear-counts-spec =
+    tie.close
+    (tie.spec
+    Inv-loop
+    μ-loop
+    (λ c. (omega arith, record { size = c .pre; none = λ t low. absurd (omega arith) }))
+    (λ c κs. omega arith)
+    (λ c. omega arith)
+    (λ c. omega arith)
+    loop-again
+    returns)

@@ -7,26 +7,6 @@ use borrow.Author.Needs.{needs}
 use Rattle.table_load.proofs.join.Statement.{statement}
 use Rattle.table_load.proofs.join.Tie as tie
 
--- src/lib.rt:53:9
-count-requires : tie.Need-count-requires
-count-requires c κs = search needs
-
--- src/lib.rt:54:5
-set-member-requires : tie.Need-set-member-requires
-set-member-requires c κs = search needs
-
--- src/lib.rt:55:25
-cast-set-count : tie.Need-cast-set-count
-cast-set-count c = search needs
-
--- src/lib.rt:55:25
-add-set-count : tie.Need-add-set-count
-add-set-count c = search needs
-
--- src/lib.rt:55:5
-set-count-requires : tie.Need-set-count-requires
-set-count-requires c κs = search needs
-
 -- src/lib.rt:49:1
 returns : tie.Need-returns
 returns c =
@@ -40,9 +20,9 @@ pub join-spec : {M : Type 1} → statement M
 join-spec =
     tie.close
     (tie.spec
-    count-requires
-    set-member-requires
-    cast-set-count
-    add-set-count
-    set-count-requires
+    (λ c κs. search needs)
+    (λ c κs. search needs)
+    (λ c. search needs)
+    (λ c. search needs)
+    (λ c κs. search needs)
     returns)

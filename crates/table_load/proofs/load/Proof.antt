@@ -16,9 +16,6 @@ Inv-loop t table₀ types₀ at₀ table types at = (length table ≡ 1281) × T
 abbrev μ-loop : tie.MeasureT-loop
 μ-loop t table₀ types₀ at₀ table types at = length t - at
 
-clear-counts-requires : tie.Need-clear-counts-requires Inv-loop μ-loop
-clear-counts-requires c κs = c .before .before .pre .0
-
 loop-holds : tie.Need-loop-holds Inv-loop μ-loop
 loop-holds c =
     let s = c .before .before .before in
@@ -29,15 +26,6 @@ loop-holds c =
 here : (c : tie.After-command-at Inv-loop μ-loop)
     → TableTurn (now (c .before .before .before .before .before .before .args .t)) (loadedIn (c .before .before .loop .types) (c .before .before .loop .table)) (c .before .before .loop .at) (command (c .command-at .result))
 here c = turn _ _ _ (c .before .loop-test .taken) (c .command-at .ensures) (c .before .before .loop .inv .1)
-
-command-at-requires : tie.Need-command-at-requires Inv-loop μ-loop
-command-at-requires c κs = c .loop-test .taken
-
-put-requires : tie.Need-put-requires Inv-loop μ-loop
-put-requires c κs = here (c .before) .room
-
-width-requires : tie.Need-width-requires Inv-loop μ-loop
-width-requires c κs = tt
 
 -- the invariant behind the command
 again : (c : tie.After-width Inv-loop μ-loop)
@@ -55,12 +43,6 @@ loop-less c =
 loop-again : tie.Need-loop-again Inv-loop μ-loop
 loop-again c = (c .before .put .ensures .same-size ∙ c .before .before .before .before .before .loop .inv .0, again c)
 
-cast-set-types : tie.Need-cast-set-types Inv-loop μ-loop
-cast-set-types c = record { fits = omega (arith, loading-few (c .before .before .loop .inv .1)) }
-
-set-types-requires : tie.Need-set-types-requires Inv-loop μ-loop
-set-types-requires c κs = tt
-
 returns : tie.Need-returns Inv-loop μ-loop
 returns c =
     let l = c .before .before .before in
@@ -72,14 +54,14 @@ load-spec =
     (tie.spec
     Inv-loop
     μ-loop
-    clear-counts-requires
+    (λ c κs. c .before .before .pre .0)
     loop-holds
-    command-at-requires
-    put-requires
-    width-requires
+    (λ c κs. c .loop-test .taken)
+    (λ c κs. here (c .before) .room)
+    (λ c κs. tt)
     add-at
     loop-less
     loop-again
-    cast-set-types
-    set-types-requires
+    (λ c. record { fits = omega (arith, loading-few (c .before .before .loop .inv .1)) })
+    (λ c κs. tt)
     returns)

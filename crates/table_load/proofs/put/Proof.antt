@@ -11,63 +11,33 @@ use Rattle.table_load.proofs.put.Tie as tie
 abbrev loaded : tie.Start → TableArrays
 loaded c = loadedIn (c .args .types) (c .args .table .now)
 
-enum-told : tie.Need-enum-told
-enum-told c = search needs
-
 begin-requires : tie.Need-begin-requires
 begin-requires c κs = (told-room (loaded (c .before .before .before)) (c .before .enum-told .given .1) (c .before .before .before .pre) .room, search needs)
-
-enum-told-2 : tie.Need-enum-told-2
-enum-told-2 c = search needs
 
 begin-requires-2 : tie.Need-begin-requires-2
 begin-requires-2 c κs = (told-room (loaded (c .before .before .before)) (c .before .enum-told2 .given .1) (c .before .before .before .pre) .room, search needs)
 
-enum-told-3 : tie.Need-enum-told-3
-enum-told-3 c = search needs
-
 begin-requires-3 : tie.Need-begin-requires-3
 begin-requires-3 c κs = (told-room (loaded (c .before .before .before)) (c .before .enum-told3 .given .1) (c .before .before .before .pre) .room, search needs)
-
-enum-told-4 : tie.Need-enum-told-4
-enum-told-4 c = search needs
 
 begin-requires-4 : tie.Need-begin-requires-4
 begin-requires-4 c κs = (told-room (loaded (c .before .before .before)) (c .before .enum-told4 .given .1) (c .before .before .before .pre) .room, search needs)
 
-enum-known-c : tie.Need-enum-known-c
-enum-known-c c = search needs
-
 -- room for a list
 begins-here : (c : tie.After-c) → TypeMayBegin (loaded (c .before .before))
 begins-here c = told-room (loaded (c .before .before)) (c .c .given .1) (c .before .before .pre)
-
-begin-requires-5 : tie.Need-begin-requires-5
-begin-requires-5 c κs = (begins-here (c .before .before) .room, search needs)
 
 join-requires : tie.Need-join-requires
 join-requires c κs =
     let s = c .before .before .before .before .before .before in
     list-room (s .args .table .now) (s .args .types) (begins-here (c .before .before .before .before)) (c .before .begin5 .ensures .1)
 
-enum-known-c-2 : tie.Need-enum-known-c-2
-enum-known-c-2 c = search needs
-
 -- room for a member
 joins-here : (c : tie.After-c2) → MemberMayJoin (loaded (c .before .before))
 joins-here c = told-room (loaded (c .before .before)) (c .c2 .given .1) (c .before .before .pre)
 
-sub-join : tie.Need-sub-join
-sub-join c = joins-here (c .before .before) .some
-
 join-requires-2 : tie.Need-join-requires-2
 join-requires-2 c κs = join-room (loaded (c .before .before .before .before)) (joins-here (c .before .before))
-
-enum-told-5 : tie.Need-enum-told-5
-enum-told-5 c = search needs
-
-enum-told-6 : tie.Need-enum-told-6
-enum-told-6 c = search needs
 
 returns : tie.Need-returns
 unfolding puts
@@ -109,39 +79,32 @@ returns-6 c =
     let known = c .before .before .before in
     told-put (known .c2 .given .1) (member-put (s .args .table .now) (s .args .types) _ (joins-here known) (c .join2 .ensures))
 
-returns-7 : tie.Need-returns-7
-unfolding puts
-returns-7 c = told-put (c .enum-told5 .given .1) (record { same-size = refl; does = refl })
-
-returns-8 : tie.Need-returns-8
-unfolding puts
-returns-8 c = told-put (c .enum-told6 .given .1) (record { same-size = refl; does = refl })
-
 pub put-spec : {M : Type 1} → statement M
+unfolding puts
 put-spec =
     tie.close
     (tie.spec
-    enum-told
+    (λ c. search needs)
     begin-requires
-    enum-told-2
+    (λ c. search needs)
     begin-requires-2
-    enum-told-3
+    (λ c. search needs)
     begin-requires-3
-    enum-told-4
+    (λ c. search needs)
     begin-requires-4
-    enum-known-c
-    begin-requires-5
+    (λ c. search needs)
+    (λ c κs. (begins-here (c .before .before) .room, search needs))
     join-requires
-    enum-known-c-2
-    sub-join
+    (λ c. search needs)
+    (λ c. joins-here (c .before .before) .some)
     join-requires-2
-    enum-told-5
-    enum-told-6
+    (λ c. search needs)
+    (λ c. search needs)
     returns
     returns-2
     returns-3
     returns-4
     returns-5
     returns-6
-    returns-7
-    returns-8)
+    (λ c. told-put (c .enum-told5 .given .1) (record { same-size = refl; does = refl }))
+    (λ c. told-put (c .enum-told6 .given .1) (record { same-size = refl; does = refl })))

@@ -18,9 +18,6 @@ Inv-loop source types sum₀ t₀ sum t =
 abbrev μ-loop : tie.MeasureT-loop
 μ-loop source types sum₀ t₀ sum t = types - t
 
-types-requires : tie.Need-types-requires Inv-loop μ-loop
-types-requires c κs = tt
-
 loop-holds : tie.Need-loop-holds Inv-loop μ-loop
 loop-holds c = (c .types .ensures .0 ∙ sym (length-of (c .before .args .source .now)), omega arith, omega arith, zero-add _)
 
@@ -32,9 +29,6 @@ add-sum c = omega (arith, c .before .before .before .before .pre .few-types, c .
 
 add-t : tie.Need-add-t Inv-loop μ-loop
 add-t c = omega (arith, c .before .before .before .before .pre .few-types, c .before .before .before .types .ensures .0)
-
-loop-less : tie.Need-loop-less Inv-loop μ-loop
-loop-less c = omega arith
 
 loop-again : tie.Need-loop-again Inv-loop μ-loop
 loop-again c =
@@ -55,11 +49,11 @@ edge-count-spec =
     (tie.spec
     Inv-loop
     μ-loop
-    types-requires
+    (λ c κs. tt)
     loop-holds
     edges-of-requires
     add-sum
     add-t
-    loop-less
+    (λ c. omega arith)
     loop-again
     returns)

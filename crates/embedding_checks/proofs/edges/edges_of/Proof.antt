@@ -4,9 +4,6 @@ use Rattle.embedding_checks.proofs.Types.{text-edge, empty-edge, sequen
 use Rattle.embedding_checks.proofs.edges.edges_of.Statement.{statement}
 use Rattle.embedding_checks.proofs.edges.edges_of.Tie as tie
 
-kind-requires : tie.Need-kind-requires
-kind-requires c κs = omega (arith, c .pre .1, c .pre .0 .few-types)
-
 count-requires : tie.Need-count-requires
 count-requires c κs = let start = c .before .before in omega (arith, start .pre .1, start .pre .0 .few-types)
 
@@ -38,7 +35,7 @@ pub edges-of-spec : {M : Type 1} → statement M
 edges-of-spec =
     tie.close
     (tie.spec
-    kind-requires
+    (λ c κs. omega (arith, c .pre .1, c .pre .0 .few-types))
     count-requires
     count-requires-2
     returns

@@ -20,50 +20,22 @@ Inv-loop table e at₀ state₀ at state =
 abbrev μ-loop : tie.MeasureT-loop
 μ-loop table e at₀ state₀ at state = length e - at
 
-loop-holds : tie.Need-loop-holds Inv-loop μ-loop
-unfolding embeddingForm
-loop-holds c = record { within = omega arith; same = refl }
-
-command-at-requires : tie.Need-command-at-requires Inv-loop μ-loop
-command-at-requires c κs = search needs
-
-form-step-requires : tie.Need-form-step-requires Inv-loop μ-loop
-form-step-requires c κs = c .before .before .before .before .pre
-
-enum-known-next : tie.Need-enum-known-next Inv-loop μ-loop
-enum-known-next c = search needs
-
-width-requires : tie.Need-width-requires Inv-loop μ-loop
-width-requires c κs = search needs
-
 loop-again : tie.Need-loop-again Inv-loop μ-loop
 loop-again c =
     let turned = c .before .before .before .before .before .before in
     turn embeddingStep embeddingComplete form-stops (turned .before .loop .inv) (turned .loop-test .taken) (c .before .before .before .before .before .command-at .ensures) _ (c .width .ensures)
     (sym (c .before .before .before .before .form-step .ensures) ∙ ap (formNext _) (c .before .before .next .given .1))
 
-add-at : tie.Need-add-at Inv-loop μ-loop
-add-at c = let within = loop-again c .within in omega arith
-
 loop-less : tie.Need-loop-less Inv-loop μ-loop
 loop-less c =
     let turned = c .before .before .before .before .before .before in
     less embeddingStep embeddingComplete form-stops (turned .before .loop .inv) (turned .loop-test .taken) (c .before .before .before .before .before .command-at .ensures) (c .width .ensures)
-
-enum-told : tie.Need-enum-told Inv-loop μ-loop
-enum-told c = search needs
 
 returns : tie.Need-returns Inv-loop μ-loop
 returns c =
     let turned = c .before .before .before .before in
     refusal embeddingStep embeddingComplete form-stops (turned .before .loop .inv) (turned .loop-test .taken) (c .before .before .before .command-at .ensures)
     (sym (c .before .before .form-step .ensures) ∙ ap (formNext _) (c .enum-told .given .1))
-
-enum-told-2 : tie.Need-enum-told-2 Inv-loop μ-loop
-enum-told-2 c = search needs
-
-enum-told-3 : tie.Need-enum-told-3 Inv-loop μ-loop
-enum-told-3 c = search needs
 
 returns-2 : tie.Need-returns-2 Inv-loop μ-loop
 unfolding pick embeddingComplete
@@ -78,22 +50,23 @@ returns-3 c =
     rw (c .enum-told3 .given .1) at ends
 
 pub form-spec : {M : Type 1} → statement M
+unfolding embeddingForm
 form-spec =
     tie.close
     (tie.spec
     Inv-loop
     μ-loop
-    loop-holds
-    command-at-requires
-    form-step-requires
-    enum-known-next
-    width-requires
-    add-at
+    (λ c. record { within = omega arith; same = refl })
+    (λ c κs. search needs)
+    (λ c κs. c .before .before .before .before .pre)
+    (λ c. search needs)
+    (λ c κs. search needs)
+    (λ c. let within = loop-again c .within in omega arith)
     loop-less
     loop-again
-    enum-told
+    (λ c. search needs)
     returns
-    enum-told-2
-    enum-told-3
+    (λ c. search needs)
+    (λ c. search needs)
     returns-2
     returns-3)

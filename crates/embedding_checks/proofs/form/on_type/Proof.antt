@@ -6,17 +6,8 @@ use borrow.Author.Needs.{needs}
 use Rattle.embedding_checks.proofs.form.on_type.Statement.{statement}
 use Rattle.embedding_checks.proofs.form.on_type.Tie as tie
 
-returns : tie.Need-returns
-returns c = λ on t. type-early _ on _ t (c .if1 .taken)
-
-types-requires : tie.Need-types-requires
-types-requires c κs = search needs
-
 edges-of-requires : tie.Need-edges-of-requires
 edges-of-requires c κs = let start = c .before .before .before in (start .pre, omega (arith, c .if2 .taken, c .before .types .ensures .0))
-
-add-t7 : tie.Need-add-t7
-add-t7 c = search needs
 
 returns-2 : tie.Need-returns-2
 returns-2 c = λ on t.
@@ -30,4 +21,11 @@ returns-3 c = λ on t.
 
 pub on-type-spec : {M : Type 1} → statement M
 on-type-spec =
-    tie.close (tie.spec returns types-requires edges-of-requires add-t7 returns-2 returns-3)
+    tie.close
+    (tie.spec
+    (λ c on t. type-early _ on _ t (c .if1 .taken))
+    (λ c κs. search needs)
+    edges-of-requires
+    (λ c. search needs)
+    returns-2
+    returns-3)

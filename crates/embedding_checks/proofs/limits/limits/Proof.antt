@@ -19,38 +19,16 @@ Inv-loop e at₀ steps₀ at steps = Runs stepCount (λ n. true) (embeddingLimit
 abbrev μ-loop : tie.MeasureT-loop
 μ-loop e at₀ steps₀ at steps = length e - at
 
-loop-holds : tie.Need-loop-holds Inv-loop μ-loop
-unfolding embeddingLimits
-loop-holds c = record { within = omega arith; same = refl }
-
-command-at-requires : tie.Need-command-at-requires Inv-loop μ-loop
-command-at-requires c κs = search needs
-
-step-count-requires : tie.Need-step-count-requires Inv-loop μ-loop
-step-count-requires c κs = search needs
-
-enum-known-next : tie.Need-enum-known-next Inv-loop μ-loop
-enum-known-next c = search needs
-
-width-requires : tie.Need-width-requires Inv-loop μ-loop
-width-requires c κs = search needs
-
 loop-again : tie.Need-loop-again Inv-loop μ-loop
 loop-again c =
     let turned = c .before .before .before .before .before .before in
     turn stepCount (λ n. true) count-stops (turned .before .loop .inv) (turned .loop-test .taken) (c .before .before .before .before .before .command-at .ensures) _ (c .width .ensures)
     (sym (c .before .before .before .before .step-count .ensures) ∙ ap countNext (c .before .before .next .given .1))
 
-add-at : tie.Need-add-at Inv-loop μ-loop
-add-at c = let within = loop-again c .within in omega arith
-
 loop-less : tie.Need-loop-less Inv-loop μ-loop
 loop-less c =
     let turned = c .before .before .before .before .before .before in
     less stepCount (λ n. true) count-stops (turned .before .loop .inv) (turned .loop-test .taken) (c .before .before .before .before .before .command-at .ensures) (c .width .ensures)
-
-enum-told : tie.Need-enum-told Inv-loop μ-loop
-enum-told c = search needs
 
 returns : tie.Need-returns Inv-loop μ-loop
 returns c =
@@ -63,19 +41,20 @@ unfolding pick
 returns-2 c = finish stepCount (λ n. true) count-stops (c .before .loop .inv) (c .loop-test .left)
 
 pub limits-spec : {M : Type 1} → statement M
+unfolding embeddingLimits
 limits-spec =
     tie.close
     (tie.spec
     Inv-loop
     μ-loop
-    loop-holds
-    command-at-requires
-    step-count-requires
-    enum-known-next
-    width-requires
-    add-at
+    (λ c. record { within = omega arith; same = refl })
+    (λ c κs. search needs)
+    (λ c κs. search needs)
+    (λ c. search needs)
+    (λ c κs. search needs)
+    (λ c. let within = loop-again c .within in omega arith)
     loop-less
     loop-again
-    enum-told
+    (λ c. search needs)
     returns
     returns-2)

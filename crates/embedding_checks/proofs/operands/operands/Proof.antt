@@ -29,19 +29,10 @@ unfolding embeddingOperands
 loop-holds c =
     (record { within = omega arith; same = refl }, record { start-in = c .before .pre .1 .has-root; now-in = c .before .pre .1 .has-root })
 
-command-at-requires : tie.Need-command-at-requires Inv-loop μ-loop
-command-at-requires c κs = search needs
-
 path-step-requires : tie.Need-path-step-requires Inv-loop μ-loop
 path-step-requires c κs =
     let a = c .before .before .before .before .args in
     (c .before .before .before .before .pre .0, rw (length-of (a .target .now)) at (c .before .before .loop .inv .1 .now-in))
-
-enum-known-s : tie.Need-enum-known-s Inv-loop μ-loop
-enum-known-s c = search needs
-
-width-requires : tie.Need-width-requires Inv-loop μ-loop
-width-requires c κs = search needs
 
 loop-again : tie.Need-loop-again Inv-loop μ-loop
 loop-again c =
@@ -53,18 +44,12 @@ loop-again c =
       stays table (c .before .before .before .before .before .before .before .before .before .pre .1) _ _ (turned .before .loop .inv .1) _ onward,
     )
 
-add-at : tie.Need-add-at Inv-loop μ-loop
-add-at c = let within = loop-again c .0 .within in omega arith
-
 loop-less : tie.Need-loop-less Inv-loop μ-loop
 loop-less c =
     let a = c .before .before .before .before .before .before .before .before .before .args in
     let table = tableBy (a .target .now) in
     let turned = c .before .before .before .before .before .before in
     less (pathStep table) (λ r. true) (reach-stops table) (turned .before .loop .inv .0) (turned .loop-test .taken) (c .before .before .before .before .before .command-at .ensures) (c .width .ensures)
-
-enum-told : tie.Need-enum-told Inv-loop μ-loop
-enum-told c = search needs
 
 returns : tie.Need-returns Inv-loop μ-loop
 returns c =
@@ -88,13 +73,13 @@ operands-spec =
     Inv-loop
     μ-loop
     loop-holds
-    command-at-requires
+    (λ c κs. search needs)
     path-step-requires
-    enum-known-s
-    width-requires
-    add-at
+    (λ c. search needs)
+    (λ c κs. search needs)
+    (λ c. let within = loop-again c .0 .within in omega arith)
     loop-less
     loop-again
-    enum-told
+    (λ c. search needs)
     returns
     returns-2)

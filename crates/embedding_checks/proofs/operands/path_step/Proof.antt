@@ -9,45 +9,6 @@ use borrow.Author.Needs.{needs}
 use Rattle.embedding_checks.proofs.operands.path_step.Statement.{statement}
 use Rattle.embedding_checks.proofs.operands.path_step.Tie as tie
 
-enum-known-c : tie.Need-enum-known-c
-enum-known-c c = search needs
-
-cast-if1 : tie.Need-cast-if1
-cast-if1 c = search needs
-
-types-requires : tie.Need-types-requires
-types-requires c κs = search needs
-
-cast-t13 : tie.Need-cast-t13
-cast-t13 c = search needs
-
-cast-t14 : tie.Need-cast-t14
-cast-t14 c = search needs
-
-enum-told : tie.Need-enum-told
-enum-told c = search needs
-
-enum-known-c-2 : tie.Need-enum-known-c-2
-enum-known-c-2 c = search needs
-
-cast-step-from : tie.Need-cast-step-from
-cast-step-from c = search needs
-
-step-from-requires : tie.Need-step-from-requires
-step-from-requires c κs = c .before .before .before .pre
-
-enum-known-m : tie.Need-enum-known-m
-enum-known-m c = search needs
-
-enum-told-2 : tie.Need-enum-told-2
-enum-told-2 c = search needs
-
-enum-told-3 : tie.Need-enum-told-3
-enum-told-3 c = search needs
-
-enum-told-4 : tie.Need-enum-told-4
-enum-told-4 c = search needs
-
 returns : tie.Need-returns
 returns c = rw (c .before .before .before .c .given .1) (maps-known (tableBy (c .before .before .before .before .before .args .target .now)) _ _ _ (omega (arith, c .if1 .taken, c .before .types .ensures .0, length-of (c .before .before .before .before .before .args .target .now))))
 
@@ -70,30 +31,27 @@ returns-5 c =
 returns-6 : tie.Need-returns-6
 returns-6 c = rw (c .enum-told3 .given .1) (end-stays (tableBy (c .before .before .args .target .now)) _ _)
 
-returns-7 : tie.Need-returns-7
-returns-7 c = rw (c .enum-told4 .given .1) (sym (reach-stops _ _))
-
 pub path-step-spec : {M : Type 1} → statement M
 path-step-spec =
     tie.close
     (tie.spec
-    enum-known-c
-    cast-if1
-    types-requires
-    cast-t13
-    cast-t14
-    enum-told
-    enum-known-c-2
-    cast-step-from
-    step-from-requires
-    enum-known-m
-    enum-told-2
-    enum-told-3
-    enum-told-4
+    (λ c. search needs)
+    (λ c. search needs)
+    (λ c κs. search needs)
+    (λ c. search needs)
+    (λ c. search needs)
+    (λ c. search needs)
+    (λ c. search needs)
+    (λ c. search needs)
+    (λ c κs. c .before .before .before .pre)
+    (λ c. search needs)
+    (λ c. search needs)
+    (λ c. search needs)
+    (λ c. search needs)
     returns
     returns-2
     returns-3
     returns-4
     returns-5
     returns-6
-    returns-7)
+    (λ c. rw (c .enum-told4 .given .1) (sym (reach-stops _ _))))

@@ -7,15 +7,6 @@ use borrow.Author.Needs.{needs}
 use Rattle.embedding_checks.proofs.step.member_at.Statement.{statement}
 use Rattle.embedding_checks.proofs.step.member_at.Tie as tie
 
-returns : tie.Need-returns
-returns c = member-none _ _ (c .if1 .taken)
-
-count-requires : tie.Need-count-requires
-count-requires c κs = search needs
-
-sub-member : tie.Need-sub-member
-sub-member c = search needs
-
 member-requires : tie.Need-member-requires
 member-requires c κs =
     let pre = c .before .before .before .pre in
@@ -28,9 +19,13 @@ returns-2 c =
     ap some (c .member .ensures .0)
     ∙ member-there _ _ _ _ (members-whole (start .args .table .now) (pre .0)) (pre .1) (pre .0 .few-members (start .args .t)) (c .before .before .before .if1 .left) (rw (c .before .before .count .ensures .0) at (c .before .if2 .taken))
 
-returns-3 : tie.Need-returns-3
-returns-3 c = member-past _ _ _ (rw (c .before .count .ensures .0) at (c .if2 .left))
-
 pub member-at-spec : {M : Type 1} → statement M
 member-at-spec =
-    tie.close (tie.spec returns count-requires sub-member member-requires returns-2 returns-3)
+    tie.close
+    (tie.spec
+    (λ c. member-none _ _ (c .if1 .taken))
+    (λ c κs. search needs)
+    (λ c. search needs)
+    member-requires
+    returns-2
+    (λ c. member-past _ _ _ (rw (c .before .count .ensures .0) at (c .if2 .left))))

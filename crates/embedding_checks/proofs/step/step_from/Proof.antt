@@ -5,9 +5,6 @@ use Rattle.embedding_checks.proofs.Types.{text-nowhere, empty-nowhere, 
 use Rattle.embedding_checks.proofs.step.step_from.Statement.{statement}
 use Rattle.embedding_checks.proofs.step.step_from.Tie as tie
 
-kind-requires : tie.Need-kind-requires
-kind-requires c κs = omega (arith, c .pre .1, c .pre .0 .few-types)
-
 member-at-requires : tie.Need-member-at-requires
 member-at-requires c κs = let pre = c .before .before .pre in (pre .0, omega (arith, pre .1, pre .0 .few-types))
 
@@ -43,7 +40,7 @@ pub step-from-spec : {M : Type 1} → statement M
 step-from-spec =
     tie.close
     (tie.spec
-    kind-requires
+    (λ c κs. omega (arith, c .pre .1, c .pre .0 .few-types))
     member-at-requires
     member-at-requires-2
     member-requires

@@ -17,12 +17,6 @@ Inv-loop target kind from la lb a b n t₀ i₀ t i =
 abbrev μ-loop : tie.MeasureT-loop
 μ-loop target kind from la lb a b n t₀ i₀ t i = n - i
 
-lesser-requires : tie.Need-lesser-requires Inv-loop μ-loop
-lesser-requires c κs = tt
-
-loop-holds : tie.Need-loop-holds Inv-loop μ-loop
-loop-holds c = (omega arith, record { walks = c .before .pre .0 .walks; parts = refl })
-
 -- the steps at hand, and what is left behind them
 at-step : (c : tie.In-loop Inv-loop μ-loop)
     → Together (tableBy (c .before .before .before .args .target .now)) (c .before .before .before .args .from) (take (c .before .before .before .args .la) (c .before .before .before .args .t4)) (take (c .before .before .before .args .lb) (c .before .before .before .args .t6)) (c .before .loop .t)
@@ -40,18 +34,6 @@ here : (c : tie.In-loop Inv-loop μ-loop)
     → StepAt (c .before .before .before .args .target .now) (c .before .loop .t) (getD (c .before .before .before .args .t4) (c .before .loop .i) 0)
 here c = step-at (record { bounded = c .before .before .before .pre .0 .bounded; exists = goes-on (at-step c .walks) .exists })
 
-array-read-p : tie.Need-array-read-p Inv-loop μ-loop
-array-read-p c = omega (arith, c .before .before .lesser .ensures)
-
-array-read-if1 : tie.Need-array-read-if1 Inv-loop μ-loop
-array-read-if1 c = omega (arith, c .before .before .lesser .ensures)
-
-kind-requires : tie.Need-kind-requires Inv-loop μ-loop
-kind-requires c κs = let s = here (c .before) in omega (arith, s .inside, s .few)
-
-parted-requires : tie.Need-parted-requires Inv-loop μ-loop
-parted-requires c κs = tt
-
 returns : tie.Need-returns Inv-loop μ-loop
 returns c =
     (rw (c .before .kind .ensures .0) at (c .parted .ensures)) ∙ differ _ (here (c .before .before .before)) (at-step (c .before .before .before)) (c .before .before .if1 .taken)
@@ -59,17 +41,8 @@ returns c =
 next-type-requires : tie.Need-next-type-requires Inv-loop μ-loop
 next-type-requires c κs = record { bounded = c .before .before .before .before .pre .0 .bounded; exists = goes-on (at-step (c .before) .walks) .exists }
 
-add-i : tie.Need-add-i Inv-loop μ-loop
-add-i c = omega arith
-
-loop-less : tie.Need-loop-less Inv-loop μ-loop
-loop-less c = omega arith
-
 loop-again : tie.Need-loop-again Inv-loop μ-loop
 loop-again c = (omega arith, rw (c .next-type .ensures) (together-on (at-step (c .before .before)) (c .before .if1 .left)))
-
-joined-requires : tie.Need-joined-requires Inv-loop μ-loop
-joined-requires c κs = tt
 
 returns-2 : tie.Need-returns-2 Inv-loop μ-loop
 returns-2 c = c .joined .ensures ∙ at-end _ (c .before .before .loop .inv .1) (one-ended _ _ _ _ _ _ (c .before .before .before .lesser .ensures) (c .before .loop-test .left))
@@ -80,16 +53,16 @@ clash-spec =
     (tie.spec
     Inv-loop
     μ-loop
-    lesser-requires
-    loop-holds
-    array-read-p
-    array-read-if1
-    kind-requires
-    parted-requires
+    (λ c κs. tt)
+    (λ c. (omega arith, record { walks = c .before .pre .0 .walks; parts = refl }))
+    (λ c. omega (arith, c .before .before .lesser .ensures))
+    (λ c. omega (arith, c .before .before .lesser .ensures))
+    (λ c κs. let s = here (c .before) in omega (arith, s .inside, s .few))
+    (λ c κs. tt)
     returns
     next-type-requires
-    add-i
-    loop-less
+    (λ c. omega arith)
+    (λ c. omega arith)
     loop-again
-    joined-requires
+    (λ c κs. tt)
     returns-2)

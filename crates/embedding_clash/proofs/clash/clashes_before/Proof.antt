@@ -33,18 +33,6 @@ edge-here c j h = edge-at (c .pre .ready) _ j (c .pre .type-exists) h
 few-before : (c : tie.Start Inv-loop μ-loop) → c .args .i < 16
 few-before c = omega (arith, c .pre .edge-exists, type-here c .at-most)
 
-kind-requires : tie.Need-kind-requires Inv-loop μ-loop
-kind-requires c κs = type-here (c .before) .few
-
-target-requires : tie.Need-target-requires Inv-loop μ-loop
-target-requires c κs = type-here (c .before .before) .few
-
-mul-b : tie.Need-mul-b Inv-loop μ-loop
-mul-b c = omega (arith, few-before (c .before .before .before))
-
-element-copy-out-b : tie.Need-element-copy-out-b Inv-loop μ-loop
-element-copy-out-b c = few-before (c .before .before .before)
-
 mul-steps : tie.Need-mul-steps Inv-loop μ-loop
 mul-steps c = let start = c .before .before .before .before in omega (arith, type-here start .few)
 
@@ -53,10 +41,6 @@ add-steps c = let start = c .before .before .before .before in omega (arith, edg
 
 steps-requires : tie.Need-steps-requires Inv-loop μ-loop
 steps-requires c κs = let start = c .before .before .before .before in edge-here start _ (start .pre .edge-exists) .inside
-
-loop-holds : tie.Need-loop-holds Inv-loop μ-loop
-unfolding clashesAt
-loop-holds c = (omega arith, refl)
 
 -- the entry of the function, seen from the loop, and the map of the source type
 abbrev startOf : tie.In-loop Inv-loop μ-loop → tie.Start Inv-loop μ-loop
@@ -71,24 +55,6 @@ last c = omega (arith, startOf c .pre .edge-exists, c .before .loop .inv .0)
 
 before-all : (c : tie.In-loop Inv-loop μ-loop) → c .before .loop .j ≤ length (mapHere (startOf c) .edges)
 before-all c = rw (type-here (startOf c) .edges-due) (omega (arith, startOf c .pre .edge-exists, c .before .loop .inv .0))
-
-sub-j : tie.Need-sub-j Inv-loop μ-loop
-sub-j c = omega arith
-
-mul-a : tie.Need-mul-a Inv-loop μ-loop
-mul-a c = omega (arith, last c, type-here (startOf c) .at-most)
-
-element-copy-out-a : tie.Need-element-copy-out-a Inv-loop μ-loop
-element-copy-out-a c = omega (arith, last c, type-here (startOf c) .at-most)
-
-mul-steps-2 : tie.Need-mul-steps-2 Inv-loop μ-loop
-mul-steps-2 c = omega (arith, type-here (startOf (c .before)) .few)
-
-add-steps-2 : tie.Need-add-steps-2 Inv-loop μ-loop
-add-steps-2 c = omega (arith, edge-here (startOf (c .before)) _ (last (c .before)) .inside)
-
-steps-requires-2 : tie.Need-steps-requires-2 Inv-loop μ-loop
-steps-requires-2 c κs = edge-here (startOf (c .before)) _ (last (c .before)) .inside
 
 clash-requires : tie.Need-clash-requires Inv-loop μ-loop
 clash-requires c κs =
@@ -117,9 +83,6 @@ returns c =
     let here = c .before .before .before .before in
     sym (below-clash _ _ _ _ _ (here .loop-test .taken) (before-all here) (pair (c .before)) (c .if1 .taken)) ∙ here .before .loop .inv .1
 
-loop-less : tie.Need-loop-less Inv-loop μ-loop
-loop-less c = omega arith
-
 loop-again : tie.Need-loop-again Inv-loop μ-loop
 loop-again c =
     let here = c .before .before .before .before in
@@ -131,27 +94,28 @@ returns-2 c =
     sym (below-none _ _ _ _) ∙ (rw none-left at (c .before .loop .inv .1))
 
 pub clashes-before-spec : {M : Type 1} → statement M
+unfolding clashesAt
 clashes-before-spec =
     tie.close
     (tie.spec
     Inv-loop
     μ-loop
-    kind-requires
-    target-requires
-    mul-b
-    element-copy-out-b
+    (λ c κs. type-here (c .before) .few)
+    (λ c κs. type-here (c .before .before) .few)
+    (λ c. omega (arith, few-before (c .before .before .before)))
+    (λ c. few-before (c .before .before .before))
     mul-steps
     add-steps
     steps-requires
-    loop-holds
-    sub-j
-    mul-a
-    element-copy-out-a
-    mul-steps-2
-    add-steps-2
-    steps-requires-2
+    (λ c. (omega arith, refl))
+    (λ c. omega arith)
+    (λ c. omega (arith, last c, type-here (startOf c) .at-most))
+    (λ c. omega (arith, last c, type-here (startOf c) .at-most))
+    (λ c. omega (arith, type-here (startOf (c .before)) .few))
+    (λ c. omega (arith, edge-here (startOf (c .before)) _ (last (c .before)) .inside))
+    (λ c κs. edge-here (startOf (c .before)) _ (last (c .before)) .inside)
     clash-requires
     returns
-    loop-less
+    (λ c. omega arith)
     loop-again
     returns-2)

@@ -16,12 +16,6 @@ Inv-loop target from count path t₀ i₀ t i =
 abbrev μ-loop : tie.MeasureT-loop
 μ-loop target from count path t₀ i₀ t i = count - i
 
-loop-holds : tie.Need-loop-holds Inv-loop μ-loop
-loop-holds c = (omega arith, record { walks = c .pre .walks; ends = refl })
-
-array-read-p : tie.Need-array-read-p Inv-loop μ-loop
-array-read-p c = omega arith
-
 -- the step at hand, and what is left behind it
 at-step : (c : tie.In-loop Inv-loop μ-loop)
     → OnTheWay (tableBy (c .before .before .args .target .now))
@@ -34,28 +28,16 @@ at-step c =
 next-type-requires : tie.Need-next-type-requires Inv-loop μ-loop
 next-type-requires c κs = record { bounded = c .before .before .pre .bounded; exists = goes-on (at-step c .walks) .exists }
 
-add-i : tie.Need-add-i Inv-loop μ-loop
-add-i c = omega arith
-
-loop-less : tie.Need-loop-less Inv-loop μ-loop
-loop-less c = omega arith
-
-loop-again : tie.Need-loop-again Inv-loop μ-loop
-loop-again c = (omega arith, rw (c .next-type .ensures) (way-on (at-step (c .before))))
-
-returns : tie.Need-returns Inv-loop μ-loop
-returns c = way-ends (c .before .loop .inv .1) (rest-none _ _ _ (c .loop-test .left))
-
 pub end-of-spec : {M : Type 1} → statement M
 end-of-spec =
     tie.close
     (tie.spec
     Inv-loop
     μ-loop
-    loop-holds
-    array-read-p
+    (λ c. (omega arith, record { walks = c .pre .walks; ends = refl }))
+    (λ c. omega arith)
     next-type-requires
-    add-i
-    loop-less
-    loop-again
-    returns)
+    (λ c. omega arith)
+    (λ c. omega arith)
+    (λ c. (omega arith, rw (c .next-type .ensures) (way-on (at-step (c .before)))))
+    (λ c. way-ends (c .before .loop .inv .1) (rest-none _ _ _ (c .loop-test .left))))

@@ -5,14 +5,13 @@ use Rattle.embedding_clash.proofs.Following.{step-at}
 use Rattle.embedding_clash.proofs.walk.next_type.Statement.{statement}
 use Rattle.embedding_clash.proofs.walk.next_type.Tie as tie
 
-sub-member : tie.Need-sub-member
-sub-member c = step-at (c .pre) .first
-
 member-requires : tie.Need-member-requires
 member-requires c κs = let s = step-at (c .pre) in (omega (arith, s .inside, s .few), omega (arith, s .first, s .last))
 
-returns : tie.Need-returns
-returns c = c .member .ensures .0 ∙ step-at (c .before .pre) .leads
-
 pub next-type-spec : {M : Type 1} → statement M
-next-type-spec = tie.close (tie.spec sub-member member-requires returns)
+next-type-spec =
+    tie.close
+    (tie.spec
+    (λ c. step-at (c .pre) .first)
+    member-requires
+    (λ c. c .member .ensures .0 ∙ step-at (c .before .pre) .leads))

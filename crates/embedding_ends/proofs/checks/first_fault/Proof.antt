@@ -21,9 +21,6 @@ Inv-loop check source target em map types s₀ s =
 abbrev μ-loop : tie.MeasureT-loop
 μ-loop check source target em map types s₀ s = types - s
 
-types-requires : tie.Need-types-requires Inv-loop μ-loop
-types-requires c κs = tt
-
 loop-holds : tie.Need-loop-holds Inv-loop μ-loop
 loop-holds c =
     let a = c .before .before .args in
@@ -34,30 +31,18 @@ loop-holds c =
 type-fault-requires : tie.Need-type-fault-requires Inv-loop μ-loop
 type-fault-requires c κs = (c .before .before .before .before .pre, rw (c .before .before .types .ensures .0) at (c .loop-test .taken))
 
-enum-told : tie.Need-enum-told Inv-loop μ-loop
-enum-told c = search needs
-
 add-s : tie.Need-add-s Inv-loop μ-loop
 add-s c = omega (arith, c .before .before .before .loop-test .taken, c .before .before .before .before .before .types .ensures .1)
-
-loop-less : tie.Need-loop-less Inv-loop μ-loop
-loop-less c = omega arith
 
 loop-again : tie.Need-loop-again Inv-loop μ-loop
 loop-again c =
     let here = c .before .before .before in
     (omega arith, each-passes _ _ _ (here .loop-test .taken) (sym (c .before .before .type-fault .ensures) ∙ ap verdict (c .enum-told .given .1)) ∙ here .before .loop .inv .1)
 
-enum-known-at : tie.Need-enum-known-at Inv-loop μ-loop
-enum-known-at c = search needs
-
 returns : tie.Need-returns Inv-loop μ-loop
 returns c =
     let here = c .before .before .before .before in
     sym (each-fails _ _ _ _ (here .loop-test .taken) (sym (c .before .before .before .type-fault .ensures) ∙ ap verdict (c .before .at .given .1))) ∙ here .before .loop .inv .1
-
-returns-2 : tie.Need-returns-2 Inv-loop μ-loop
-returns-2 c = sym (each-ends _ _ _ (c .loop-test .left)) ∙ c .before .loop .inv .1
 
 pub first-fault-spec : {M : Type 1} → statement M
 first-fault-spec =
@@ -65,13 +50,13 @@ first-fault-spec =
     (tie.spec
     Inv-loop
     μ-loop
-    types-requires
+    (λ c κs. tt)
     loop-holds
     type-fault-requires
-    enum-told
+    (λ c. search needs)
     add-s
-    loop-less
+    (λ c. omega arith)
     loop-again
-    enum-known-at
+    (λ c. search needs)
     returns
-    returns-2)
+    (λ c. sym (each-ends _ _ _ (c .loop-test .left)) ∙ c .before .loop .inv .1))

@@ -24,12 +24,6 @@ abbrev μ-loop : tie.MeasureT-loop
 type-here : (c : tie.Start Inv-loop μ-loop) → TypeAt (c .args .source .now) (c .args .target .now) (c .args .em .now) (c .args .map .now) (c .args .s)
 type-here c = type-at (c .pre .0) _ (c .pre .1)
 
-edges-of-requires : tie.Need-edges-of-requires Inv-loop μ-loop
-edges-of-requires c κs = let pre = c .before .pre in (pre .0 .source-bounded, pre .1)
-
-mul-paths-of : tie.Need-mul-paths-of Inv-loop μ-loop
-mul-paths-of c = omega (arith, type-here (c .before .before) .few)
-
 paths-of-requires : tie.Need-paths-of-requires Inv-loop μ-loop
 paths-of-requires c κs = let start = c .before .before in (start .pre .0 .paths-bounded, (c .edges-of .ensures .1, omega (arith, c .edges-of .ensures .1, type-here start .few)))
 
@@ -57,15 +51,6 @@ edge-right-requires c κs =
     let start = startOf (c .before) in
     record { ready = start .pre .0; type-exists = start .pre .1; edge-exists = inside (c .before); stored = rw (c .before .before .before .before .edges-of .ensures .0) at (c .before .before .before .paths-of .ensures) }
 
-mul-start : tie.Need-mul-start Inv-loop μ-loop
-mul-start c = omega (arith, type-here (startOf (c .before .before .before)) .few)
-
-add-start : tie.Need-add-start Inv-loop μ-loop
-add-start c = omega (arith, edge-here (c .before .before .before) .inside)
-
-start-requires : tie.Need-start-requires Inv-loop μ-loop
-start-requires c κs = edge-here (c .before .before .before) .inside
-
 returns : tie.Need-returns Inv-loop μ-loop
 returns c =
     let here = c .before .before .before .before in
@@ -75,16 +60,10 @@ returns c =
 add-i : tie.Need-add-i Inv-loop μ-loop
 add-i c = omega (arith, c .before .before .before .loop-test .taken, type-here (startOf (c .before .before .before)) .at-most)
 
-loop-less : tie.Need-loop-less Inv-loop μ-loop
-loop-less c = omega arith
-
 loop-again : tie.Need-loop-again Inv-loop μ-loop
 loop-again c =
     let here = c .before .before .before in
     (omega arith, each-passes _ _ _ (here .loop-test .taken) (right-passes _ (sym (c .before .edge-right .ensures) ∙ not-false _ (c .if1 .left))) ∙ here .before .loop .inv .1)
-
-returns-2 : tie.Need-returns-2 Inv-loop μ-loop
-returns-2 c = sym (each-ends _ _ _ (c .loop-test .left)) ∙ c .before .loop .inv .1
 
 pub type-fault-spec : {M : Type 1} → statement M
 type-fault-spec =
@@ -92,16 +71,16 @@ type-fault-spec =
     (tie.spec
     Inv-loop
     μ-loop
-    edges-of-requires
-    mul-paths-of
+    (λ c κs. let pre = c .before .pre in (pre .0 .source-bounded, pre .1))
+    (λ c. omega (arith, type-here (c .before .before) .few))
     paths-of-requires
     loop-holds
     edge-right-requires
-    mul-start
-    add-start
-    start-requires
+    (λ c. omega (arith, type-here (startOf (c .before .before .before)) .few))
+    (λ c. omega (arith, edge-here (c .before .before .before) .inside))
+    (λ c κs. edge-here (c .before .before .before) .inside)
     returns
     add-i
-    loop-less
+    (λ c. omega arith)
     loop-again
-    returns-2)
+    (λ c. sym (each-ends _ _ _ (c .loop-test .left)) ∙ c .before .loop .inv .1))

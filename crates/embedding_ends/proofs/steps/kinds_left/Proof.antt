@@ -17,9 +17,6 @@ Inv-loop target from count path left₀ t₀ i₀ left t i =
 abbrev μ-loop : tie.MeasureT-loop
 μ-loop target from count path left₀ t₀ i₀ left t i = count - i
 
-loop-holds : tie.Need-loop-holds Inv-loop μ-loop
-loop-holds c = (omega arith, record { walks = c .pre .walks; choices = refl; lists = refl })
-
 -- the step at hand, and what is left behind it
 at-step : (c : tie.In-loop Inv-loop μ-loop)
     → Leaving (tableBy (c .before .before .args .target .now)) (c .before .before .args .from) (take (c .before .before .args .count) (c .before .before .args .t3)) (c .before .loop .t)
@@ -32,23 +29,8 @@ at-step c =
 here : (c : tie.In-loop Inv-loop μ-loop) → StepAt (c .before .before .args .target .now) (c .before .loop .t) (getD (c .before .before .args .t3) (c .before .loop .i) 0)
 here c = step-at (record { bounded = c .before .before .pre .bounded; exists = goes-on (at-step c .walks) .exists })
 
-kind-requires : tie.Need-kind-requires Inv-loop μ-loop
-kind-requires c κs = let s = here c in omega (arith, s .inside, s .few)
-
-with-kind-requires : tie.Need-with-kind-requires Inv-loop μ-loop
-with-kind-requires c κs = tt
-
-array-read-next-type : tie.Need-array-read-next-type Inv-loop μ-loop
-array-read-next-type c = omega (arith, c .before .before .before .before .pre .short)
-
 next-type-requires : tie.Need-next-type-requires Inv-loop μ-loop
 next-type-requires c κs = record { bounded = c .before .before .before .before .pre .bounded; exists = goes-on (at-step (c .before .before) .walks) .exists }
-
-add-i : tie.Need-add-i Inv-loop μ-loop
-add-i c = omega arith
-
-loop-less : tie.Need-loop-less Inv-loop μ-loop
-loop-less c = omega arith
 
 loop-again : tie.Need-loop-again Inv-loop μ-loop
 loop-again c = (
@@ -56,21 +38,18 @@ loop-again c = (
   rw (c .next-type .ensures, c .before .with-kind .ensures, c .before .before .kind .ensures .0) (leaving-in (here (c .before .before .before)) (at-step (c .before .before .before))),
 )
 
-returns : tie.Need-returns Inv-loop μ-loop
-returns c = leaving-ends (c .before .loop .inv .1) (rest-none _ _ _ (c .loop-test .left))
-
 pub kinds-left-spec : {M : Type 1} → statement M
 kinds-left-spec =
     tie.close
     (tie.spec
     Inv-loop
     μ-loop
-    loop-holds
-    kind-requires
-    with-kind-requires
-    array-read-next-type
+    (λ c. (omega arith, record { walks = c .pre .walks; choices = refl; lists = refl }))
+    (λ c κs. let s = here c in omega (arith, s .inside, s .few))
+    (λ c κs. tt)
+    (λ c. omega (arith, c .before .before .before .before .pre .short))
     next-type-requires
-    add-i
-    loop-less
+    (λ c. omega arith)
+    (λ c. omega arith)
     loop-again
-    returns)
+    (λ c. leaving-ends (c .before .loop .inv .1) (rest-none _ _ _ (c .loop-test .left))))

@@ -9,21 +9,16 @@ use borrow.Author.Needs.{needs}
 use Rattle.embedding_ends.proofs.steps.with_kind.Statement.{statement}
 use Rattle.embedding_ends.proofs.steps.with_kind.Tie as tie
 
-returns : tie.Need-returns
-returns c = search needs
-
-returns-2 : tie.Need-returns-2
-returns-2 c = search needs
-
-returns-3 : tie.Need-returns-3
-returns-3 c = search needs
-
-returns-4 : tie.Need-returns-4
-returns-4 c = rw (c .match .keys4)
-
 returns-5 : tie.Need-returns-5
 returns-5 c = past-three (λ (k : ℕ). _≡_ {A = Left} (record { choice = c .before .args .left .choice; list = true }) (withKind (c .before .args .left) k)) (λ code. refl) _
     (c .match .rest .0 .0 .0 .1) (c .match .rest .0 .0 .1) (c .match .rest .0 .1) (c .match .rest .1)
 
 pub with-kind-spec : {M : Type 1} → statement M
-with-kind-spec = tie.close (tie.spec returns returns-2 returns-3 returns-4 returns-5)
+with-kind-spec =
+    tie.close
+    (tie.spec
+    (λ c. search needs)
+    (λ c. search needs)
+    (λ c. search needs)
+    (λ c. rw (c .match .keys4))
+    returns-5)

@@ -6,14 +6,6 @@ use Rattle.scanning.proofs.spans.close_of.Statement.{statement}
 use Rattle.scanning.proofs.spans.close_of.Tie as tie
 
 -- src/spans.rt:59:12
-mul-result : tie.Need-mul-result
-mul-result c = omega (arith, content-within (c .pre .1 .1), c .pre .0 .short)
-
--- src/spans.rt:59:12
-shared-slice-read-result : tie.Need-shared-slice-read-result
-shared-slice-read-result c = omega (arith, content-within (c .before .pre .1 .1), c .before .pre .0 .whole)
-
--- src/spans.rt:59:12
 cast-result : tie.Need-cast-result
 cast-result c = omega (arith, content-within (c .before .pre .1 .1), c .before .pre .0 .short, c .before .pre .0 .span-is _ _ (c .before .pre .1 .1))
 
@@ -21,10 +13,12 @@ cast-result c = omega (arith, content-within (c .before .pre .1 .1), c .before .
 add-result : tie.Need-add-result
 add-result c = omega (arith, content-within (c .before .pre .1 .1), c .before .pre .0 .short, c .before .pre .0 .span-is _ _ (c .before .pre .1 .1))
 
--- src/spans.rt:54:1
-returns : tie.Need-returns
-returns c = λ k a. ap (λ (n : ℕ). c .before .args .from + n) (c .before .pre .0 .span-is _ k a)
-
 pub close-of-spec : {M : Type 1} → statement M
 close-of-spec =
-    tie.close (tie.spec mul-result shared-slice-read-result cast-result add-result returns)
+    tie.close
+    (tie.spec
+    (λ c. omega (arith, content-within (c .pre .1 .1), c .pre .0 .short))
+    (λ c. omega (arith, content-within (c .before .pre .1 .1), c .before .pre .0 .whole))
+    cast-result
+    add-result
+    (λ c k a. ap (λ (n : ℕ). c .before .args .from + n) (c .before .pre .0 .span-is _ k a)))
