@@ -398,5 +398,5 @@ loading-ends {em} {S} maps edges map {at} last size h =
           ∙ sym (continued-full em (a .targets) (a .starts) (a .lengths) S (a .maps) (a .edges) [] (h .loaded .few-maps) (done .all-edges))
           ∙ sym (ap (continuedBy em S a) nothing-left)
           ∙ h .loaded .whole;
-      bounded = record { size = size; short = shaped .short; within = shaped .within };
+      bounded = record { size = size; short = shaped .short; within = shaped .within; document-short = h .source .fits };
     }

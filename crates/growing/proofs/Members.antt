@@ -145,6 +145,7 @@ module _ {target em : List ℕ} {e : Edges} {n t : ℕ} {old : List ℕ} {start 
             bounded = task .bounded;
             well-formed = task .well-formed;
             is-type = rw is (now .growing .is-type j (now .low) less);
+            short = task .short;
             paths = readable;
             fits = rw (is, same) (now .growing .each j (now .low) less);
           }

@@ -6,6 +6,7 @@ use lib.ListN.{length, getD, set, replicate}
 use lib.Seq.{sets}
 use Rattle.model.specs.Definitions.Filler.{fillers}
 use Rattle.model.specs.Definitions.Image.{Placement, placed, isPlaced, grow}
+use Rattle.model.specs.Definitions.Refusals.{maxLength}
 use Rattle.model.specs.Definitions.Templates.{Shape, bare, gap, framed, shaped, Symbol, rowOf}
 use Rattle.model.specs.Theorems.Facts.{WellFormed, Fits}
 use Rattle.loaded_table.specs.Loaded.{Bounded, tableBy, typesIn, kindsOf, countsOf}
@@ -71,11 +72,12 @@ pub record MemberRange (target : List ℕ) (t q : ℕ) (r : Span) : Type 0 where
 abbrev pub stepBound : ℕ
 stepBound = 13
 
--- below an element of target type t there is a place for what stands along the paths, none in another's way; no path has n steps
+-- below an element of target type t there is a place for what stands along the paths, none in another's way; no path has n steps, and their document is not too long
 pub record Task (target em : List ℕ) (e : Edges) (n t : ℕ) : Type 0 where
   pub bounded : Bounded target
   pub well-formed : WellFormed (tableBy target)
   pub is-type : t < typesIn target
+  pub short : length em ≤ maxLength
   pub paths : PathsReadable em e
   pub fits : Fits (tableBy target) n t (placementsOf em e)
 

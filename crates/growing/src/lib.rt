@@ -9,6 +9,7 @@ ghost use Rattle.loaded_embedding.specs.Loaded.{stepsFrom};
 ghost use Rattle.rows.specs.Rows.{symbolOf};
 ghost use Rattle.growing.specs.Growing.{firstOf, placementsOf, PathsReadable, push, noEdges, MemberRange, Puts, Task, elementRow};
 ghost use Rattle.model.specs.Definitions.TableChecks.{maxMembers, maxTypes};
+ghost use Rattle.model.specs.Definitions.Refusals.{maxLength};
 use codes::MAX_MEMBERS;
 use loaded_table::SEQUENCE;
 use loaded_table::TABLE;
@@ -20,7 +21,7 @@ use rows::OPENING;
 // embedding's document, to the hole with the number hole[j].
 pub struct Edges {
     pub count: usize,
-    pub next: [usize; MAX_MEMBERS],
+    pub next: [u16; MAX_MEMBERS],
     pub left: [u8; MAX_MEMBERS],
     pub hole: [u8; MAX_MEMBERS],
 }
@@ -29,7 +30,7 @@ pub struct Edges {
 pub fn no_edges() -> Edges
     ensures { λ r. ⌜ r ≡ noEdges ⌝ }
 {
-    let next = [0usize; MAX_MEMBERS];
+    let next = [0u16; MAX_MEMBERS];
     let left = [0u8; MAX_MEMBERS];
     let hole = [0u8; MAX_MEMBERS];
     Edges {
@@ -41,7 +42,7 @@ pub fn no_edges() -> Edges
 }
 
 // One path more, behind the others.
-pub fn pushed(e: Edges, next: usize, left: u8, hole: u8) -> Edges
+pub fn pushed(e: Edges, next: u16, left: u8, hole: u8) -> Edges
     requires { ⌜ e .count < maxMembers ⌝ }
     ensures { λ r. ⌜ r ≡ push e next left hole ⌝ }
 {
@@ -62,19 +63,20 @@ fn wide(x: u8) -> usize
 }
 
 // The first of `left` steps that begin at offset o; 0 where there is none.
-fn first_step(em: &[u8], o: usize, left: u8) -> usize
+fn first_step(em: &[u8], o: u16, left: u8) -> usize
     requires { ⌜ (0 < left → o < length (now em)) ⌝ }
     ensures { λ r. ⌜ (r ≡ firstOf (stepsFrom (now (em .entry)) o left)) × (r < 256) ⌝ }
 {
     if left == 0 {
         return 0;
     }
-    wide(em[o])
+    let place = o as usize;
+    wide(em[place])
 }
 
 // The paths whose first step is q, that step taken.
 fn beyond(em: &[u8], e: Edges, q: usize) -> Edges
-    requires { ⌜ 0 < q ⌝ }
+    requires { ⌜ (0 < q) × (length (now em) ≤ maxLength) ⌝ }
     requires paths { ⌜ PathsReadable (now em) e ⌝ }
     ensures { λ r. ⌜ PathsReadable (now (em .entry)) r × (placementsOf (now (em .entry)) r ≡ under q (placementsOf (now (em .entry)) e)) ⌝ }
 {

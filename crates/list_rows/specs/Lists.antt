@@ -189,6 +189,7 @@ module _ {source target map em : List ℕ} (ready : Ready source target map em) 
           bounded = ready .target-bounded;
           well-formed = ready .valid .target-sound .well-formed;
           is-type = item-there;
+          short = ready .paths-bounded .document-short;
           paths = one-readable em _ _ 128 (omega (arith, ready .paths-bounded .within (s * 16), depth-less)) (omega arith, omega arith);
           fits = subst (λ (τ : ℕ). Fits (X .target) stepBound τ (placementsOf em (restPath map s r))) (sym item-is) (subst (Fits (X .target) stepBound (dividedOf X s .item)) (sym rest-placed) fits);
         }

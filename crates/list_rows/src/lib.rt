@@ -4,7 +4,7 @@ ghost use Prim.Native.Nat.{_+_, _-_, _*_, _≤_, _<_};
 ghost use lib.ListN.{length, getD};
 ghost use Rattle.model.specs.Definitions.Templates.{template, itemTemplate, dividedOf};
 ghost use Rattle.loaded_table.specs.Loaded.{typesIn, kindsOf};
-ghost use Rattle.loaded_embedding.specs.Loaded.{lengthsOf};
+ghost use Rattle.loaded_embedding.specs.Loaded.{startsOf, lengthsOf};
 ghost use Rattle.loaded_setting.specs.Ready.{settingIn, Ready};
 ghost use Rattle.filler_rows.specs.Storing.{RowMade};
 ghost use Rattle.own_rows.specs.Progress.{Progress, Makeable, NextToMake};
@@ -48,16 +48,16 @@ fn list_cut(
 
 // The one path of some steps from an offset on, to a hole.
 fn one_path(next: usize, steps: usize, hole: u8) -> Edges
-    requires { ⌜ steps < 256 ⌝ }
+    requires { ⌜ (next < 65536) × (steps < 256) ⌝ }
     ensures { λ r. ⌜ r ≡ onePath next steps hole ⌝ }
 {
     let none = no_edges();
-    pushed(none, next, steps as u8, hole)
+    pushed(none, next as u16, steps as u8, hole)
 }
 
 // The path of the source list s up to the first list on it, to the hole of the items.
 fn before_path(map: &[u16; MAP], s: usize, cut: Cut) -> Edges
-    requires { ⌜ (s < maxTypes) × (cut .depth < 256) ⌝ }
+    requires { ⌜ (s < maxTypes) × (cut .depth < 256) × (getD (startsOf (now map)) (s * maxMembers) 0 + 2 < 65536) ⌝ }
     ensures { λ r. ⌜ r ≡ beforePath (now (map .entry)) s cut ⌝ }
 {
     let start = loaded_embedding::start(map, s * MAX_MEMBERS);
@@ -68,6 +68,7 @@ fn before_path(map: &[u16; MAP], s: usize, cut: Cut) -> Edges
 // The path from an item on, to the hole of its child.
 fn rest_path(map: &[u16; MAP], s: usize, cut: Cut) -> Edges
     requires { ⌜ (s < maxTypes) × (cut .depth < getD (lengthsOf (now map)) (s * maxMembers) 0) × (getD (lengthsOf (now map)) (s * maxMembers) 0 < 256) ⌝ }
+    requires small { ⌜ getD (startsOf (now map)) (s * maxMembers) 0 + 2 * getD (lengthsOf (now map)) (s * maxMembers) 0 + 2 < 65536 ⌝ }
     ensures { λ r. ⌜ r ≡ restPath (now (map .entry)) s cut ⌝ }
 {
     let start = loaded_embedding::start(map, s * MAX_MEMBERS);

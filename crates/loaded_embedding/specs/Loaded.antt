@@ -8,6 +8,7 @@ use Rattle.loaded_table.specs.Loaded.{section, getD-replicate}
 use Rattle.model.specs.Definitions.Table.{edgesOf}
 use Rattle.model.specs.Definitions.Table as table
 use Rattle.model.specs.Definitions.EmbeddingChecks.{maxSteps}
+use Rattle.model.specs.Definitions.Refusals.{maxLength}
 use Rattle.model.specs.Definitions.Embedding as model
 use Rattle.model.specs.Definitions.Embedding.{Edge, TypeMap}
 
@@ -64,11 +65,12 @@ lengthsOf map = section 1088 1024 map
 abbrev pub embeddingBy : List ℕ → table.Table → List ℕ → model.Embedding
 embeddingBy em S map = embeddingIn em S (targetsOf map) (startsOf map) (lengthsOf map)
 
--- the array has all its places; every path is within the document and has at most 12 steps
+-- the array has all its places; every path is within the document, which is not too long, and has at most 12 steps
 pub record PathsBounded (em map : List ℕ) : Type 0 where
   pub size : length map ≡ mapSize
   pub short : (i : ℕ) → getD (lengthsOf map) i 0 ≤ maxSteps
   pub within : (i : ℕ) → getD (startsOf map) i 0 + 1 + 2 * getD (lengthsOf map) i 0 ≤ length em
+  pub document-short : length em ≤ maxLength
 
 -- ---- laws
 

@@ -102,6 +102,7 @@ module _ {source target map em : List ℕ} (ready : Ready source target map em) 
         bounded = ready .target-bounded;
         well-formed = ready .valid .target-sound .well-formed;
         is-type = omega (arith, ready .valid .target-exists s in-source, target-is ready exists, length-of target);
+        short = ready .paths-bounded .document-short;
         paths = readable;
         fits = subst (λ (τ : ℕ). Fits (X .target) stepBound τ (placementsOf em e)) (target-is ready exists) (subst (Fits (X .target) stepBound (targetOf (X .embedding) s)) (sym placed-are) fits);
       }

@@ -1,7 +1,8 @@
 -- Edges of a source type as paths with holes, the row of what they stand in, and room for it.
 use mathlib.Core.Path.{_≡_}
 use mathlib.Core.List.{List, [], _∷_}
-use Prim.Native.Nat.{ℕ, zero, suc, _+_, _*_}
+use Prim.Native.Nat.{ℕ, zero, suc, _+_, _*_, _≤_, _<_}
+use native.Mathlib.Omega.{arith}
 use lib.ListN.{getD}
 use Rattle.model.specs.Definitions.Filler.{fillers}
 use Rattle.model.specs.Definitions.Image.{Placement, place}
@@ -10,6 +11,13 @@ use Rattle.loaded_table.specs.Loaded.{tableBy, kindsOf, countsOf}
 use Rattle.loaded_embedding.specs.Loaded.{startsOf, lengthsOf, PathsBounded}
 use Rattle.growing.specs.declared.Edges.{Edges}
 use Rattle.growing.specs.Growing.{placementOf, placementsOf, PathsReadable}
+
+-- an edge has few steps, and the place of the first is a small number
+abbrev pub EdgeSmall : List ℕ → ℕ → Type 0
+EdgeSmall map i = (getD (lengthsOf map) i 0 ≤ 12) × (getD (startsOf map) i 0 + 2 < 65536)
+
+pub edges-small : {em map : List ℕ} → PathsBounded em map → (i : ℕ) → EdgeSmall map i
+edges-small paths i = (paths .short i, omega (arith, paths .within i, paths .document-short))
 
 -- what stands along the paths of n edges from a place on, the holes having the numbers from h on
 unfoldable pub edgePlacements : List ℕ → List ℕ → ℕ → ℕ → ℕ → List (Placement Shape)

@@ -1,17 +1,16 @@
 // The rows of a source type that is no list: one, or for a choice one for each member.
 ghost use mathlib.Core.Path.{_≡_};
-ghost use Prim.Native.Nat.{ℕ, _+_, _*_, _≤_, _<_};
+ghost use Prim.Native.Nat.{ℕ, _+_, _≤_, _<_};
 ghost use lib.ListN.{length, getD};
 ghost use Rattle.model.specs.Definitions.Templates.{fillerRow};
 ghost use Rattle.loaded_table.specs.Loaded.{tableBy, kindsOf, countsOf};
 ghost use Rattle.loaded_embedding.specs.Loaded.{startsOf, lengthsOf, edgePlaces};
 ghost use Rattle.growing.specs.Growing.{push, Task, elementRow, stepBound};
 ghost use Rattle.filler_rows.specs.Storing.{Stored, RowMade};
-ghost use Rattle.own_rows.specs.Making.{EdgesFrom, OwnEdges, heldRow};
+ghost use Rattle.own_rows.specs.Making.{EdgeSmall, EdgesFrom, OwnEdges, heldRow};
 ghost use Rattle.own_rows.specs.Progress.{Progress, NextToMake};
 ghost use Rattle.rows.specs.Rows.{HasRow, IsWord};
 ghost use Rattle.model.specs.Definitions.TableChecks.{maxMembers, maxTypes};
-ghost use Rattle.model.specs.Definitions.EmbeddingChecks.{maxSteps};
 use codes::MAX_MEMBERS;
 use codes::MAX_STEPS;
 use codes::MAX_TYPES;
@@ -31,18 +30,18 @@ use rows::TYPE_ROWS;
 
 // One path more: that of the edge at a place of the embedding, to a hole.
 fn with_edge(map: &[u16; MAP], e: Edges, edge: usize, hole: u8) -> Edges
-    requires { ⌜ (e .count < maxMembers) × (edge < edgePlaces) × (getD (lengthsOf (now map)) edge 0 ≤ maxSteps) ⌝ }
+    requires { ⌜ (e .count < maxMembers) × (edge < edgePlaces) × EdgeSmall (now map) edge ⌝ }
     ensures { λ r. ⌜ r ≡ push e (getD (startsOf (now (map .entry))) edge 0 + 2) (getD (lengthsOf (now (map .entry))) edge 0) hole ⌝ }
 {
     let start = loaded_embedding::start(map, edge);
     let steps = loaded_embedding::steps(map, edge);
-    pushed(e, start + 2, steps as u8, hole)
+    pushed(e, (start + 2) as u16, steps as u8, hole)
 }
 
 // The paths of `count` edges from a place on, to the holes from a number on.
 fn edges(map: &[u16; MAP], first: usize, hole: u8, count: usize) -> Edges
     requires { ⌜ (count ≤ maxMembers) × (first + count ≤ edgePlaces) × (hole + count ≤ 146) × (128 ≤ hole) ⌝ }
-    requires short { ⌜ ((i : ℕ) → getD (lengthsOf (now map)) i 0 ≤ maxSteps) ⌝ }
+    requires small { ⌜ ((i : ℕ) → EdgeSmall (now map) i) ⌝ }
     ensures { λ r. ⌜ EdgesFrom (now (map .entry)) first hole count r ⌝ }
 {
     let mut e = no_edges();
@@ -86,7 +85,7 @@ pub fn own_row(
 // The paths of the edges of a source type that is a text, empty or a sequence.
 fn own_edges(source: &[u16; TABLE], map: &[u16; MAP], s: usize) -> Edges
     requires { ⌜ (s < maxTypes) × (getD (countsOf (now source)) s 0 ≤ maxMembers) ⌝ }
-    requires short { ⌜ ((i : ℕ) → getD (lengthsOf (now map)) i 0 ≤ maxSteps) ⌝ }
+    requires small { ⌜ ((i : ℕ) → EdgeSmall (now map) i) ⌝ }
     ensures { λ r. ⌜ OwnEdges (now (source .entry)) (now (map .entry)) s r ⌝ }
 {
     let first = s * MAX_MEMBERS;

@@ -113,7 +113,9 @@ element-member-requires : (t : ℕ) → element-lts.Need-member-requires (calls 
 element-member-requires t c κs = member-place (c .before .before .before .before .before .before .before .before .before .before .before .before .before .before .before .pre .1 .0) (c .before .loop .inv) (c .loop-test .taken)
 
 element-beyond-requires : (t : ℕ) → element-lts.Need-beyond-requires (calls t) (element-at t) element.Post element-Inv-loop element-μ-loop
-element-beyond-requires t c κs = (omega (arith, c .before .before .loop .inv .low, c .before .before .loop .inv .growing .low), c .before .before .before .before .before .before .before .before .before .before .before .before .before .before .before .before .pre .1 .0 .paths)
+element-beyond-requires t c κs =
+    let task = c .before .before .before .before .before .before .before .before .before .before .before .before .before .before .before .before .pre .1 .0 in
+    ((omega (arith, c .before .before .loop .inv .low, c .before .before .loop .inv .growing .low), task .short), task .paths)
 
 element-sub-element : (t : ℕ) → element-lts.Need-sub-element (calls t) (element-at t) element.Post element-Inv-loop element-μ-loop
 element-sub-element t c = omega (arith, c .before .before .before .loop .inv .growing .positive)

@@ -30,14 +30,14 @@ add-pushed c =
     let start = c .before .before .before .before .before .before .before .before .before in
     let loop = c .before .before .before .loop in
     let less = c .before .before .loop-test .taken in
-    omega (arith, follows-place (start .pre .1) (loop .inv) less (start .pre .0) (sym (c .before .first-step .ensures .0) ∙ c .if1 .taken), start .good .0 .0)
+    omega (arith, follows-place (start .pre .1) (loop .inv) less (start .pre .0 .0) (sym (c .before .first-step .ensures .0) ∙ c .if1 .taken), start .pre .0 .1)
 
 sub-pushed : tie.Need-sub-pushed Inv-loop μ-loop
 sub-pushed c =
     let start = c .before .before .before .before .before .before .before .before .before in
     let loop = c .before .before .before .loop in
     let less = c .before .before .loop-test .taken in
-    follows-left (start .pre .1) (loop .inv) less (start .pre .0) (sym (c .before .first-step .ensures .0) ∙ c .if1 .taken)
+    follows-left (start .pre .1) (loop .inv) less (start .pre .0 .0) (sym (c .before .first-step .ensures .0) ∙ c .if1 .taken)
 
 pushed-requires : tie.Need-pushed-requires Inv-loop μ-loop
 pushed-requires c κs =
@@ -61,7 +61,7 @@ loop-again c =
     let first = c .before .first-step .ensures .0 in
     let next : Edges → Type 0 = λ sub. Follows (start .args .em .now) (start .args .q) (start .args .e) sub (loop .i + 1) in
     ⊎-elim
-    (λ w. subst next (sym (w .2 ∙ w .1 .ensures)) (follows-on (start .pre .1) (loop .inv) less (start .pre .0) (sym first ∙ w .0 .taken)))
+    (λ w. subst next (sym (w .2 ∙ w .1 .ensures)) (follows-on (start .pre .1) (loop .inv) less (start .pre .0 .0) (sym first ∙ w .0 .taken)))
     (λ w. subst next (sym (w .1)) (follows-past (start .pre .1) (loop .inv) less (λ e. w .0 .left (first ∙ e))))
     (c .if1 .came)
 

@@ -3,6 +3,7 @@ use Prim.Native.Nat.{_*_}
 use native.Mathlib.Omega.{arith}
 use Rattle.growing.specs.Laws.{puts-length}
 use Rattle.filler_rows.specs.Laws.{placed-length}
+use Rattle.own_rows.specs.Making.{edges-small}
 use Rattle.own_rows.specs.Progress.{few-of-type}
 use Rattle.list_rows.specs.Lists.{depth-less}
 use Rattle.list_rows.proofs.Listing.{own-needs, own-made}
@@ -14,7 +15,8 @@ before-path-requires : tie.Need-before-path-requires
 before-path-requires c κs =
     let start = c .before .before .before .before in
     let can = start .pre .0 .makeable in
-    (few-of-type can .0, omega (arith, depth-less (can .ready) (can .exists) (start .pre .1) (c .list-cut .ensures), can .ready .paths-bounded .short (start .args .s * 16)))
+    let small = edges-small (can .ready .paths-bounded) (start .args .s * 16) in
+    (few-of-type can .0, omega (arith, depth-less (can .ready) (can .exists) (start .pre .1) (c .list-cut .ensures), small .0), small .1)
 
 own-row-requires : tie.Need-own-row-requires
 own-row-requires c κs =

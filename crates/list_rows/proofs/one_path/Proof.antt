@@ -15,4 +15,4 @@ returns c =
     c .pushed .ensures ∙ ap (λ (e : Edges). push e (start .next) (start .steps) (start .hole)) (c .before .no-edges .ensures)
 
 pub one-path-spec : {M : Type 1} → statement M
-one-path-spec = tie.close (tie.spec (λ c κs. search needs) (λ c. search needs) (λ c κs. rw (c .no-edges .ensures) (unfold noEdges in omega arith)) returns)
+one-path-spec = tie.close (tie.spec (λ c κs. search needs) (λ c. search needs) (λ c. search needs) (λ c κs. rw (c .no-edges .ensures) (unfold noEdges in omega arith)) returns)

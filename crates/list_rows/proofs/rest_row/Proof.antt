@@ -13,7 +13,9 @@ use Rattle.list_rows.proofs.rest_row.Tie as tie
 rest-path-requires : tie.Need-rest-path-requires
 rest-path-requires c κs =
     let pre = c .before .before .before .before .pre in
-    (small (pre .0 .ready) (pre .0 .exists), depth-less (pre .0 .ready) (pre .0 .exists) (pre .1 .0) (c .list-cut .ensures), omega (arith, pre .0 .ready .paths-bounded .short (c .before .before .before .before .args .s * 16)))
+    let paths = pre .0 .ready .paths-bounded in
+    let edge = c .before .before .before .before .args .s * 16 in
+    ((small (pre .0 .ready) (pre .0 .exists), depth-less (pre .0 .ready) (pre .0 .exists) (pre .1 .0) (c .list-cut .ensures), omega (arith, paths .short edge)), omega (arith, paths .within edge, paths .document-short))
 
 element-requires : tie.Need-element-requires
 element-requires c κs =

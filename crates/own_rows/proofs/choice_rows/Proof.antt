@@ -4,6 +4,7 @@ use lib.ListN.{getD}
 use Rattle.loaded_table.specs.Loaded.{countsOf}
 use Prim.Native.Nat.{_-_, _≤_}
 use native.Mathlib.Omega.{arith}
+use Rattle.own_rows.specs.Making.{edges-small}
 use Rattle.own_rows.specs.Progress.{few-of-type}
 use Rattle.own_rows.proofs.Steps.{Partly, choice-edges, choice-small, progress-begin, row-needs, row-more, progress-end}
 use Rattle.own_rows.proofs.choice_rows.Statement.{statement}
@@ -29,7 +30,7 @@ edges-requires c κs =
     let start = c .before .before .before .before .before .before .before in
     let can = start .pre .0 .makeable in
     let few = few-of-type can in
-    ((omega arith, omega (arith, few, c .before .before .count .ensures .0, c .loop-test .taken), omega arith, omega arith), can .ready .paths-bounded .short)
+    ((omega arith, omega (arith, few, c .before .before .count .ensures .0, c .loop-test .taken), omega arith, omega arith), edges-small (can .ready .paths-bounded))
 
 mul-own-row : tie.Need-mul-own-row Inv-loop μ-loop
 mul-own-row c = omega (arith, few-of-type (c .before .before .before .before .before .before .before .before .before .before .pre .0 .makeable), c .before .before .before .before .before .count .ensures .0, c .before .before .before .loop-test .taken)

@@ -2,6 +2,7 @@
 use native.Mathlib.Omega.{arith}
 use Rattle.growing.specs.Laws.{puts-length}
 use Rattle.filler_rows.specs.Laws.{placed-length}
+use Rattle.own_rows.specs.Making.{edges-small}
 use Rattle.own_rows.specs.Progress.{few-of-type}
 use Rattle.own_rows.proofs.Steps.{own-edges, own-small, progress-begin, row-needs, row-more, progress-end}
 use Rattle.own_rows.proofs.own_rows.Statement.{statement}
@@ -16,7 +17,7 @@ own-edges-requires : tie.Need-own-edges-requires
 own-edges-requires c κs =
     let start = c .before .before .before .before .before in
     let can = start .pre .0 .makeable in
-    (few-of-type can, can .ready .paths-bounded .short)
+    (few-of-type can, edges-small (can .ready .paths-bounded))
 
 target-requires : tie.Need-target-requires
 target-requires c κs = omega (arith, few-of-type (c .before .before .before .before .before .before .pre .0 .makeable))

@@ -12,4 +12,4 @@ returns c = c .pushed .ensures ∙ ap₂ (λ (next left : ℕ). push (c .before 
 pub with-edge-spec : {M : Type 1} → statement M
 with-edge-spec =
     tie.close
-    (tie.spec (λ c κs. search needs) (λ c κs. search needs) (λ c. search needs) (λ c. search needs) (λ c κs. search needs) returns)
+    (tie.spec (λ c κs. search needs) (λ c κs. search needs) (λ c. search needs) (λ c. search needs) (λ c. search needs) (λ c κs. search needs) returns)
