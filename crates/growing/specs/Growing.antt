@@ -72,7 +72,8 @@ pub record MemberRange (target : List ℕ) (t q : ℕ) (r : Span) : Type 0 where
 abbrev pub stepBound : ℕ
 stepBound = 13
 
--- below an element of target type t there is a place for what stands along the paths, none in another's way; no path has n steps, and their document is not too long
+-- below an element of target type t there is a place for what stands along the paths, none in another's way; no path has n steps,
+-- and their document is not too long
 pub record Task (target em : List ℕ) (e : Edges) (n t : ℕ) : Type 0 where
   pub bounded : Bounded target
   pub well-formed : WellFormed (tableBy target)
