@@ -92,3 +92,6 @@ pub const NO_IMAGE: u64 = 15;
 
 // The bytes of an element without what it holds: the command that opens it, its type, the command that closes it.
 pub const ELEMENT_BYTES: usize = 3;
+
+// The bytes of a tree document without what its root holds: those of the root, and the end.
+pub const ROOT_BYTES: usize = 4;

@@ -72,32 +72,32 @@ record Done (S : Table) (a : MapArrays) : Type 0 where
   all-maps : a .maps ≡ length S
   all-edges : a .edges ≡ edgesDue S (a .maps)
 
-abbrev InState : Table → EmbeddingState → MapArrays → ℕ → ℕ → Type 0
-InState S (due k ns on) a steps at = Due S a k ns on steps at
-InState S embeddingEnded a steps at = Done S a
+abbrev MapState : Table → EmbeddingState → MapArrays → ℕ → ℕ → Type 0
+MapState S (due k ns on) a steps at = Due S a k ns on steps at
+MapState S embeddingEnded a steps at = Done S a
 
 abbrev continuedBy : List ℕ → Table → MapArrays → EmbeddingTail → Embedding
 continuedBy em S a r = continued em S (a .maps) (a .edges) (a .targets) (a .starts) (a .lengths) r
 
 -- at an offset, in these states of the machines, the arrays, continued by what r says, are the embedding E
-record Loaded (em : List ℕ) (S : Table) (s : EmbeddingState) (steps : ℕ) (a : MapArrays) (at : ℕ) (r : EmbeddingTail) (E : Embedding) : Type 0 where
+record MapSoFar (em : List ℕ) (S : Table) (s : EmbeddingState) (steps : ℕ) (a : MapArrays) (at : ℕ) (r : EmbeddingTail) (E : Embedding) : Type 0 where
   shaped : MapShaped em a
   few-maps : a .maps ≤ length S
-  in-state : InState S s a steps at
+  in-state : MapState S s a steps at
   whole : continuedBy em S a r ≡ E
 
 -- the states, known as other terms
 loaded-at : {em : List ℕ} {S : Table} {s then : EmbeddingState} {n later : ℕ} {a : MapArrays} {at : ℕ} {r : EmbeddingTail} {E : Embedding}
-    → s ≡ then → n ≡ later → Loaded em S s n a at r E → Loaded em S then later a at r E
-loaded-at {em} {S} {s} {then} {n} {later} {a} {at} {r} {E} p q h = subst (λ k. Loaded em S then k a at r E) q (subst (λ x. Loaded em S x n a at r E) p h)
+    → s ≡ then → n ≡ later → MapSoFar em S s n a at r E → MapSoFar em S then later a at r E
+loaded-at {em} {S} {s} {then} {n} {later} {a} {at} {r} {E} p q h = subst (λ k. MapSoFar em S then k a at r E) q (subst (λ x. MapSoFar em S x n a at r E) p h)
 
 -- ---- one command
 
 module _ {em : List ℕ} {S : Table} (source : SourceTable em S) where
   -- A type is mapped, where one is to come and no path is due.
   loaded-mapped : {a : MapArrays} {at : ℕ} {r : EmbeddingTail} {E : Embedding} (m : ℕ) (ns : List ℕ) (on : Bool) (steps t : ℕ)
-      → Loaded em S (due zero (m ∷ ns) on) steps a at (record { steps = []; edges = []; maps = record { target = t; edges = r .edges } ∷ r .maps }) E
-      → TypeMayFollow a × Loaded em S (due m ns false) 0 (mapped a t) (at + 2) r E
+      → MapSoFar em S (due zero (m ∷ ns) on) steps a at (record { steps = []; edges = []; maps = record { target = t; edges = r .edges } ∷ r .maps }) E
+      → TypeMayFollow a × MapSoFar em S (due m ns false) 0 (mapped a t) (at + 2) r E
   unfolding mapped edgesDue
   loaded-mapped {a} {at} {r} {E} m ns on steps t h =
       let next = next-type S (a .maps) m ns (h .in-state .to-come) in
@@ -140,8 +140,8 @@ module _ {em : List ℕ} {S : Table} (source : SourceTable em S) where
 
   -- A path begins, where one is due.
   loaded-begun : {a : MapArrays} {at : ℕ} {r : EmbeddingTail} {E : Embedding} (k : ℕ) (ns : List ℕ) (on : Bool) (steps : ℕ) → at < length em
-      → Loaded em S (due (suc k) ns on) steps a at (record { steps = []; edges = record { at = at; steps = r .steps } ∷ r .edges; maps = r .maps }) E
-      → PathMayBegin a at × Loaded em S (due k ns true) 0 (begun a at) (at + 1) r E
+      → MapSoFar em S (due (suc k) ns on) steps a at (record { steps = []; edges = record { at = at; steps = r .steps } ∷ r .edges; maps = r .maps }) E
+      → PathMayBegin a at × MapSoFar em S (due k ns true) 0 (begun a at) (at + 1) r E
   loaded-begun {a} {at} {r} {E} k ns on steps inside h =
       let counted = h .in-state .counted in
       let type = some-type (a .maps) (a .edges) k counted in
@@ -205,8 +205,8 @@ module _ {em : List ℕ} {S : Table} (source : SourceTable em S) where
   -- A step is taken on a path.
   loaded-stepped : {a : MapArrays} {at : ℕ} {r : EmbeddingTail} {E : Embedding} (k : ℕ) (ns : List ℕ) (steps p : ℕ)
       → at + 2 ≤ length em → getD em (suc at) 0 ≡ p → steps < 12
-      → Loaded em S (due k ns true) steps a at (record { steps = p ∷ r .steps; edges = r .edges; maps = r .maps }) E
-      → StepMayFollow a × Loaded em S (due k ns true) (suc steps) (stepped a) (at + 2) r E
+      → MapSoFar em S (due k ns true) steps a at (record { steps = p ∷ r .steps; edges = r .edges; maps = r .maps }) E
+      → StepMayFollow a × MapSoFar em S (due k ns true) (suc steps) (stepped a) (at + 2) r E
   loaded-stepped {a} {at} {r} {E} k ns steps p inside reads few-steps h =
       let on = h .in-state .on-path refl in
       let l = on .last in
@@ -253,7 +253,7 @@ module _ {em : List ℕ} {S : Table} (source : SourceTable em S) where
 
   -- Where all types are mapped and the last has all its paths, the end leaves all as it is.
   loaded-ended : {a : MapArrays} {at : ℕ} {r : EmbeddingTail} {E : Embedding} (on : Bool) (steps : ℕ)
-      → Loaded em S (due zero [] on) steps a at r E → Loaded em S embeddingEnded steps a (at + 1) r E
+      → MapSoFar em S (due zero [] on) steps a at r E → MapSoFar em S embeddingEnded steps a (at + 1) r E
   loaded-ended {a} {at} {r} {E} on steps h =
       let past = none-next S (a .maps) (h .in-state .to-come) in
       let few-maps = h .few-maps in
@@ -267,8 +267,8 @@ module _ {em : List ℕ} {S : Table} (source : SourceTable em S) where
   -- A command that both machines take has room in the arrays, and leaves the embedding that they stand for.
   put-loaded : (c : EmbeddingCommand) (s : EmbeddingState) {then : EmbeddingState} {n later : ℕ} {a : MapArrays} {at : ℕ} {r : EmbeddingTail} {E : Embedding}
       → at < length em → at + embeddingWidth c ≤ length em → c ≡ embeddingCommand (rawAt em at)
-      → embeddingStep s c ≡ goes then → stepCount n c ≡ goes later → Loaded em S s n a at (withEmbeddingCommand at c r) E
-      → MapRoom a at c × Loaded em S then later (puts a at c) (at + embeddingWidth c) r E
+      → embeddingStep s c ≡ goes then → stepCount n c ≡ goes later → MapSoFar em S s n a at (withEmbeddingCommand at c r) E
+      → MapRoom a at c × MapSoFar em S then later (puts a at c) (at + embeddingWidth c) r E
   unfolding embeddingStep stepCount withEmbeddingCommand puts embeddingWidth
   put-loaded c embeddingEnded inside ends reads e f h = goes-stops e (ended-stops c)
   put-loaded (mapsTo t) (due zero [] on) inside ends reads e f h = goes-stops e refl
@@ -310,7 +310,7 @@ pub record EmbeddingLoading (em : List ℕ) (S : Table) (a : MapArrays) (at : �
   count-state : ℕ
   form-left : run embeddingWidth embeddingStep embeddingComplete form-state at (embeddingCommands (drop at em)) ≡ passes
   limits-left : run embeddingWidth stepCount (λ n. true) count-state at (embeddingCommands (drop at em)) ≡ passes
-  loaded : Loaded em S form-state count-state a at (embeddingTail at (embeddingCommands (drop at em))) (embeddingOf em)
+  loaded : MapSoFar em S form-state count-state a at (embeddingTail at (embeddingCommands (drop at em))) (embeddingOf em)
 
 pub loading-starts : {em : List ℕ} {S : Table} (map : List ℕ) → Cleared map → SourceTable em S → embeddingForm S em ≡ passes → embeddingLimits em ≡ passes → EmbeddingLoading em S (loadedIn 0 0 map) 0
 unfolding embeddingForm embeddingLimits embeddingOf continued edgesDue
@@ -351,7 +351,7 @@ turn-at em S a at c more is reads h =
     let known : c ≡ alienE → ⊥ = not-alien (h .form-state) (form .0) c (form .1) in
     let rest-is : embeddingTail at (embeddingCommands (drop at em)) ≡ withEmbeddingCommand at c (embeddingTail (at + embeddingWidth c) (embeddingCommands (drop (at + embeddingWidth c) em)))
     = ap (embeddingTail at) (reads .reads) ∙ ap (λ cs. withEmbeddingCommand at c (embeddingTail (at + embeddingWidth c) cs)) (reads .onward known) in
-    let put = put-loaded (h .source) c (h .form-state) more (reads .within known) is (form .1) (limits .1) (subst (λ r. Loaded em S (h .form-state) (h .count-state) a at r (embeddingOf em)) rest-is (h .loaded)) in
+    let put = put-loaded (h .source) c (h .form-state) more (reads .within known) is (form .1) (limits .1) (subst (λ r. MapSoFar em S (h .form-state) (h .count-state) a at r (embeddingOf em)) rest-is (h .loaded)) in
     record {
       room = put .0;
       moves = some-width c;
@@ -375,7 +375,7 @@ pub turned : {em : List ℕ} {S : Table} {a : MapArrays} {at : ℕ} {c : Embeddi
 turned h p q = rw (p, q) (h .next)
 
 -- in the last state all types are mapped
-done-there : (S : Table) (s : EmbeddingState) (a : MapArrays) (steps at : ℕ) → embeddingComplete s ≡ true → InState S s a steps at → Done S a
+done-there : (S : Table) (s : EmbeddingState) (a : MapArrays) (steps at : ℕ) → embeddingComplete s ≡ true → MapState S s a steps at → Done S a
 unfolding embeddingComplete
 done-there S (due k ns on) a steps at e h = true-false e refl
 done-there S embeddingEnded a steps at e h = h

@@ -5,6 +5,7 @@ use children::Part;
 use children::along;
 use children::begin;
 use children::next;
+use codes::ELEMENT_BYTES;
 use loaded_embedding::MAP;
 use loaded_table::TABLE;
 use loaded_table::TEXT;
@@ -140,7 +141,7 @@ fn read_element<'a>(
     ensures { λ r. ⌜ ((k : Content) → ContentAt (now (tr .entry)) (task .image .from) k → ReadsInto (now (out .entry)) (now (out .exit)) (task .at) r (elementOf (task .image .sigma) (model.readTo (settingIn (now (source .entry)) (now (target .entry)) (now (map .entry)) (now (em .entry))) (task .depth) (task .image .sigma) k))) ⌝ }
 {
     let at = task.at;
-    if out.len() - at < 3 {
+    if out.len() - at < ELEMENT_BYTES {
         return Read::Nothing;
     }
     let sigma = task.image.sigma;

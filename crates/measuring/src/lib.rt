@@ -19,6 +19,7 @@ use codes::MAX_MEMBERS;
 use codes::MAX_TYPES;
 use codes::OPENS;
 use codes::OVER_BYTES;
+use codes::ROOT_BYTES;
 use loaded_embedding::MAP;
 use loaded_table::LIST;
 use loaded_table::SEQUENCE;
@@ -190,7 +191,7 @@ pub fn measure<'a>(
     let size = root.size;
     Size {
         levels: held(size.levels + 1),
-        bytes: held(size.bytes + 4),
+        bytes: held(size.bytes + ROOT_BYTES),
         filler: size.filler,
     }
 }

@@ -25,7 +25,7 @@ pub record Small (s : Sums) : Type 0 where
   pub filler : s .filler ≤ 60001
 
 -- sums with one symbol more: with what follows they come to the same
-pub record Adds (target : List ℕ) (n : ℕ) (s r : Sums) : Type 0 where
+pub record AddsSymbol (target : List ℕ) (n : ℕ) (s r : Sums) : Type 0 where
   pub depth : r .depth ≤ s .depth + 1
   pub high : (r .levels ≤ 60001) × (r .bytes ≤ 60001) × (r .filler ≤ 60001)
   pub levels : (rest : List Symbol) → min 60001 (max (r .levels) (rowLevels (heightAt target) (r .depth) rest)) ≡ min 60001 (max (s .levels) (rowLevels (heightAt target) (s .depth) (symbolOf n ∷ rest)))

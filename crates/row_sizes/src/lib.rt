@@ -7,8 +7,9 @@ ghost use Rattle.model.specs.Definitions.Table.{kindOf};
 ghost use Rattle.loaded_table.specs.Loaded.{Bounded, typesIn, tableBy, heldLength};
 ghost use Rattle.loaded_setting.specs.Ready.{settingIn, Ready};
 ghost use Rattle.rows.specs.Rows.{toOf, rowIn, rowIndex, FirstChild, Rows, Sizes, HasRow, HasRows, IsWord};
-ghost use Rattle.row_sizes.specs.Sizing.{Small, Adds, Measures, Sized, Keeps, TypeSized};
+ghost use Rattle.row_sizes.specs.Sizing.{Small, AddsSymbol, Measures, Sized, Keeps, TypeSized};
 ghost use Rattle.model.specs.Definitions.TableChecks.{maxMembers};
+use codes::ELEMENT_BYTES;
 use codes::MAX_TYPES;
 use codes::OVER_BYTES;
 use loaded_table::CHOICE;
@@ -68,7 +69,7 @@ fn one_less(x: usize) -> usize
 // One symbol more.
 fn with_symbol(target: &[u16; TABLE], s: Sums, n: usize) -> Sums
     requires { ⌜ Small s ⌝ }
-    ensures { λ r. ⌜ Adds (now (target .entry)) n s r ⌝ }
+    ensures { λ r. ⌜ AddsSymbol (now (target .entry)) n s r ⌝ }
 {
     let depth = s.depth;
     let levels = s.levels;
@@ -76,7 +77,7 @@ fn with_symbol(target: &[u16; TABLE], s: Sums, n: usize) -> Sums
         return Sums {
             depth: depth + 1,
             levels: held(larger(levels, depth + 1)),
-            bytes: held(s.bytes + 3),
+            bytes: held(s.bytes + ELEMENT_BYTES),
             filler: s.filler,
         };
     }

@@ -19,7 +19,7 @@ pub data Seen : Bool → List Bool → Chosen → Type 0 where
   inside : {seen : List Bool} {ms : List ℕ} → length seen ≡ 256 → ((m : ℕ) → m < 256 → getD seen m false ≡ memberOf m ms) → Seen true seen (among ms)
 
 -- what holds at an offset of a document
-pub record Kept (t : List ℕ) (within : Bool) (seen : List Bool) (at : ℕ) : Type 0 where
+pub record SeenKept (t : List ℕ) (within : Bool) (seen : List Bool) (at : ℕ) : Type 0 where
   pub state : Chosen
   pub stands : Seen within seen state
   pub here : At repeat-machine t state at (tableRepeats t)
@@ -73,5 +73,5 @@ added {seen = seen} m h (inside {ms = ms} l f) e unset = record {
 
 -- what holds behind a command, by the flags that the code then has
 pub after : {t : List ℕ} {within within′ : Bool} {seen seen′ : List Bool} {at : ℕ} {s : Chosen}
-    → At repeat-machine t s at (tableRepeats t) → Seen within seen s → within′ ≡ within → seen′ ≡ seen → Kept t within′ seen′ at
+    → At repeat-machine t s at (tableRepeats t) → Seen within seen s → within′ ≡ within → seen′ ≡ seen → SeenKept t within′ seen′ at
 after {s = s} here stands e f = record { state = s; stands = rw (e, f) stands; here = here }

@@ -61,38 +61,38 @@ module _
 -- ---- what is loaded at a place
 
 -- the last type is a sequence or choice with so many members
-record Grows (a : TableArrays) (count : ℕ) : Type 0 where
+record TypesGrow (a : TableArrays) (count : ℕ) : Type 0 where
   last : ℕ
   is-last : a .types ≡ suc last
   so-many : getD (a .counts) last 0 ≡ count
   takes-members : (getD (a .kinds) last 0 ≡ 2) ⊎ (getD (a .kinds) last 0 ≡ 3)
 
 -- what a state of the form's machine says of the last type
-abbrev InState : TableState → TableArrays → ℕ → Type 0
-InState noType a count = Unit {0}
-InState whole a count = Unit {0}
-InState (members k) a count = Grows a count
-InState tableEnded a count = Unit {0}
+abbrev InTableState : TableState → TableArrays → ℕ → Type 0
+InTableState noType a count = Unit {0}
+InTableState whole a count = Unit {0}
+InTableState (members k) a count = TypesGrow a count
+InTableState tableEnded a count = Unit {0}
 
 abbrev continuedBy : TableArrays → TableTail → Table
 continuedBy a r = continued (a .types) (a .kinds) (a .counts) (a .members) r
 
 -- in these states of the machines the arrays, continued by what r says, are the table T
-record Loaded (s : TableState) (n : TableCount) (a : TableArrays) (r : TableTail) (T : Table) : Type 0 where
+record TableSoFar (s : TableState) (n : TableCount) (a : TableArrays) (r : TableTail) (T : Table) : Type 0 where
   shaped : TableShaped a
   same-types : a .types ≡ n .types
-  in-state : InState s a (n .members)
+  in-state : InTableState s a (n .members)
   whole-table : continuedBy a r ≡ T
 
 -- the states, known as other terms
-loaded-at : {s then : TableState} {n later : TableCount} {a : TableArrays} {r : TableTail} {T : Table} → s ≡ then → n ≡ later → Loaded s n a r T → Loaded then later a r T
-loaded-at {then = then} {n} {a = a} {r} {T} p q h = subst (λ k. Loaded then k a r T) q (subst (λ x. Loaded x n a r T) p h)
+loaded-at : {s then : TableState} {n later : TableCount} {a : TableArrays} {r : TableTail} {T : Table} → s ≡ then → n ≡ later → TableSoFar s n a r T → TableSoFar then later a r T
+loaded-at {then = then} {n} {a = a} {r} {T} p q h = subst (λ k. TableSoFar then k a r T) q (subst (λ x. TableSoFar x n a r T) p h)
 
 -- ---- one command
 
 -- a type may begin
 begins-there : {s : TableState} {n : TableCount} {a : TableArrays} {r : TableTail} {T : Table} {then : TableCount}
-    → oneTypeMore n ≡ goes then → Loaded s n a r T → TypeMayBegin a × (then ≡ record { types = suc (n .types); members = 0 })
+    → oneTypeMore n ≡ goes then → TableSoFar s n a r T → TypeMayBegin a × (then ≡ record { types = suc (n .types); members = 0 })
 unfolding oneTypeMore
 begins-there {s} {n} {a} {r} {T} {then} e h =
     let facts = goes-if (ltb (n .types) 64) (record { types = suc (n .types); members = 0 }) e in
@@ -110,7 +110,7 @@ begins-state (members (suc k)) first then e = goes-stops e refl
 begins-state tableEnded first then e = goes-stops e refl
 
 -- a sequence or choice that begins has no members
-grows-begun : (a : TableArrays) (code : ℕ) → (code ≡ 2) ⊎ (code ≡ 3) → TableShaped a → TypeMayBegin a → Grows (begun a code) 0
+grows-begun : (a : TableArrays) (code : ℕ) → (code ≡ 2) ⊎ (code ≡ 3) → TableShaped a → TypeMayBegin a → TypesGrow (begun a code) 0
 unfolding begun
 grows-begun a code which shaped room =
     let kind-there : getD (set (a .kinds) (a .types) code) (a .types) 0 ≡ code
@@ -119,10 +119,10 @@ grows-begun a code which shaped room =
 
 -- A type of kind κ begins, with members only after it.
 loaded-begun : {s then : TableState} {n later : TableCount} {a : TableArrays} {r : TableTail} {T : Table} (code : ℕ) (κ : Kind) (first : TableState)
-    → kindMore code 0 (drop (a .types * 16) (a .members)) (r .members) ≡ κ → (TableShaped a → TypeMayBegin a → InState first (begun a code) 0)
+    → kindMore code 0 (drop (a .types * 16) (a .members)) (r .members) ≡ κ → (TableShaped a → TypeMayBegin a → InTableState first (begun a code) 0)
     → tableMove s (begins first) ≡ goes then → oneTypeMore n ≡ goes later
-    → Loaded s n a (record { members = []; kinds = κ ∷ r .kinds }) T
-    → TypeMayBegin a × Loaded then later (begun a code) r T
+    → TableSoFar s n a (record { members = []; kinds = κ ∷ r .kinds }) T
+    → TypeMayBegin a × TableSoFar then later (begun a code) r T
 unfolding begun
 loaded-begun {s} {then} {n} {later} {a} {r} {T} code κ first same-kind there e f h =
     let facts = begins-there f h in
@@ -130,7 +130,7 @@ loaded-begun {s} {then} {n} {later} {a} {r} {T} code κ first same-kind there e 
     let same-state : first ≡ then = begins-state s first then e in
     (room, loaded-at same-state (sym (facts .1)) (now-loaded room))
   where
-    now-loaded : TypeMayBegin a → Loaded first (record { types = suc (n .types); members = 0 }) (begun a code) r T
+    now-loaded : TypeMayBegin a → TableSoFar first (record { types = suc (n .types); members = 0 }) (begun a code) r T
     now-loaded room =
         let shaped = h .shaped in
         record {
@@ -159,8 +159,8 @@ joined-is a m l e = let before : suc l - 1 ≡ l = omega arith in rw (e, before)
 -- A list type begins, and its item joins it.
 loaded-list : {s then : TableState} {n later : TableCount} {a : TableArrays} {r : TableTail} {T : Table} (m : ℕ)
     → tableMove s (begins whole) ≡ goes then → oneTypeMore n ≡ goes later
-    → Loaded s n a (record { members = []; kinds = list m ∷ r .kinds }) T
-    → TypeMayBegin a × Loaded then later (joined (begun a 4) m) r T
+    → TableSoFar s n a (record { members = []; kinds = list m ∷ r .kinds }) T
+    → TypeMayBegin a × TableSoFar then later (joined (begun a 4) m) r T
 unfolding begun
 loaded-list {s} {then} {n} {later} {a} {r} {T} m e f h =
     let facts = begins-there f h in
@@ -168,7 +168,7 @@ loaded-list {s} {then} {n} {later} {a} {r} {T} m e f h =
     let same-state : whole ≡ then = begins-state s whole then e in
     (room, loaded-at same-state (sym (facts .1)) (now-loaded room))
   where
-    now-loaded : TypeMayBegin a → Loaded whole (record { types = suc (n .types); members = 0 }) (joined (begun a 4) m) r T
+    now-loaded : TypeMayBegin a → TableSoFar whole (record { types = suc (n .types); members = 0 }) (joined (begun a 4) m) r T
     now-loaded room =
         let shaped = h .shaped in
         let few = room .room in
@@ -185,21 +185,21 @@ loaded-list {s} {then} {n} {later} {a} {r} {T} m e f h =
         }
 
 -- a member may join only a sequence or choice, which may then grow on
-joins-there : (s then : TableState) (a : TableArrays) (count : ℕ) → tableMove s joins ≡ goes then → InState s a count
-    → Grows a count × ((b : TableArrays) (more : ℕ) → Grows b more → InState then b more)
+joins-there : (s then : TableState) (a : TableArrays) (count : ℕ) → tableMove s joins ≡ goes then → InTableState s a count
+    → TypesGrow a count × ((b : TableArrays) (more : ℕ) → TypesGrow b more → InTableState then b more)
 unfolding tableMove
 joins-there noType then a count e h = goes-stops e refl
 joins-there whole then a count e h = goes-stops e refl
-joins-there (members zero) then a count e h = let same : members zero ≡ then = cc in (h, λ b more g. subst (λ x. InState x b more) same g)
-joins-there (members (suc k)) then a count e h = let same : members k ≡ then = cc in (h, λ b more g. subst (λ x. InState x b more) same g)
+joins-there (members zero) then a count e h = let same : members zero ≡ then = cc in (h, λ b more g. subst (λ x. InTableState x b more) same g)
+joins-there (members (suc k)) then a count e h = let same : members k ≡ then = cc in (h, λ b more g. subst (λ x. InTableState x b more) same g)
 joins-there tableEnded then a count e h = goes-stops e refl
 
 -- A member joins the last type.
 loaded-joined : {s then : TableState} {n later : TableCount} {a : TableArrays} {r : TableTail} {T : Table} (m : ℕ)
     → tableMove s joins ≡ goes then
     → goesIf (ltb (n .members) maxMembers) (record { types = n .types; members = suc (n .members) }) ≡ goes later
-    → Loaded s n a (record { members = m ∷ r .members; kinds = r .kinds }) T
-    → MemberMayJoin a × Loaded then later (joined a m) r T
+    → TableSoFar s n a (record { members = m ∷ r .members; kinds = r .kinds }) T
+    → MemberMayJoin a × TableSoFar then later (joined a m) r T
 loaded-joined {s} {then} {n} {later} {a} {r} {T} m e f h =
     let facts = goes-if (ltb (n .members) 16) (record { types = n .types; members = suc (n .members) }) f in
     let few : n .members < 16 = ltb-true (n .members) 16 (facts .0) in
@@ -211,8 +211,8 @@ loaded-joined {s} {then} {n} {later} {a} {r} {T} m e f h =
     let room : MemberMayJoin a = record { some = omega arith; few = h .shaped .few-types; room = omega arith } in
     (room, loaded-at refl (facts .1) (now-loaded few room grows (state .1)))
   where
-    now-loaded : n .members < 16 → MemberMayJoin a → Grows a (n .members) → ((b : TableArrays) (more : ℕ) → Grows b more → InState then b more)
-        → Loaded then (record { types = n .types; members = suc (n .members) }) (joined a m) r T
+    now-loaded : n .members < 16 → MemberMayJoin a → TypesGrow a (n .members) → ((b : TableArrays) (more : ℕ) → TypesGrow b more → InTableState then b more)
+        → TableSoFar then (record { types = n .types; members = suc (n .members) }) (joined a m) r T
     now-loaded few room grows onward =
         let shaped = h .shaped in
         let l = grows .last in
@@ -226,7 +226,7 @@ loaded-joined {s} {then} {n} {later} {a} {r} {T} m e f h =
         record {
           shaped = shaped-joined a m room shaped;
           same-types = ap (λ b. b .types) is ∙ sym is-last ∙ h .same-types;
-          in-state = onward (joined a m) (suc (n .members)) (subst (λ b. Grows b (suc (n .members))) (sym is) (record { last = l; is-last = refl; so-many = counted; takes-members = grows .takes-members }));
+          in-state = onward (joined a m) (suc (n .members)) (subst (λ b. TypesGrow b (suc (n .members))) (sym is) (record { last = l; is-last = refl; so-many = counted; takes-members = grows .takes-members }));
           whole-table =
               ap (λ b. continuedBy b r) is
               ∙ continued-joined (a .kinds) (a .counts) (a .members) l m r known (rw (shaped .members-long) (omega arith)) (grows .takes-members) (shaped .few-counts)
@@ -245,8 +245,8 @@ finishes-state tableEnded then e = goes-stops e refl
 
 -- A command that both machines take has room in the arrays, and leaves the table that they stand for.
 put-loaded : (c : TableCommand) {s then : TableState} {n later : TableCount} {a : TableArrays} {r : TableTail} {T : Table}
-    → tableStep s c ≡ goes then → limitStep n c ≡ goes later → Loaded s n a (withCommand c r) T
-    → TableRoom a c × Loaded then later (puts a c) r T
+    → tableStep s c ≡ goes then → limitStep n c ≡ goes later → TableSoFar s n a (withCommand c r) T
+    → TableRoom a c × TableSoFar then later (puts a c) r T
 unfolding tableStep tableRole limitStep withCommand puts
 put-loaded textType e f h = loaded-begun 0 text whole refl (λ shaped room. tt) e f h
 put-loaded emptyType e f h = loaded-begun 1 empty whole refl (λ shaped room. tt) e f h
@@ -257,7 +257,7 @@ put-loaded (member m) e f h = loaded-joined m e f h
 put-loaded tableEnd {s} {then} {n} {later} {a} {r} {T} e f h =
     let same-state : tableEnded ≡ then = finishes-state s then e in
     let same-count : n ≡ later = cc in
-    let there : Loaded tableEnded n a r T = record { shaped = h .shaped; same-types = h .same-types; in-state = tt; whole-table = h .whole-table } in
+    let there : TableSoFar tableEnded n a r T = record { shaped = h .shaped; same-types = h .same-types; in-state = tt; whole-table = h .whole-table } in
     (tt, loaded-at same-state same-count there)
 put-loaded alien {n = n} e f h = goes-stops f refl
 
@@ -270,7 +270,7 @@ pub record TableLoading (bs : List ℕ) (a : TableArrays) (at : ℕ) : Type 0 wh
   count-state : TableCount
   form-left : run tableWidth tableStep tableComplete form-state at (tableCommands (drop at bs)) ≡ passes
   limits-left : run tableWidth limitStep (λ n. true) count-state at (tableCommands (drop at bs)) ≡ passes
-  loaded : Loaded form-state count-state a (tableTail (tableCommands (drop at bs))) (tableOf bs)
+  loaded : TableSoFar form-state count-state a (tableTail (tableCommands (drop at bs))) (tableOf bs)
 
 -- there are never too many types
 pub loading-few : {bs : List ℕ} {a : TableArrays} {at : ℕ} → TableLoading bs a at → a .types ≤ 64
@@ -319,7 +319,7 @@ turn-at bs a at c reads h =
     let known : c ≡ alien → ⊥ = not-alien (h .form-state) (form .0) c (form .1) in
     let rest-is : tableTail (tableCommands (drop at bs)) ≡ withCommand c (tableTail (tableCommands (drop (at + tableWidth c) bs)))
     = ap tableTail (reads .reads) ∙ ap (λ cs. withCommand c (tableTail cs)) (reads .onward known) in
-    let put = put-loaded c (form .1) (limits .1) (subst (λ r. Loaded (h .form-state) (h .count-state) a r (tableOf bs)) rest-is (h .loaded)) in
+    let put = put-loaded c (form .1) (limits .1) (subst (λ r. TableSoFar (h .form-state) (h .count-state) a r (tableOf bs)) rest-is (h .loaded)) in
     record {
       room = put .0;
       moves = width-some c;

@@ -2,12 +2,12 @@
 use Prim.Native.Nat.{_-_}
 use native.Mathlib.Omega.{arith}
 use borrow.Author.Needs.{needs}
-use Rattle.row_sizes.proofs.Adding.{Along, along-none, along-more, along-all}
+use Rattle.row_sizes.proofs.Adding.{SumsAlong, along-none, along-more, along-all}
 use Rattle.row_sizes.proofs.row_size.Statement.{statement}
 use Rattle.row_sizes.proofs.row_size.Tie as tie
 
 abbrev Inv-loop : tie.InvT-loop
-Inv-loop target pool from to depth sums₀ i₀ sums i = Along target pool from to depth sums i
+Inv-loop target pool from to depth sums₀ i₀ sums i = SumsAlong target pool from to depth sums i
 
 abbrev μ-loop : tie.MeasureT-loop
 μ-loop target pool from to depth sums₀ i₀ sums i = to - i

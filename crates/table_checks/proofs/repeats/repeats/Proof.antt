@@ -15,12 +15,12 @@ use Rattle.table_checks.specs.Read.{command}
 use Rattle.table_checks.specs.Repeats.{does}
 use Rattle.table_checks.proofs.Loop.{some-width, Then, turn, passed}
 use Rattle.table_checks.proofs.Machines.{repeat-machine}
-use Rattle.table_checks.proofs.Chosen.{outside, Kept, opened, not-inside, again-there, added, after}
+use Rattle.table_checks.proofs.Chosen.{outside, SeenKept, opened, not-inside, again-there, added, after}
 use Rattle.table_checks.proofs.repeats.repeats.Statement.{statement}
 use Rattle.table_checks.proofs.repeats.repeats.Tie as tie
 
 abbrev Inv-loop : tie.InvT-loop
-Inv-loop t at₀ inside₀ seen₀ at inside seen = Kept t inside seen at
+Inv-loop t at₀ inside₀ seen₀ at inside seen = SeenKept t inside seen at
 
 abbrev μ-loop : tie.MeasureT-loop
 μ-loop t at₀ inside₀ seen₀ at inside seen = length t - at
