@@ -57,7 +57,7 @@ fn finish(s: State) -> Next
 }
 
 // What a command makes of the state, by its role. The arm with an operand stands apart: joined to the one above it, the
-// compiled loop is five times slower.
+// compiled loop is several times slower.
 pub fn step(s: State, c: TableCommand) -> Next
     ensures { λ r. ⌜ next r ≡ tableStep (state s) (command c) ⌝ }
 {
