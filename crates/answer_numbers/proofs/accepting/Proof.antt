@@ -1,3 +1,4 @@
+-- `accepting` meets its contract: the numbers of an acceptance.
 use mathlib.Core.Path.{refl}
 use Rattle.model.specs.Definitions.Entries.{answerOf}
 use Rattle.answer_numbers.proofs.accepting.Statement.{statement}

@@ -1,3 +1,4 @@
+-- `brought` meets its contract: each way in which bringing back ends has its numbers.
 use borrow.Author.Needs.{needs}
 use Rattle.answers.specs.Answers.{broughtResult}
 use Rattle.model.specs.Definitions.Refusals.{numbersOf, documentNumber}

@@ -1,3 +1,4 @@
+-- `carried` meets its contract: each way in which carrying ends has its numbers.
 use borrow.Author.Needs.{needs}
 use Rattle.answers.specs.Answers.{carriedResult}
 use Rattle.model.specs.Definitions.Refusals.{numbersOf, documentNumber}

@@ -1,3 +1,4 @@
+-- `faulting` meets its contract: each fault has its number and its mark.
 use borrow.Author.Needs.{needs}
 use Rattle.answer_numbers.proofs.Numbering.{for-fault}
 use Rattle.model.specs.Definitions.Refusals.{faultNumber, faultMark}

@@ -1,3 +1,4 @@
+-- `main` meets its contract: fewer cases are left after each.
 use Prim.Native.Nat.{_≤_}
 use borrow.Author.Needs.{needs}
 use Rattle.cases.proofs.main.Statement.{statement}

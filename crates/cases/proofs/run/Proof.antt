@@ -1,3 +1,4 @@
+-- `run` meets its contract: each part that is lent has the length that was read.
 use borrow.Author.Needs.{needs}
 use lib.Seq.{length-take-le}
 use mathlib.Core.Path.{sym}

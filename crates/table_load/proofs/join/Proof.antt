@@ -7,7 +7,6 @@ use borrow.Author.Needs.{needs}
 use Rattle.table_load.proofs.join.Statement.{statement}
 use Rattle.table_load.proofs.join.Tie as tie
 
--- src/lib.rt:49:1
 returns : tie.Need-returns
 returns c =
     let a = c .before .before .before .before .before .before .args in

@@ -1,3 +1,4 @@
+-- `print_bytes` meets its contract: the loop stays within the bytes.
 use borrow.Author.Needs.{needs}
 use Prim.Native.Nat.{_≤_, _-_}
 use lib.ListN.{length}

@@ -1,3 +1,4 @@
+-- `print_written` meets its contract: what is printed lies within the output.
 use borrow.Author.Needs.{needs}
 use lib.Seq.{length-take-le}
 use mathlib.Core.Path.{sym}

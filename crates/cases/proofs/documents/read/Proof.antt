@@ -1,3 +1,4 @@
+-- `read` meets its contract: no more is read than the buffer holds.
 use borrow.Author.Needs.{needs}
 use lib.Seq.{length-take-le}
 use mathlib.Core.Path.{sym}

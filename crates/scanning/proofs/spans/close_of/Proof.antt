@@ -1,3 +1,4 @@
+-- `close_of` meets its contract: the span at the beginning of a content is its length, and content lies within the document.
 use Rattle.scanning.specs.Laws.{content-within}
 use Prim.Native.Nat.{ℕ, _+_}
 use mathlib.Core.Path.{ap}
@@ -5,11 +6,9 @@ use native.Mathlib.Omega.{arith}
 use Rattle.scanning.proofs.spans.close_of.Statement.{statement}
 use Rattle.scanning.proofs.spans.close_of.Tie as tie
 
--- src/spans.rt:59:12
 cast-result : tie.Need-cast-result
 cast-result c = omega (arith, content-within (c .before .pre .1 .1), c .before .pre .0 .short, c .before .pre .0 .span-is _ _ (c .before .pre .1 .1))
 
--- src/spans.rt:59:5
 add-result : tie.Need-add-result
 add-result c = omega (arith, content-within (c .before .pre .1 .1), c .before .pre .0 .short, c .before .pre .0 .span-is _ _ (c .before .pre .1 .1))
 
