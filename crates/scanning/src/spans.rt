@@ -1,10 +1,10 @@
 // Lengths of contents, found once for a document, so that an element is passed over in one step.
 ghost use mathlib.Core.Path.{_≡_};
 ghost use Prim.Native.Nat.{_+_, _≤_, _<_};
-ghost use lib.ListN.{length, getD};
+ghost use lib.ListN.{length, getD, set};
 ghost use Rattle.model.specs.Definitions.Content.{Content, bytes};
 ghost use Rattle.scanning.specs.Scanning.{ContentAt};
-ghost use Rattle.scanning.specs.Spanning.{Spans, SpansWithin, SpanAt};
+ghost use Rattle.scanning.specs.Spanning.{Spans, SpansWithin, SpanAt, SpansRoom, spanIn, FilledFrom};
 ghost use Rattle.model.specs.Definitions.Refusals.{maxLength};
 use codes::CHARACTER;
 use codes::OPENS;
@@ -13,16 +13,12 @@ use codes::OPENS;
 // offsets behind o, `behind` from the second of them; 0 where the document ends too soon.
 fn span_at(b: u8, spans: &[u16], o: usize, behind: usize) -> usize
     requires { ⌜ (o < length (now spans)) × (length (now spans) ≤ maxLength) × SpansWithin (now spans) o ⌝ }
-    requires behind { ⌜ (o + 2 < length (now spans) → behind ≡ getD (now spans) (o + 2) 0) ⌝ }
+    requires behind { ⌜ behind ≡ getD (now spans) (o + 2) 0 ⌝ }
     ensures { λ r. ⌜ SpanAt (now (spans .entry)) b o r ⌝ }
 {
-    let inside = o + 2;
-    if spans.len() <= inside {
-        return 0;
-    }
     match b {
         OPENS => {
-            let next = inside + behind + 1;
+            let next = o + 2 + behind + 1;
             if spans.len() <= next {
                 return 0;
             }
@@ -33,23 +29,34 @@ fn span_at(b: u8, spans: &[u16], o: usize, behind: usize) -> usize
     }
 }
 
+// Fills the span of offset o, where those of the offsets behind it are filled, `behind` for the second of them.
+fn fill_span(tr: &[u8], spans: &mut [u16], o: usize, behind: usize) -> usize
+    requires { ⌜ SpansRoom (now tr) (now spans) × (o < length (now tr)) × FilledFrom (now tr) (o + 1) (now spans) ⌝ }
+    requires behind { ⌜ behind ≡ spanIn (now tr) (now spans) (o + 2) ⌝ }
+    ensures { λ r. ⌜ (now (spans .exit) ≡ set (now (spans .entry)) o r) × FilledFrom (now (tr .entry)) o (now (spans .exit)) ⌝ }
+{
+    let far = span_at(tr[o], &spans[..tr.len()], o, behind);
+    spans[o] = far as u16;
+    far
+}
+
 // Fills `spans`: for content that begins at an offset of the document, its length. The loop goes from the last offset to the
-// first, so that what is behind an offset is known. `near` and `behind` are kept for the offsets o and o + 1: reading them from
-// where they were just stored would take longer than all else.
+// first, so that what is behind an offset is known, and takes two offsets a turn. `near` and `behind` are the spans of the offsets
+// o and o + 1: reading them from where they were just stored would take longer than all else.
 pub fn fill_spans(tr: &[u8], spans: &mut [u16])
-    requires { ⌜ (length (now tr) ≤ maxLength) × (length (now tr) ≤ length (now spans)) ⌝ }
+    requires { ⌜ SpansRoom (now tr) (now spans) ⌝ }
     ensures { λ r. ⌜ Spans (now (tr .entry)) (now (spans .exit)) ⌝ }
 {
-    let n = tr.len();
-    let mut o = n;
+    let mut o = tr.len();
     let mut near = 0;
     let mut behind = 0;
-    while 0 < o {
-        o -= 1;
-        let far = span_at(tr[o], &spans[..n], o, behind);
-        spans[o] = far as u16;
-        behind = near;
-        near = far;
+    while 1 < o {
+        behind = fill_span(tr, spans, o - 1, behind);
+        near = fill_span(tr, spans, o - 2, near);
+        o -= 2;
+    }
+    if 0 < o {
+        fill_span(tr, spans, 0, behind);
     }
 }
 

@@ -1,35 +1,55 @@
--- `fill_spans` meets its contract. The invariant of its loop: from the loop's offset on the distances are filled, and those of the
+-- `fill_spans` meets its contract. The invariant of its loop: from the loop's offset on the spans are filled, and those of the
 -- first two are kept.
-use mathlib.Core.Path.{_≡_, refl, sym}
-use Prim.Native.Nat.{_+_, _<_}
 use native.Mathlib.Omega.{arith}
-use lib.ListN.{getD}
-use lib.Seq.{length-take-le}
-use borrow.Author.Needs.{needs}
-use Rattle.scanning.proofs.Spanning.{Filled, none-filled, turn-within, turn-short, turn-bounded, turn-behind, turn-near, turn-next, far-short, turn-filled, all-filled}
+use Rattle.scanning.proofs.Spanning.{Fills, none-filled, fill-asked, fill-next, all-filled}
 use Rattle.scanning.proofs.spans.fill_spans.Statement.{statement}
 use Rattle.scanning.proofs.spans.fill_spans.Tie as tie
 
 abbrev Inv-loop : tie.InvT-loop
-Inv-loop tr spans₀ n o₀ near₀ behind₀ spans o near behind =
-    Filled tr n o spans₀ spans × (o < n → near ≡ getD spans o 0) × (o + 1 < n → behind ≡ getD spans (o + 1) 0)
+Inv-loop tr spans₀ o₀ near₀ behind₀ spans o near behind = Fills tr spans₀ spans o near behind
 
 abbrev μ-loop : tie.MeasureT-loop
-μ-loop tr spans₀ n o₀ near₀ behind₀ spans o near behind = o
+μ-loop tr spans₀ o₀ near₀ behind₀ spans o near behind = o
 
--- the document's length is within the distances
-room : tie.Need-slice-reshare-prefix-span-at Inv-loop μ-loop
-room c = omega (arith, c .before .before .loop .inv .0 .long, c .before .before .before .before .before .pre .1)
+fill-span-requires : tie.Need-fill-span-requires Inv-loop μ-loop
+fill-span-requires c κs =
+    let turn = c .before in fill-asked (turn .before .loop .inv) (turn .before .before .before .before .pre) _ (omega (arith, turn .loop-test .taken))
 
-span-at-requires : tie.Need-span-at-requires Inv-loop μ-loop
-span-at-requires c κs =
-    let turn = c .before .before in let inv = turn .before .loop .inv in let more = turn .loop-test .taken in let enough = room (c .before) in
-    ((turn-within (inv .0) more enough, turn-short (inv .0) more enough (turn .before .before .before .before .pre .0), turn-bounded (inv .0) more enough), turn-behind (inv .0) more enough (inv .2))
+-- after the first of the two offsets
+fill-span-requires-2 : tie.Need-fill-span-requires-2 Inv-loop μ-loop
+fill-span-requires-2 c κs =
+    let first = c .before .before .before in
+    let turn = first .before .before in
+    let asked = turn .before .before .before .before .pre in
+    fill-asked (fill-next (turn .before .loop .inv) asked _ (omega (arith, turn .loop-test .taken)) (first .fill-span .ensures)) asked _ (omega (arith, turn .loop-test .taken))
 
 loop-again : tie.Need-loop-again Inv-loop μ-loop
 loop-again c =
-    let turn = c .before .before .before in let inv = turn .before .loop .inv in let more = turn .loop-test .taken in let enough = room (c .before .before) in
-    (turn-filled (inv .0) more enough refl (c .span-at .ensures), (λ less. turn-near (inv .0) more enough _), turn-next (inv .0) more enough _ (inv .1))
+    let second = c .before .before in
+    let first = second .before .before .before .before in
+    let turn = first .before .before in
+    let asked = turn .before .before .before .before .pre in
+    fill-next (fill-next (turn .before .loop .inv) asked _ (omega (arith, turn .loop-test .taken)) (first .fill-span .ensures)) asked _ (omega (arith, turn .loop-test .taken)) (second .fill-span2 .ensures)
+
+-- the one offset that is left
+fill-span-requires-3 : tie.Need-fill-span-requires-3 Inv-loop μ-loop
+fill-span-requires-3 c κs =
+    let test = c .before .before in
+    fill-asked (test .before .loop .inv) (test .before .before .before .before .pre) _ (omega (arith, c .before .if1 .taken, test .loop-test .left))
+
+-- all is filled with it
+same-length : tie.Need-same-length Inv-loop μ-loop
+same-length c =
+    let last = c .before .before in
+    let test = last .before .before .before in
+    fill-next (test .before .loop .inv) (test .before .before .before .before .pre) _ (omega (arith, last .before .before .if1 .taken, test .loop-test .left)) (last .fill-span3 .ensures) .long
+
+returns : tie.Need-returns Inv-loop μ-loop
+returns c =
+    let last = c .before .before in
+    let test = last .before .before .before in
+    let asked = test .before .before .before .before .pre in
+    all-filled (fill-next (test .before .loop .inv) asked _ (omega (arith, last .before .before .if1 .taken, test .loop-test .left)) (last .fill-span3 .ensures)) (omega arith) asked
 
 pub fill-spans-spec : {M : Type 1} → statement M
 fill-spans-spec =
@@ -37,16 +57,16 @@ fill-spans-spec =
     (tie.spec
     Inv-loop
     μ-loop
-    (λ c. (none-filled _ _, (λ less. absurd (omega arith)), (λ less. absurd (omega arith))))
-    (λ c. search needs)
-    (λ c. omega (arith, c .before .before .loop .inv .0 .low))
-    room
-    (λ c. sym (length-take-le _ _ (room (c .before))))
-    span-at-requires
-    (λ c. let turn = c .before .before .before in omega (arith, far-short (turn .before .loop .inv .0) (turn .loop-test .taken) (room (c .before .before)) (c .span-at .ensures) (turn .before .before .before .before .pre .0)))
-    (λ c. let loop = c .before .before .before .before in omega (arith, loop .loop .inv .0 .low, loop .before .before .before .pre .0))
-    (λ c. let loop = c .before .before .before .before in omega (arith, loop .loop .inv .0 .low, loop .loop .inv .0 .long, loop .before .before .before .pre .1))
-    (λ c. search needs)
+    (λ c. none-filled _ _ (c .before .before .pre .1))
+    (λ c. omega (arith, c .before .loop-test .taken))
+    fill-span-requires
+    (λ c. omega (arith, c .before .before .before .before .before .loop-test .taken))
+    fill-span-requires-2
+    (λ c. let test = c .before .before .before .before .before .before .before .before in omega (arith, test .loop-test .taken))
+    (λ c. let test = c .before .before .before .before .before .before .before .before in omega (arith, test .loop-test .taken))
     loop-again
-    (λ c. c .before .loop .inv .0 .long)
-    (λ c. let loop = c .before in all-filled (loop .loop .inv .0) (c .loop-test .left) refl (omega (arith, loop .loop .inv .0 .long, loop .before .before .before .pre .1)) (loop .before .before .before .pre .0)))
+    fill-span-requires-3
+    same-length
+    returns
+    (λ c. c .before .before .loop .inv .long)
+    (λ c. all-filled (c .before .before .loop .inv) (omega (arith, c .if1 .left)) (c .before .before .before .before .before .pre)))
