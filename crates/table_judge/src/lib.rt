@@ -19,11 +19,11 @@ fn judge_loaded(t: &[u8], table: &mut [u16; TABLE]) -> Judged
 {
     table_load::load(t, table);
     let all = types(table);
-    let operands = table_checks::operands::operands(t, all);
+    let operands = table_operands::operands::operands(t, all);
     if let Verdict::Fails(at) = operands {
         return Judged::Has(Fault::BadOperand(at));
     }
-    let repeats = table_checks::repeats::repeats(t);
+    let repeats = table_operands::repeats::repeats(t);
     if let Verdict::Fails(at) = repeats {
         return Judged::Has(Fault::RepeatedMember(at));
     }
@@ -45,14 +45,14 @@ pub fn judge(t: &[u8], table: &mut [u16; TABLE]) -> Judged
         return Judged::Has(Fault::TooLong);
     }
     // Where a table is right, one pass shows it; the single checks say which fails where.
-    if table_checks::formed::formed(t) {
+    if table_limits::formed::formed(t) {
         return judge_loaded(t, table);
     }
-    let form = table_checks::form::form(t);
+    let form = table_form::form::form(t);
     if let Verdict::Fails(at) = form {
         return Judged::Has(Fault::BadForm(at));
     }
-    let limits = table_checks::limits::limits(t);
+    let limits = table_limits::limits::limits(t);
     if let Verdict::Fails(at) = limits {
         return Judged::Has(Fault::OverLimit(at));
     }

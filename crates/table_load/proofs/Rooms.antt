@@ -6,8 +6,8 @@ use Prim.Native.Nat.{ℕ, _+_, _-_, _*_, _<_}
 use native.Mathlib.Nat.{zero-add}
 use native.Mathlib.Omega.{arith}
 use lib.ListN.{length, getD, set, length-set}
-use Rattle.table_checks.specs.declared.command.TableCommand.{TableCommand as Command}
-use Rattle.table_checks.specs.Read.{command}
+use Rattle.table_form.specs.declared.command.TableCommand.{TableCommand as Command}
+use Rattle.table_form.specs.Read.{command}
 use Rattle.model.specs.Definitions.Commands.{TableCommand, listType, member}
 use Rattle.loaded_table.specs.Loaded.{kindsOf, countsOf, section-kept, section-set}
 use Rattle.table_load.specs.Loading.{TableArrays, loadedIn, begun, joined, puts, TypeMayBegin, MemberMayJoin, TableRoom, TablePut}

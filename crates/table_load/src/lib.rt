@@ -12,16 +12,16 @@ use loaded_table::set_count;
 use loaded_table::set_kind;
 use loaded_table::set_member;
 use loaded_table::set_types;
-use table_checks::command::TableCommand;
-use table_checks::command::command_at;
-use table_checks::command::width;
+use table_form::command::TableCommand;
+use table_form::command::command_at;
+use table_form::command::width;
 ghost use mathlib.Core.Path.{_≡_};
 ghost use Prim.Native.Nat.{_+_, _≤_, _<_};
 ghost use lib.ListN.{length, getD, set};
 ghost use Rattle.loaded_table.specs.Loaded.{countsOf, countsStart, memberPlace, membersStart, tableSize};
 ghost use Rattle.model.specs.Definitions.Basics.{passes};
 ghost use Rattle.model.specs.Definitions.TableChecks.{tableForm, tableLimits, maxMembers, maxTypes};
-ghost use Rattle.table_checks.specs.Read.{command};
+ghost use Rattle.table_form.specs.Read.{command};
 ghost use Rattle.table_load.specs.Loading.{loadedIn, CountsCleared, TableRoom, TablePut, TableLoaded};
 
 // Stores that no type has members. The loop has stored it for the types below t.

@@ -4,7 +4,7 @@ use Prim.Native.Nat.{_+_, _-_}
 use native.Mathlib.Omega.{arith}
 use lib.ListN.{length}
 use denote.Ref.{now}
-use Rattle.table_checks.specs.Read.{command}
+use Rattle.table_form.specs.Read.{command}
 use Rattle.table_load.specs.Loading.{loadedIn}
 use Rattle.table_load.proofs.Turns.{TableLoading, TableTurn, loading-starts, loading-few, turn, turned, loading-ends}
 use Rattle.table_load.proofs.load.Statement.{statement}

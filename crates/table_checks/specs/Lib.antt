@@ -1,4 +1,0 @@
-pub mod Read
-pub mod Forms
-pub mod Limits
-pub mod Repeats
