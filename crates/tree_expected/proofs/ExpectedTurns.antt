@@ -18,11 +18,12 @@ use Rattle.model.specs.Definitions.TreeChecks.{noRoot, treeStep, expectStep, tr
 use Rattle.model.specs.Theorems.Runs.{passes-fails}
 use Rattle.model.specs.Theorems.Reading.{rawAt, tree-reads, left-stops, left-goes, left-ends, no-tree-commands}
 use Rattle.loaded_table.specs.Loaded.{tableBy, typesIn, kindsOf, countsOf, membersIn, kind-of, Bounded}
-use Rattle.tree_checks.specs.Machines.{InForm, InLevels}
-use Rattle.tree_checks.specs.Commands.{ReadsCommand}
-use Rattle.tree_checks.proofs.FormTurns.{form-empty, form-first, form-first-stops, form-short, form-opens, form-character, form-closes, form-end-inside, form-alien-inside, form-root-stops, form-root-end, form-more}
-use Rattle.tree_checks.proofs.LevelTurns.{levels-start, levels-opens, levels-deep, levels-character, levels-closed}
-use Rattle.tree_checks.proofs.OperandTurns.{operands-start, operands-opens, operands-no-type, operands-character, operands-not-allowed, operands-closes}
+use Rattle.tree_form.specs.Form.{InForm}
+use Rattle.tree_levels.specs.Levels.{InLevels}
+use Rattle.tree_form.specs.Commands.{ReadsCommand}
+use Rattle.tree_form.proofs.FormTurns.{form-empty, form-first, form-first-stops, form-short, form-opens, form-character, form-closes, form-end-inside, form-alien-inside, form-root-stops, form-root-end, form-more}
+use Rattle.tree_levels.proofs.LevelTurns.{levels-start, levels-opens, levels-deep, levels-character, levels-closed}
+use Rattle.tree_operands.proofs.OperandTurns.{operands-start, operands-opens, operands-no-type, operands-character, operands-not-allowed, operands-closes}
 use Rattle.tree_expected.specs.Expected.{restOf, TypeReadable, MayOpen, MayHold, Closes, Unfit, Refuses, rests, expectedLeft, Passed, InRoot, Inside, Outside}
 use Rattle.tree_expected.proofs.Rests.{rest-none}
 

@@ -11,8 +11,10 @@ use Rattle.model.specs.Definitions.Conformance.{admits, after, complete}
 use Rattle.model.specs.Definitions.Table.{Kind, text, empty, sequence, choice, list, Table, isText}
 use Rattle.model.specs.Definitions.TreeChecks.{treeForm, treeLevels, treeOperands, expectStep, treeExpected}
 use Rattle.loaded_table.specs.Loaded.{tableBy, typesIn, kindsOf, countsOf, membersIn, Bounded}
-use Rattle.tree_checks.specs.Commands.{ReadsCommand}
-use Rattle.tree_checks.specs.Machines.{InForm, InLevels, InOperands}
+use Rattle.tree_form.specs.Commands.{ReadsCommand}
+use Rattle.tree_form.specs.Form.{InForm}
+use Rattle.tree_levels.specs.Levels.{InLevels}
+use Rattle.tree_operands.specs.Operands.{InOperands}
 use Rattle.tree_expected.specs.declared.Turn.{Turn}
 use Rattle.tree_expected.specs.declared.Turn.the-variants.{Opened, Character, Closed, Refused}
 

@@ -16,7 +16,7 @@ use Rattle.answers.specs.declared.Judged as answers-judged
 use Rattle.answers.specs.declared.Judged.the-variants.{Sound}
 use Rattle.answers.specs.Answers.{verdict, judged}
 use Rattle.loaded_table.specs.Loaded.{tableBy, typesIn, length-of, Bounded}
-use Rattle.tree_checks.proofs.Elements.{opens-counted}
+use Rattle.tree_levels.proofs.Elements.{opens-counted}
 use Rattle.tree_expected.specs.Expected.{Passed}
 use Rattle.tree_pass.specs.Passing.{Accepted}
 use Rattle.tree_judge.specs.Judging.{judgedBefore, TreeJudged}

@@ -9,12 +9,12 @@ use Rattle.model.specs.Definitions.Commands.{TreeCommand, opens, treeCommand}
 use Rattle.model.specs.Definitions.Conformance.{allowed}
 use Rattle.model.specs.Theorems.Reading.{rawAt, tree-reads}
 use Rattle.loaded_table.specs.Loaded.{typesIn}
-use Rattle.tree_checks.specs.Commands.{ReadsCommand}
-use Rattle.tree_checks.proofs.Commands.{opens-at}
-use Rattle.tree_checks.proofs.Elements.{Counting, counting-start, counting-opens, counting-character, counting-closes, counting-treeEnd, counting-end}
-use Rattle.tree_checks.proofs.FormTurns.{form-root-end, form-ended}
-use Rattle.tree_checks.proofs.LevelTurns.{levels-treeEnd, levels-end}
-use Rattle.tree_checks.proofs.OperandTurns.{operands-treeEnd, operands-end}
+use Rattle.tree_form.specs.Commands.{ReadsCommand}
+use Rattle.tree_form.proofs.Commands.{opens-at}
+use Rattle.tree_levels.proofs.Elements.{Counting, counting-start, counting-opens, counting-character, counting-closes, counting-treeEnd, counting-end}
+use Rattle.tree_form.proofs.FormTurns.{form-root-end, form-ended}
+use Rattle.tree_levels.proofs.LevelTurns.{levels-treeEnd, levels-end}
+use Rattle.tree_operands.proofs.OperandTurns.{operands-treeEnd, operands-end}
 use Rattle.tree_expected.specs.Expected.{MayOpen, MayHold, Closes, Inside, Outside}
 use Rattle.tree_expected.proofs.ExpectedTurns.{inside-root, inside-readable, inside-opens, inside-character, inside-closes, outside-closes, outside-ends}
 use Rattle.tree_pass.specs.Passing.{Begun, RootEntered, Accepted, Innermost, Ends}

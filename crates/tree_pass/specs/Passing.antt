@@ -9,8 +9,8 @@ use Rattle.model.specs.Definitions.Commands.{opens, treeEnd, treeCommands}
 use Rattle.model.specs.Definitions.Conformance.{allowed}
 use Rattle.model.specs.Definitions.TreeChecks.{treeForm, treeLevels, treeOperands, treeExpected}
 use Rattle.loaded_table.specs.Loaded.{tableBy, typesIn, Bounded}
-use Rattle.tree_checks.specs.Commands.{ReadsCommand}
-use Rattle.tree_checks.specs.Elements.{opensIn}
+use Rattle.tree_form.specs.Commands.{ReadsCommand}
+use Rattle.tree_levels.specs.Elements.{opensIn}
 use Rattle.tree_expected.specs.Expected.{TypeReadable, Opening, SaysText, MayOpen, MayHold, Closes}
 use Rattle.tree_expected.specs.declared.Turn.{Turn}
 use Rattle.tree_expected.specs.declared.Turn.the-variants.{Opened, Character, Closed, Refused}

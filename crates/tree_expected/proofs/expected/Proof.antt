@@ -2,9 +2,9 @@
 use mathlib.Core.Path.{_≡_, refl}
 use borrow.Author.Needs.{needs}
 use Rattle.model.specs.Definitions.TreeChecks.{treeStep}
-use Rattle.tree_checks.specs.declared.command.TreeCommand.{TreeCommand}
-use Rattle.tree_checks.specs.Commands.{command, ReadsCommand}
-use Rattle.tree_checks.proofs.Commands.{met}
+use Rattle.tree_form.specs.declared.command.TreeCommand.{TreeCommand}
+use Rattle.tree_form.specs.Commands.{command, ReadsCommand}
+use Rattle.tree_form.proofs.Commands.{met}
 use Rattle.tree_expected.proofs.ExpectedTurns.{passed-nonempty, passed-stops, refused-root, root-begins}
 use Rattle.tree_expected.proofs.expected.Statement.{statement}
 use Rattle.tree_expected.proofs.expected.Tie as tie

@@ -2,9 +2,9 @@
 use mathlib.Core.Path.{_≡_, sym, _∙_}
 use native.Mathlib.Omega.{arith}
 use borrow.Author.Needs.{needs}
-use Rattle.tree_checks.specs.declared.command.TreeCommand.{TreeCommand}
-use Rattle.tree_checks.specs.Commands.{command, ReadsCommand}
-use Rattle.tree_checks.proofs.Commands.{met}
+use Rattle.tree_form.specs.declared.command.TreeCommand.{TreeCommand}
+use Rattle.tree_form.specs.Commands.{command, ReadsCommand}
+use Rattle.tree_form.proofs.Commands.{met}
 use Rattle.tree_expected.proofs.turn_at.Statement.{statement}
 use Rattle.tree_expected.proofs.turn_at.Tie as tie
 

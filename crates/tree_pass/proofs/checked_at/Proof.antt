@@ -2,7 +2,7 @@
 use mathlib.Core.Path.{sym, _∙_}
 use native.Mathlib.Omega.{arith}
 use borrow.Author.Needs.{needs}
-use Rattle.tree_checks.proofs.Commands.{opens-at, character-at, closes-at}
+use Rattle.tree_form.proofs.Commands.{opens-at, character-at, closes-at}
 use Rattle.tree_pass.proofs.Turns.{stands}
 use Rattle.tree_pass.proofs.checked_at.Statement.{statement}
 use Rattle.tree_pass.proofs.checked_at.Tie as tie

@@ -2,7 +2,7 @@
 use mathlib.Core.Path.{refl}
 use native.Mathlib.Omega.{arith}
 use borrow.Author.Needs.{needs}
-use Rattle.tree_checks.proofs.Commands.{end-at}
+use Rattle.tree_form.proofs.Commands.{end-at}
 use Rattle.tree_pass.proofs.Turns.{stands}
 use Rattle.tree_pass.proofs.ended.Statement.{statement}
 use Rattle.tree_pass.proofs.ended.Tie as tie

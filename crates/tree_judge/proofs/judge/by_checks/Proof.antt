@@ -5,7 +5,7 @@ use borrow.Author.Needs.{needs}
 use Rattle.answers.specs.declared.Judged.{Judged}
 use Rattle.answers.specs.Answers.{judged}
 use Rattle.loaded_table.specs.Loaded.{tableBy}
-use Rattle.tree_checks.proofs.Elements.{opens-counted}
+use Rattle.tree_levels.proofs.Elements.{opens-counted}
 use Rattle.tree_judge.specs.Judging.{judgedBefore}
 use Rattle.tree_judge.proofs.Judging.{told-verdict, told-judged, by-types, fault-before, fault-not-sound, passed-before, judged-unexpected, judged-expected}
 use Rattle.tree_judge.proofs.judge.by_checks.Statement.{statement}

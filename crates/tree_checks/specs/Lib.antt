@@ -1,3 +1,0 @@
-pub mod Commands
-pub mod Machines
-pub mod Elements

@@ -1,0 +1,2 @@
+pub mod LevelTurns
+pub mod Elements
