@@ -8,8 +8,8 @@ use native.Mathlib.Omega.{arith}
 use lib.ListN.{length, getD, set, length-set}
 use Rattle.loaded_table.specs.Loaded.{section-kept, section-set}
 use Rattle.loaded_embedding.specs.Loaded.{lengthsOf}
-use Rattle.embedding_checks.specs.declared.command.EmbeddingCommand.{EmbeddingCommand}
-use Rattle.embedding_checks.specs.Commands.{command}
+use Rattle.embedding_form.specs.declared.command.EmbeddingCommand.{EmbeddingCommand}
+use Rattle.embedding_form.specs.Commands.{command}
 use Rattle.embedding_load.specs.Loading.{MapArrays, loadedIn, mapped, begun, stepped, puts, PathMayBegin, StepMayFollow, MapRoom}
 
 -- there is room for a command, known as another term

@@ -11,9 +11,9 @@ use lib.ListN.{length, take, drop, getD, set, drop-of-length-le}
 use lib.Seq.{getD-set-same, set-getD, take-length}
 use lib.Dec.{ltb}
 use borrow.Author.Tests.{ltb-true}
-use Rattle.embedding_checks.proofs.Machines.{form-stops, ended-stops, count-stops}
-use Rattle.embedding_checks.proofs.Forms.{step-on, step-off}
-use Rattle.embedding_checks.proofs.Turns.{some-width}
+use Rattle.embedding_form.proofs.Machines.{form-stops, ended-stops, count-stops}
+use Rattle.embedding_form.proofs.Forms.{step-on, step-off}
+use Rattle.embedding_form.proofs.Turns.{some-width}
 use Rattle.loaded_embedding.specs.Loaded.{mapsFrom, embeddingIn, Cleared}
 use Rattle.model.specs.Definitions.Basics.{passes, Next, goes, stops, run}
 use Rattle.model.specs.Definitions.Commands.{EmbeddingCommand, mapsTo, path, step, embeddingEnd, alienE, embeddingCommand, embeddingCommands, embeddingWidth}

@@ -2,9 +2,9 @@
 // says what a command does to the array, and proofs/ shows that what is loaded, continued by what the rest of the document
 // says, is the document's embedding.
 use codes::MAX_MEMBERS;
-use embedding_checks::command::EmbeddingCommand;
-use embedding_checks::command::command_at;
-use embedding_checks::command::width;
+use embedding_form::command::EmbeddingCommand;
+use embedding_form::command::command_at;
+use embedding_form::command::width;
 use loaded_embedding::MAP;
 use loaded_embedding::set_start;
 use loaded_embedding::set_steps;
@@ -16,7 +16,7 @@ ghost use Prim.Native.Nat.{_≤_};
 ghost use lib.ListN.{length};
 ghost use Rattle.loaded_table.specs.Loaded.{tableBy, Bounded};
 ghost use Rattle.loaded_embedding.specs.Loaded.{Cleared};
-ghost use Rattle.embedding_checks.specs.Commands.{command};
+ghost use Rattle.embedding_form.specs.Commands.{command};
 ghost use Rattle.model.specs.Definitions.Basics.{passes};
 ghost use Rattle.model.specs.Definitions.EmbeddingChecks.{embeddingForm, embeddingLimits};
 ghost use Rattle.embedding_load.specs.Loading.{loadedAt, MapRoom, MapPut, EmbeddingLoaded};

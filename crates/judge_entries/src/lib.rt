@@ -63,7 +63,7 @@ pub fn judge_embedding(source: &[u8], target: &[u8], embedding: &[u8]) -> Answer
     match verdict {
         Verdict::Has(f, document) => faulting(f, document),
         Verdict::Sound => {
-            let edges = embedding_checks::count::edge_count(&from);
+            let edges = embedding_form::count::edge_count(&from);
             accepting(edges as u64, 0)
         }
     }

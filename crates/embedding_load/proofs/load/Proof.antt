@@ -5,7 +5,7 @@ use native.Mathlib.Omega.{arith}
 use lib.ListN.{length}
 use denote.Ref.{now}
 use Rattle.loaded_table.specs.Loaded.{tableBy}
-use Rattle.embedding_checks.specs.Commands.{command}
+use Rattle.embedding_form.specs.Commands.{command}
 use Rattle.embedding_load.specs.Loading.{loadedAt}
 use Rattle.embedding_load.proofs.Sources.{source-in}
 use Rattle.embedding_load.proofs.Turns.{EmbeddingLoading, EmbeddingTurn, loading-starts, turn, turned, loading-ends}

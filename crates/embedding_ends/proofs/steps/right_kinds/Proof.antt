@@ -3,7 +3,7 @@ use mathlib.Core.Path.{_≡_}
 use mathlib.Core.Bool.{false}
 use Prim.Native.Nat.{ℕ}
 use Rattle.embedding_ends.specs.Kinds.{rightBy}
-use Rattle.embedding_checks.proofs.Types.{past-three}
+use Rattle.embedding_form.proofs.Types.{past-three}
 use borrow.Author.Needs.{needs}
 use Rattle.embedding_ends.proofs.steps.right_kinds.Statement.{statement}
 use Rattle.embedding_ends.proofs.steps.right_kinds.Tie as tie

@@ -4,7 +4,7 @@ use mathlib.Core.Bool.{true}
 use Rattle.embedding_ends.specs.declared.steps.Left.{Left}
 use Prim.Native.Nat.{ℕ}
 use Rattle.embedding_ends.specs.Kinds.{withKind}
-use Rattle.embedding_checks.proofs.Types.{past-three}
+use Rattle.embedding_form.proofs.Types.{past-three}
 use borrow.Author.Needs.{needs}
 use Rattle.embedding_ends.proofs.steps.with_kind.Statement.{statement}
 use Rattle.embedding_ends.proofs.steps.with_kind.Tie as tie

@@ -1,7 +1,0 @@
-pub mod Bytes
-pub mod Turns
-pub mod Machines
-pub mod Types
-pub mod Forms
-pub mod Paths
-pub mod Counts
