@@ -14,7 +14,7 @@ use Rattle.loaded_table.specs.Loaded.{tableBy}
 use Rattle.rows.specs.Rows.{Rows, rowAt, toOf, sourceRow, itemRow}
 use Rattle.scanning.specs.Scanning.{ContentAt}
 use Rattle.loaded_setting.specs.Ready.{settingIn, Ready}
-use Rattle.filling.specs.Contents.{NumberedChild}
+use Rattle.filling.specs.Contents.{NumberedChild, FirstThere}
 
 -- ---- what is prepared
 
@@ -63,6 +63,12 @@ pub record ChildAsked (source pool places tr : List ℕ) (i : ℕ) (bs : List �
   pub child : NumberedChild (tableBy source) around i type inside
   pub is-type : type < length (tableBy source)
   pub is : bs ≡ writes (preparedSetting prepared) type inside
+
+-- what the image of the element holds that opens at offset o of the document tr
+pub record ElementAsked (source pool places tr : List ℕ) (o : ℕ) (bs : List ℕ) : Type 0 where
+  pub prepared : Prepared source pool places
+  pub first : FirstThere (tableBy source) tr o
+  pub is : bs ≡ writes (preparedSetting prepared) (first .type) (first .inside)
 
 -- a source list whose content begins the document tr, and the number of its item's row
 pub record ListOf (source pool places : List ℕ) (r : ℕ) : Type 0 where

@@ -142,9 +142,22 @@ pub record ChildThere (tr : List ℕ) (i : ℕ) : Type 0 where
   pub rest : Content
   pub is : afterFirst i around ≡ elem type inside rest
 
--- it opens at offset o
-abbrev pub FoundAt : List ℕ → ℕ → ℕ → Type 0
-FoundAt tr i o = (c : ChildThere tr i) → ElementAt tr o (c .type) (c .inside)
+-- what is left of this content behind its first i elements begins at offset o
+pub record Behind (tr : List ℕ) (i o : ℕ) : Type 0 where
+  pub begins : (k : Content) → ContentAt tr 0 k → ContentAt tr o (afterFirst i k)
+
+-- behind no element all of it is left
+pub behind-none : {tr : List ℕ} → Behind tr 0 0
+unfolding afterFirst
+behind-none = record { begins = λ k there. there }
+
+-- the same by other names
+pub behind-same : {tr : List ℕ} {i j o p : ℕ} → j ≡ i → p ≡ o → Behind tr i o → Behind tr j p
+behind-same is-number is-offset b = rw (is-number, is-offset) b
+
+-- element number i opens at offset o
+pub element-behind : {tr : List ℕ} {i o : ℕ} (c : ChildThere tr i) → Behind tr i o → ElementAt tr o (c .type) (c .inside)
+element-behind {tr} {i} {o} c b = element-at (subst (ContentAt tr o) (c .is) (b .begins (c .around) (c .there)))
 
 -- conforming content at an offset
 pub record Conforms (tr : List ℕ) (o : ℕ) : Type 0 where

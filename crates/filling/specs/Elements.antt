@@ -17,8 +17,8 @@ use Rattle.scanning.specs.Laws.{content-within}
 use Rattle.model.specs.Theorems.TemplateShapes.{HoleOfItem}
 use Rattle.model.specs.Theorems.Templates.{writes-again}
 use Rattle.filling.specs.Model.{item-symbols}
-use Rattle.filling.specs.Contents.{partFrom, at-part, inside-part, ChildThere, FoundAt, FirstThere, RowIs}
-use Rattle.filling.specs.Asked.{Prepared, preparedSetting, ChildAsked, ListOf, itemBytes, own-row, item-row, RowAsked}
+use Rattle.filling.specs.Contents.{partFrom, at-part, inside-part, ChildThere, Behind, element-behind, RowIs}
+use Rattle.filling.specs.Asked.{Prepared, preparedSetting, ChildAsked, ElementAsked, ListOf, itemBytes, own-row, item-row, RowAsked}
 use Rattle.filling.specs.RowNumbers.{first-chosen}
 use Rattle.filling.specs.Turns.{filled-same}
 
@@ -85,21 +85,26 @@ item-asked {source} {pool} {places} {r} l {tr} {o} {inner} {rest} there holds =
 
 -- ---- finding a child
 
--- the child, for `element_at`
+-- the child, for `element_from`
 abbrev pub child-sought : {source pool places tr : List ℕ} {i : ℕ} {bs : List ℕ} → ChildAsked source pool places tr i bs → ChildThere tr i
 child-sought a = record { around = a .around; there = a .there; type = a .type; inside = a .inside; rest = a .child .rest; is = a .child .is }
 
--- the child that was found, for `row_of`
-abbrev pub child-first : {source pool places tr : List ℕ} {i : ℕ} {bs : List ℕ} (a : ChildAsked source pool places tr i bs) {o : ℕ} → FoundAt tr i o → FirstThere (tableBy source) tr o
-child-first a found = record { type = a .type; inside = a .inside; element = found (child-sought a); is-type = a .is-type; holds = a .child .holds }
+-- the child that was found at offset o
+pub child-found : {source pool places tr : List ℕ} {i : ℕ} {bs : List ℕ} → ChildAsked source pool places tr i bs → {o : ℕ} → Behind tr i o → ElementAsked source pool places tr o bs
+child-found a found =
+    record {
+      prepared = a .prepared;
+      first = record { type = a .type; inside = a .inside; element = element-behind (child-sought a) found; is-type = a .is-type; holds = a .child .holds };
+      is = a .is;
+    }
 
--- what it holds begins within the document
-pub child-within : {source pool places tr : List ℕ} {i : ℕ} {bs : List ℕ} (a : ChildAsked source pool places tr i bs) {o : ℕ} → FoundAt tr i o → o + 2 < length tr
-child-within a found = omega (arith, content-within (found (child-sought a) .within))
+module _ {source pool places tr : List ℕ} {o : ℕ} {bs : List ℕ} (a : ElementAsked source pool places tr o bs) where
+  -- what it holds begins within the document
+  pub element-within : o + 2 < length tr
+  element-within = omega (arith, content-within (a .first .element .within))
 
--- and its row is asked for
-pub child-row : {source pool places tr : List ℕ} {i : ℕ} {bs : List ℕ} (a : ChildAsked source pool places tr i bs) {o : ℕ} → FoundAt tr i o → {r : ℕ}
-    → RowIs (tableBy source) tr o r → RowAsked source pool places (partFrom tr (o + 2)) r bs
-child-row {source} {pool} {places} {tr} a {o} found {r} row-is =
-    subst (RowAsked source pool places (partFrom tr (o + 2)) r) (sym (a .is))
-    (element-row (a .prepared) (a .is-type) (a .child .holds) (inside-part o (found (child-sought a) .within)) (row-is (child-first a found)))
+  -- and its row is asked for
+  pub child-row : {r : ℕ} → RowIs (tableBy source) tr o r → RowAsked source pool places (partFrom tr (o + 2)) r bs
+  child-row {r} row-is =
+      subst (RowAsked source pool places (partFrom tr (o + 2)) r) (sym (a .is))
+      (element-row (a .prepared) (a .first .is-type) (a .first .holds) (inside-part o (a .first .element .within)) (row-is (a .first)))

@@ -8,10 +8,11 @@ use lib.ListN.{length, getD}
 use Rattle.model.specs.Definitions.Content.{Content, bytes}
 use Rattle.rows.specs.Rows.{fromOf, toOf}
 use Rattle.scanning.specs.Scanning.{ContentAt}
-use Rattle.filling.specs.Contents.{partFrom}
-use Rattle.filling.specs.Asked.{SomeAsked, FillerAsked, PlainAsked, ChildAsked, ItemsAsked, itemBytes, RowAsked}
+use Rattle.filling.specs.Contents.{partFrom, ChildThere, Behind}
+use Rattle.filling.specs.Asked.{SomeAsked, FillerAsked, PlainAsked, ChildAsked, ElementAsked, ItemsAsked, itemBytes, RowAsked}
 use Rattle.filling.specs.FillerRows.{fillerLeft, filler-ends, filler-in, fillerSymbol, filler-inner, filler-more}
 use Rattle.filling.specs.Turns.{row-within, rowLeft, row-starts, row-ends, rowSymbol, row-more, row-plain, row-child, row-items}
+use Rattle.filling.specs.Elements.{child-sought, child-found}
 use Rattle.filling.specs.Items.{Remains, remains-all, remains-within, remains-none, OneItem, one-item-left, item-bytes, item-there, item-row-asked, remains-less}
 
 -- what a loop knows of the whole and of the rest
@@ -110,6 +111,10 @@ module _ {source pool places tr : List ℕ} {r to i : ℕ} {Known : Knowing} (g 
       pub row-symbol-there : i < length pool
       row-symbol-there = omega (arith, g .ends, row-within a)
 
+      -- the child that it stands for is there
+      pub row-sought : {n : ℕ} → (n ≡ x - 128) × (128 ≤ x) × (x < 144) → ChildThere tr n
+      row-sought w = child-sought (symbol-child w a)
+
       module _ {Room : List ℕ → Type 0} (s : Roomy (Known bs) Room) where
         symbol-room : Room (symbol a)
         symbol-room = s .room (g .known bs a) (symbol a) (rowLeft a (i + 1)) (row-more a i (g .low) row-less)
@@ -118,8 +123,8 @@ module _ {source pool places tr : List ℕ} {r to i : ℕ} {Known : Knowing} (g 
         pub asks-items : x ≡ 145 → SomeAsked (ItemsAsked source pool places tr (r + 16)) Room
         asks-items e = record { bytes = symbol a; asked = row-items a i (g .low) row-less e; room = symbol-room }
 
-        pub asks-child : {n : ℕ} → (n ≡ x - 128) × (128 ≤ x) × (x < 144) → SomeAsked (ChildAsked source pool places tr n) Room
-        asks-child w = record { bytes = symbol a; asked = symbol-child w a; room = symbol-room }
+        pub asks-child : {n o : ℕ} → (n ≡ x - 128) × (128 ≤ x) × (x < 144) → Behind tr n o → SomeAsked (ElementAsked source pool places tr o) Room
+        asks-child w found = record { bytes = symbol a; asked = child-found (symbol-child w a) found; room = symbol-room }
 
         pub asks-plain : (128 ≤ x → x < 144 → ⊥) → (x ≡ 145 → ⊥) → SomeAsked (PlainAsked pool places tr x) Room
         asks-plain no-child no-items = record { bytes = symbol a; asked = row-plain a i (g .low) row-less no-child no-items; room = symbol-room }
@@ -133,9 +138,9 @@ module _ {source pool places tr : List ℕ} {r to i : ℕ} {Known : Knowing} (g 
       unfolding SymbolDone
       items-done e w bs a = w (symbol a) (row-items a i (g .low) row-less e)
 
-      pub child-done : {n : ℕ} → (n ≡ x - 128) × (128 ≤ x) × (x < 144) → ((bs : List ℕ) → ChildAsked source pool places tr n bs → Done bs) → SymbolDone Done
+      pub child-done : {n o : ℕ} → (n ≡ x - 128) × (128 ≤ x) × (x < 144) → Behind tr n o → ((bs : List ℕ) → ElementAsked source pool places tr o bs → Done bs) → SymbolDone Done
       unfolding SymbolDone
-      child-done e w bs a = w (symbol a) (symbol-child e a)
+      child-done e found w bs a = w (symbol a) (child-found (symbol-child e a) found)
 
       pub plain-done : (128 ≤ x → x < 144 → ⊥) → (x ≡ 145 → ⊥) → ((bs : List ℕ) → PlainAsked pool places tr x bs → Done bs) → SymbolDone Done
       unfolding SymbolDone

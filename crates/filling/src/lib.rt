@@ -7,8 +7,8 @@ ghost use Rattle.model.specs.Definitions.Templates.{firstIn};
 ghost use Rattle.loaded_table.specs.Loaded.{Bounded, tableBy};
 ghost use Rattle.scanning.specs.Spanning.{Spans};
 ghost use Rattle.writing.specs.Writing.{Writes};
-ghost use Rattle.filling.specs.Contents.{ChildThere, FoundAt, Conforms, FirstThere, RowIs};
-ghost use Rattle.filling.specs.Asked.{ImageFits, FillerAsked, PlainAsked, ChildAsked, ItemsAsked, RowAsked, ImageAsked};
+ghost use Rattle.filling.specs.Contents.{ChildThere, Behind, Conforms, FirstThere, RowIs};
+ghost use Rattle.filling.specs.Asked.{ImageFits, FillerAsked, PlainAsked, ElementAsked, ItemsAsked, RowAsked, ImageAsked};
 ghost use Rattle.model.specs.Definitions.TableChecks.{maxMembers};
 use codes::MAX_MEMBERS;
 use codes::OPENS;
@@ -30,14 +30,20 @@ pub fn wide(x: u8) -> usize
     x as usize
 }
 
-// The offset of element number i of the content at the start of tr. The loop passes over one element a turn.
-pub fn element_at<'a>(tr: &'a [u8], sp: &'a [u16], i: usize) -> usize
+// The offset of element number i of the content at the start of tr, where element number `seen` stands at `near`. The loop passes
+// over one element a turn.
+pub fn element_from<'a>(tr: &'a [u8], sp: &'a [u16], i: usize, seen: usize, near: usize) -> usize
     requires spans { ⌜ Spans (now tr) (now sp) ⌝ }
     requires content { ⌜ ChildThere (now tr) i ⌝ }
-    ensures { λ r. ⌜ FoundAt (now (tr .entry)) i r ⌝ }
+    requires near { ⌜ Behind (now tr) seen near ⌝ }
+    ensures { λ r. ⌜ Behind (now (tr .entry)) i r ⌝ }
 {
     let mut o: usize = 0;
     let mut left = i;
+    if seen <= i {
+        o = near;
+        left = i - seen;
+    }
     while 0 < left {
         let close = close_of(tr, sp, o + 2);
         o = close + 1;
@@ -141,7 +147,7 @@ pub fn child_of(x: u8) -> usize
     MAX_MEMBERS
 }
 
-// Writes row r of the source content at the start of tr: what each of its symbols stands for.
+// Writes row r of the source content at the start of tr: what each of its symbols stands for. Child number `seen` stands at `near`.
 fn run<'a>(
     source: &'a [u16; TABLE],
     pool: &'a [u8],
@@ -159,13 +165,17 @@ fn run<'a>(
     let to = rows::to(places, r);
     let mut i = rows::from(places, r);
     let mut next = at;
+    let mut seen: usize = 0;
+    let mut near: usize = 0;
     while i < to {
         let x = pool[i];
         let number = child_of(x);
         if x == ITEMS {
             next = items(source, pool, places, tr, sp, r + MAX_MEMBERS, out, next);
         } else if number < MAX_MEMBERS {
-            next = child(source, pool, places, tr, sp, number, out, next);
+            near = element_from(tr, sp, number, seen, near);
+            seen = number;
+            next = child(source, pool, places, tr, sp, near, out, next);
         } else {
             next = plain(pool, places, tr, sp, x, out, next);
         }
@@ -174,22 +184,21 @@ fn run<'a>(
     next
 }
 
-// Writes what the image of child i holds, of the source content at the start of tr.
+// Writes what the image of the source element that opens at offset o holds.
 fn child<'a>(
     source: &'a [u16; TABLE],
     pool: &'a [u8],
     places: &'a [u32],
     tr: &'a [u8],
     sp: &'a [u16],
-    i: usize,
+    o: usize,
     out: &mut [u8],
     at: usize,
 ) -> usize
     requires spans { ⌜ Spans (now tr) (now sp) ⌝ }
-    requires task { ⌜ ImageFits (ChildAsked (now source) (now pool) (now places) (now tr) i) at (length (now out)) ⌝ }
-    ensures { λ r. ⌜ ((bs : List ℕ) → ChildAsked (now (source .entry)) (now (pool .entry)) (now (places .entry)) (now (tr .entry)) i bs → Writes (now (out .entry)) (now (out .exit)) at bs r) ⌝ }
+    requires task { ⌜ ImageFits (ElementAsked (now source) (now pool) (now places) (now tr) o) at (length (now out)) ⌝ }
+    ensures { λ r. ⌜ ((bs : List ℕ) → ElementAsked (now (source .entry)) (now (pool .entry)) (now (places .entry)) (now (tr .entry)) o bs → Writes (now (out .entry)) (now (out .exit)) at bs r) ⌝ }
 {
-    let o = element_at(tr, sp, i);
     let row = row_of(source, tr, o);
     let inside = o + 2;
     run(

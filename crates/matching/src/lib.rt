@@ -6,14 +6,14 @@ ghost use mathlib.Core.Logic.{_↔_};
 ghost use Prim.Native.Nat.{ℕ, _≤_};
 ghost use lib.ListN.{length, take, drop};
 ghost use Rattle.scanning.specs.Spanning.{Spans};
-ghost use Rattle.filling.specs.Asked.{FillerAsked, PlainAsked, ChildAsked, ItemsAsked, RowAsked, ImageAsked};
+ghost use Rattle.filling.specs.Asked.{FillerAsked, PlainAsked, ElementAsked, ItemsAsked, RowAsked, ImageAsked};
 ghost use Rattle.matching.specs.Same.{SameBytes, Compares};
 use codes::CLOSES;
 use codes::MAX_MEMBERS;
 use codes::OPENS;
 use codes::TREE_END;
 use filling::child_of;
-use filling::element_at;
+use filling::element_from;
 use filling::row_of;
 use filling::wide;
 use loaded_table::TABLE;
@@ -151,7 +151,7 @@ fn plain<'a>(
     same_byte(doc, at, CLOSES)
 }
 
-// Compares row r of the source content at the start of tr: what each of its symbols stands for.
+// Compares row r of the source content at the start of tr: what each of its symbols stands for. Child number `seen` stands at `near`.
 fn run<'a>(
     source: &'a [u16; TABLE],
     pool: &'a [u8],
@@ -169,13 +169,17 @@ fn run<'a>(
     let to = rows::to(places, r);
     let mut i = rows::from(places, r);
     let mut next = at;
+    let mut seen: usize = 0;
+    let mut near: usize = 0;
     while i < to {
         let x = pool[i];
         let number = child_of(x);
         let one = if x == ITEMS {
             items(source, pool, places, tr, sp, r + MAX_MEMBERS, doc, next)
         } else if number < MAX_MEMBERS {
-            child(source, pool, places, tr, sp, number, doc, next)
+            near = element_from(tr, sp, number, seen, near);
+            seen = number;
+            child(source, pool, places, tr, sp, near, doc, next)
         } else {
             plain(pool, places, tr, sp, x, doc, next)
         };
@@ -191,22 +195,21 @@ fn run<'a>(
     }
 }
 
-// Compares what the image of child i holds, of the source content at the start of tr.
+// Compares what the image of the source element that opens at offset o holds.
 fn child<'a>(
     source: &'a [u16; TABLE],
     pool: &'a [u8],
     places: &'a [u32],
     tr: &'a [u8],
     sp: &'a [u16],
-    i: usize,
+    o: usize,
     doc: &'a [u8],
     at: usize,
 ) -> Match
     requires spans { ⌜ Spans (now tr) (now sp) ⌝ }
-    requires task { ⌜ Compares (ChildAsked (now source) (now pool) (now places) (now tr) i) at (length (now doc)) ⌝ }
-    ensures { λ r. ⌜ ((bs : List ℕ) → ChildAsked (now (source .entry)) (now (pool .entry)) (now (places .entry)) (now (tr .entry)) i bs → SameBytes (now (doc .entry)) at bs (r .same) (r .at)) ⌝ }
+    requires task { ⌜ Compares (ElementAsked (now source) (now pool) (now places) (now tr) o) at (length (now doc)) ⌝ }
+    ensures { λ r. ⌜ ((bs : List ℕ) → ElementAsked (now (source .entry)) (now (pool .entry)) (now (places .entry)) (now (tr .entry)) o bs → SameBytes (now (doc .entry)) at bs (r .same) (r .at)) ⌝ }
 {
-    let o = element_at(tr, sp, i);
     let row = row_of(source, tr, o);
     let inside = o + 2;
     run(

@@ -6,11 +6,11 @@ use Prim.Native.Nat.{_+_, _-_, _*_}
 use native.Mathlib.Omega.{arith}
 use lib.ListN.{length}
 use Rattle.scanning.specs.Laws.{content-within}
-use Rattle.filling.specs.Contents.{spans-from}
+use Rattle.filling.specs.Contents.{spans-from, Behind, behind-none, behind-same}
 use Rattle.filling.specs.RowNumbers.{rank, rank-bounds, item-rank}
 use Rattle.filling.specs.Turns.{row-there, items-rank}
-use Rattle.filling.specs.Elements.{child-sought, child-first, child-within, child-row}
-use Rattle.filling.specs.Loops.{RowGoes, row-goes, row-last, row-less, row-symbol-there, asks-items, asks-child, asks-plain, SymbolDone, items-done, child-done, plain-done, row-then, row-on, ListGoes, list-goes, list-within, list-last, item-inside, item-passed, item-asks, item-then, item-on}
+use Rattle.filling.specs.Elements.{element-within, child-row}
+use Rattle.filling.specs.Loops.{RowGoes, row-goes, row-last, row-less, row-symbol-there, row-sought, asks-items, asks-child, asks-plain, SymbolDone, items-done, child-done, plain-done, row-then, row-on, ListGoes, list-goes, list-within, list-last, item-inside, item-passed, item-asks, item-then, item-on}
 use Rattle.matching.specs.Same.{SameBytes, stays, goes, ToCompare, compare-all, compare-room, compare-turn, compare-stops, all-compared}
 use Rattle.matching.proofs.Running.{symbol-found}
 use Prim.Native.Nat.{ℕ, _<_}
@@ -26,7 +26,7 @@ use Rattle.matching.proofs.run.Reads as run
 use Rattle.matching.proofs.run.Kinds as run-kinds
 use Rattle.matching.proofs.+child+items+run.Lts-run as run-lts
 use Rattle.filling.proofs.child_of.Reads as child-of-reads
-use Rattle.filling.proofs.element_at.Reads as element-at-reads
+use Rattle.filling.proofs.element_from.Reads as element-from-reads
 use Rattle.filling.proofs.row_of.Reads as row-of-reads
 use Rattle.matching.proofs.plain.Reads as plain-reads
 use Rattle.rows.proofs.from.Reads as from-reads
@@ -64,7 +64,7 @@ run-below t = and 1 run-kinds.ps (falls 1 run-kinds.ps _<_ μ-run t) run.Pre
 
 -- what child calls
 abbrev child-calls : ℕ → child-lts.Claims
-child-calls t = (element-at-reads.Asked, element-at-reads.Learnt, row-of-reads.Asked, row-of-reads.Learnt, run-below t, run.Post)
+child-calls t = (row-of-reads.Asked, row-of-reads.Learnt, run-below t, run.Post)
 
 -- what items calls
 abbrev items-calls : ℕ → items-lts.Claims
@@ -72,20 +72,17 @@ items-calls t = (run-below t, run.Post, close-of-reads.Asked, close-of-reads.Lea
 
 -- what run calls
 abbrev run-calls : ℕ → run-lts.Claims
-run-calls t = (to-reads.Asked, to-reads.Learnt, from-reads.Asked, from-reads.Learnt, child-of-reads.Asked, child-of-reads.Learnt, items-below t, items.Post, child-below t, child.Post, plain-reads.Asked, plain-reads.Learnt)
+run-calls t = (to-reads.Asked, to-reads.Learnt, from-reads.Asked, from-reads.Learnt, child-of-reads.Asked, child-of-reads.Learnt, items-below t, items.Post, element-from-reads.Asked, element-from-reads.Learnt, child-below t, child.Post, plain-reads.Asked, plain-reads.Learnt)
 
 child-run-requires : (t : ℕ) → child-lts.Need-run-requires (child-calls t) (child-at t) child.Post
 child-run-requires t c κs =
-    let start = c .before .before .before .before .before .before .before .before .before in
+    let start = c .before .before .before .before .before .before .before .before in
     let f = start .pre .1 .1 in
-    let found = c .before .before .before .element-at .ensures in
     let row = c .before .before .row-of in
-    (omega (arith, start .pre .0, child-within (f .asked) found, rank-bounds (row .result) .1, c .before .run-arg .given .2), (spans-from _ (start .pre .1 .0), record { bytes = f .bytes; asked = child-row (f .asked) found (row .ensures); room = f .room }))
+    (omega (arith, start .pre .0, element-within (f .asked), rank-bounds (row .result) .1, c .before .run-arg .given .2), (spans-from _ (start .pre .1 .0), record { bytes = f .bytes; asked = child-row (f .asked) (row .ensures); room = f .room }))
 
 child-returns : (t : ℕ) → child-lts.Need-returns (child-calls t) (child-at t) child.Post
-child-returns t c =
-    let found = c .before .before .before .before .element-at in
-    λ bs a. c .run .ensures bs (child-row a (found .ensures) (c .before .before .before .row-of .ensures))
+child-returns t c = λ bs a. c .run .ensures bs (child-row a (c .before .before .before .row-of .ensures))
 
 abbrev items-Inv-loop : items-lts.InvT-loop
 items-Inv-loop source pool places tr sp r doc at o₀ next₀ o next = ListGoes source pool places tr r o (ToCompare doc at next)
@@ -111,62 +108,75 @@ items-loop-again t c =
     item-on (l .inv) (c .before .before .before .before .before .before .if1 .taken) (compare-turn (goes _ (c .before .if2 .left))) (c .before .before .before .run .ensures) (c .close-of .ensures)
 
 abbrev run-Inv-loop : run-lts.InvT-loop
-run-Inv-loop source pool places tr sp r doc at to i₀ next₀ i next = RowGoes source pool places tr r to i (ToCompare doc at next)
+run-Inv-loop source pool places tr sp r doc at to i₀ next₀ seen₀ near₀ i next seen near = RowGoes source pool places tr r to i (ToCompare doc at next) × Behind tr seen near
 
 abbrev run-μ-loop : run-lts.MeasureT-loop
-run-μ-loop source pool places tr sp r doc at to i₀ next₀ i next = to - i
+run-μ-loop source pool places tr sp r doc at to i₀ next₀ seen₀ near₀ i next seen near = to - i
 
 run-items-requires : (t : ℕ) → run-lts.Need-items-requires (run-calls t) (run-at t) run.Post run-Inv-loop run-μ-loop
 run-items-requires t c κs =
     let start = c .before .before .before .before .before .before .before .before .before .before .before .before in
     let a = start .pre .1 .1 .asked in
-    let g = c .before .before .before .before .loop .inv in
+    let g = c .before .before .before .before .loop .inv .0 in
     let h = c .before .before .before .loop-test .taken in
     (omega (arith, start .pre .0, items-rank a (c .before .before .before .before .loop .i) (g .low) (row-less g h) (c .if1 .taken)), (start .pre .1 .0, asks-items g h a compare-room (c .if1 .taken)))
 
+run-element-from-requires : (t : ℕ) → run-lts.Need-element-from-requires (run-calls t) (run-at t) run.Post run-Inv-loop run-μ-loop
+run-element-from-requires t c κs =
+    let start = c .before .before .before .before .before .before .before .before .before .before .before .before .before in
+    let l = c .before .before .before .before .before .loop in
+    (start .pre .1 .0, (row-sought (l .inv .0) (c .before .before .before .before .loop-test .taken) (start .pre .1 .1 .asked) (c .before .before .child-of .ensures .0 (c .if2 .taken)), l .inv .1))
+
 run-child-requires : (t : ℕ) → run-lts.Need-child-requires (run-calls t) (run-at t) run.Post run-Inv-loop run-μ-loop
 run-child-requires t c κs =
-    let start = c .before .before .before .before .before .before .before .before .before .before .before .before .before in
-    (omega (arith, start .pre .0, rank-bounds (start .args .r) .0), (start .pre .1 .0, asks-child (c .before .before .before .before .before .loop .inv) (c .before .before .before .before .loop-test .taken) (start .pre .1 .1 .asked) compare-room (c .before .before .child-of .ensures .0 (c .if2 .taken))))
+    let start = c .before .before .before .before .before .before .before .before .before .before .before .before .before .before in
+    (omega (arith, start .pre .0, rank-bounds (start .args .r) .0), (start .pre .1 .0, asks-child (c .before .before .before .before .before .before .loop .inv .0) (c .before .before .before .before .before .loop-test .taken) (start .pre .1 .1 .asked) compare-room (c .before .before .before .child-of .ensures .0 (c .before .if2 .taken)) (c .element-from .ensures)))
 
 run-plain-requires : (t : ℕ) → run-lts.Need-plain-requires (run-calls t) (run-at t) run.Post run-Inv-loop run-μ-loop
 run-plain-requires t c κs =
     let start = c .before .before .before .before .before .before .before .before .before .before .before .before .before in
-    (start .pre .1 .0, asks-plain (c .before .before .before .before .before .loop .inv) (c .before .before .before .before .loop-test .taken) (start .pre .1 .1 .asked) compare-room (c .before .before .child-of .ensures .1 (c .if2 .left)) (c .before .if1 .left))
+    (start .pre .1 .0, asks-plain (c .before .before .before .before .before .loop .inv .0) (c .before .before .before .before .loop-test .taken) (start .pre .1 .1 .asked) compare-room (c .before .before .child-of .ensures .1 (c .if2 .left)) (c .before .if1 .left))
 
--- the symbol was compared
+-- the symbol was compared, and where it is a child, its place is known
 abbrev run-one : (t : ℕ) → run-lts.Joined1 (run-calls t) (run-at t) run.Post run-Inv-loop run-μ-loop → Type 0
 run-one t c =
-    SymbolDone (c .before .before .before .before .loop .inv) (c .before .before .before .loop-test .taken) (λ (bs : List ℕ). SameBytes (c .before .before .before .before .before .before .before .before .before .before .before .before .args .doc .now) (c .before .before .before .before .loop .next) bs (c .if1 .one .same) (c .if1 .one .at))
+    let start = c .before .before .before .before .before .before .before .before .before .before .before .before in
+    SymbolDone (c .before .before .before .before .loop .inv .0) (c .before .before .before .loop-test .taken) (λ (bs : List ℕ). SameBytes (start .args .doc .now) (c .before .before .before .before .loop .next) bs (c .if1 .one .same) (c .if1 .one .at))
+    × Behind (start .args .tr .now) (c .if1 .seen) (c .if1 .near)
 
 run-compared : (t : ℕ) (c : run-lts.Joined1 (run-calls t) (run-at t) run.Post run-Inv-loop run-μ-loop) → run-one t c
 run-compared t c =
-    let g = c .before .before .before .before .loop .inv in
+    let g = c .before .before .before .before .loop .inv .0 in
+    let b = c .before .before .before .before .loop .inv .1 in
     let h = c .before .before .before .loop-test .taken in
     let number = c .before .child-of .ensures in
     ⊎-elim
-    (λ w. symbol-found g h (w .2) (items-done g h (w .0 .taken) (w .1 .ensures)))
-    (λ v. ⊎-elim (λ w. symbol-found g h (w .3) (child-done g h (number .0 (w .1 .taken)) (w .2 .ensures))) (λ w. symbol-found g h (w .3) (plain-done g h (number .1 (w .1 .left)) (w .0 .left) (w .2 .ensures))) v)
+    (λ w. (symbol-found g h (w .4) (items-done g h (w .0 .taken) (w .1 .ensures)), behind-same (w .2) (w .3) b))
+    (λ v. ⊎-elim
+    (λ w. (symbol-found g h (w .6) (child-done g h (number .0 (w .1 .taken)) (w .2 .ensures) (w .3 .ensures)), behind-same (w .4) (w .5) (w .2 .ensures)))
+    (λ w. (symbol-found g h (w .5) (plain-done g h (number .1 (w .1 .left)) (w .0 .left) (w .2 .ensures)), behind-same (w .3) (w .4) b))
+    v)
     (c .if1 .came)
 
 run-returns : (t : ℕ) → run-lts.Need-returns (run-calls t) (run-at t) run.Post run-Inv-loop run-μ-loop
-run-returns t c = row-then (c .before .before .before .before .before .before .loop .inv) (c .before .before .before .before .before .loop-test .taken) (compare-stops (stays _ (c .if3 .taken))) (run-compared t (c .before .before))
+run-returns t c = row-then (c .before .before .before .before .before .before .loop .inv .0) (c .before .before .before .before .before .loop-test .taken) (compare-stops (stays _ (c .if3 .taken))) (run-compared t (c .before .before) .0)
 
 run-loop-again : (t : ℕ) → run-lts.Need-loop-again (run-calls t) (run-at t) run.Post run-Inv-loop run-μ-loop
-run-loop-again t c = row-on (c .before .before .before .before .before .before .loop .inv) (c .before .before .before .before .before .loop-test .taken) (compare-turn (goes _ (c .if3 .left))) (run-compared t (c .before .before))
+run-loop-again t c =
+    let compared = run-compared t (c .before .before) in
+    (row-on (c .before .before .before .before .before .before .loop .inv .0) (c .before .before .before .before .before .loop-test .taken) (compare-turn (goes _ (c .if3 .left))) (compared .0), compared .1)
 
 pub +child+items+run-spec : {M : Type 1} → statement M
 +child+items+run-spec = close μ-child μ-items μ-run (λ t. child-lts.spec (child-calls t) (child-at t)
     child.Post
-    (λ c κs. let start = c .before .before .before .before .before in (start .pre .1 .0, child-sought (start .pre .1 .1 .asked)))
-    (λ c κs. let a = c .before .before .before .before .before .before .pre .1 .1 .asked in (a .prepared .ready .source-bounded, child-first a (c .element-at .ensures)))
-    (λ c. let start = c .before .before .before .before .before .before .before in omega (arith, child-within (start .pre .1 .1 .asked) (c .before .element-at .ensures), start .pre .1 .0 .short))
-    (λ c. omega (arith, child-within (c .before .before .before .before .before .before .before .pre .1 .1 .asked) (c .before .element-at .ensures)))
-    (λ c. omega (arith, child-within (c .before .before .before .before .before .before .before .pre .1 .1 .asked) (c .before .element-at .ensures)))
+    (λ c κs. let a = c .before .before .before .before .before .pre .1 .1 .asked in (a .prepared .ready .source-bounded, a .first))
+    (λ c. let start = c .before .before .before .before .before .before in omega (arith, element-within (start .pre .1 .1 .asked), start .pre .1 .0 .short))
+    (λ c. omega (arith, element-within (c .before .before .before .before .before .before .pre .1 .1 .asked)))
+    (λ c. omega (arith, element-within (c .before .before .before .before .before .before .pre .1 .1 .asked)))
     (λ c. omega arith)
-    (λ c. let start = c .before .before .before .before .before .before .before .before in omega (arith, child-within (start .pre .1 .1 .asked) (c .before .before .element-at .ensures), start .pre .1 .0 .short))
-    (λ c. let start = c .before .before .before .before .before .before .before .before in omega (arith, child-within (start .pre .1 .1 .asked) (c .before .before .element-at .ensures), start .pre .1 .0 .whole))
-    (λ c. let start = c .before .before .before .before .before .before .before .before in omega (arith, child-within (start .pre .1 .1 .asked) (c .before .before .element-at .ensures), start .pre .1 .0 .whole))
+    (λ c. let start = c .before .before .before .before .before .before .before in omega (arith, element-within (start .pre .1 .1 .asked), start .pre .1 .0 .short))
+    (λ c. let start = c .before .before .before .before .before .before .before in omega (arith, element-within (start .pre .1 .1 .asked), start .pre .1 .0 .whole))
+    (λ c. let start = c .before .before .before .before .before .before .before in omega (arith, element-within (start .pre .1 .1 .asked), start .pre .1 .0 .whole))
     (λ c. omega arith)
     (child-run-requires t)
     (child-returns t))
@@ -197,15 +207,16 @@ pub +child+items+run-spec : {M : Type 1} → statement M
     run-μ-loop
     (λ c κs. row-there (c .before .before .before .before .before .pre .1 .1 .asked))
     (λ c κs. row-there (c .before .before .before .before .before .before .pre .1 .1 .asked))
-    (λ c. row-goes (c .before .to .ensures) (c .from .ensures) (compare-all (c .before .before .before .before .before .before .before .pre .1 .1 .room)))
-    (λ c. row-symbol-there (c .before .before .loop .inv) (c .before .loop-test .taken) (c .before .before .before .before .before .before .before .before .before .before .pre .1 .1 .asked))
+    (λ c. (row-goes (c .before .to .ensures) (c .from .ensures) (compare-all (c .before .before .before .before .before .before .before .pre .1 .1 .room)), behind-none))
+    (λ c. row-symbol-there (c .before .before .loop .inv .0) (c .before .loop-test .taken) (c .before .before .before .before .before .before .before .before .before .before .pre .1 .1 .asked))
     (λ c κs. tt)
     (λ c. let start = c .before .before .before .before .before .before .before .before .before .before .before .before in omega (arith, row-there (start .pre .1 .1 .asked), start .good .1 .1 .0))
     (run-items-requires t)
+    (run-element-from-requires t)
     (run-child-requires t)
     (run-plain-requires t)
     (run-returns t)
-    (λ c. let start = c .before .before .before .before .before .before .before .before .before .before .before .before .before .before in omega (arith, row-symbol-there (c .before .before .before .before .before .before .loop .inv) (c .before .before .before .before .before .loop-test .taken) (start .pre .1 .1 .asked), start .good .1 .0))
+    (λ c. let start = c .before .before .before .before .before .before .before .before .before .before .before .before .before .before in omega (arith, row-symbol-there (c .before .before .before .before .before .before .loop .inv .0) (c .before .before .before .before .before .loop-test .taken) (start .pre .1 .1 .asked), start .good .1 .0))
     (λ c. omega (arith, c .before .before .before .before .before .loop-test .taken))
     (run-loop-again t)
-    (λ c bs a. all-compared (row-last (c .before .loop .inv) (c .loop-test .left) bs a))
+    (λ c bs a. all-compared (row-last (c .before .loop .inv .0) (c .loop-test .left) bs a))
