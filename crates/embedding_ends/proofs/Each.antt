@@ -165,6 +165,7 @@ edgeVerdict check E T κ f i = pick (edgeRight check E T κ f i) passes (fails (
 -- a check of a type goes through its edges
 pub type-each : (check : Check) (E : Embedding) (T : Table) (κ : Kind) (f : TypeMap) → length (f .edges) ≡ edgesOf κ
     → typeFault check E T κ f ≡ eachFrom (edgeVerdict check E T κ f) 0 (edgesOf κ)
+unfolding edgeRight typeFault
 type-each Ends E T κ f h = ends-each E T κ f h
 type-each Steps E T κ f h = steps-each T κ f h
 type-each Clashes E T κ f h = clashes-each T κ f h
@@ -173,7 +174,7 @@ type-each All E T κ f h = refl
 -- a check of all goes through the types
 pub all-each : (check : Check) (S T : Table) (E : Embedding) → length E ≡ length S
     → firstFault check S T E ≡ eachFrom (typeVerdict (typeFault check E T) S E) 0 (length S)
-unfolding wrongEnd wrongSteps pathClash
+unfolding wrongEnd wrongSteps pathClash typeFault
 all-each Ends S T E h = types-each (typeFault Ends E T) S E h
 all-each Steps S T E h = types-each (typeFault Steps E T) S E h
 all-each Clashes S T E h = types-each (typeFault Clashes E T) S E h
@@ -193,7 +194,7 @@ each-implies check other i (suc k) h e = go (check i) refl (each-implies check o
 
 -- an edge that is right in all is right in each
 edge-implies : (check : Check) (E : Embedding) (T : Table) (κ : Kind) (f : TypeMap) (i : ℕ) → edgeVerdict All E T κ f i ≡ passes → edgeVerdict check E T κ f i ≡ passes
-unfolding pick
+unfolding pick edgeRight
 edge-implies check E T κ f i e = right-passes (edgeOf f i .at) (part check (right (edgeRight All E T κ f i) e))
   where
     right : (b : Bool) → pick b passes (fails (edgeOf f i .at)) ≡ passes → b ≡ true
@@ -209,6 +210,7 @@ edge-implies check E T κ f i e = right-passes (edgeOf f i .at) (part check (rig
 -- an embedding that is right in all is right in each, where every source type has its edges
 all-implies : (check : Check) (S T : Table) (E : Embedding) → length E ≡ length S → ((s : ℕ) → s < length S → length (getD E s noMap .edges) ≡ edgesOf (kindOf S s))
     → firstFault All S T E ≡ passes → firstFault check S T E ≡ passes
+unfolding typeFault
 all-implies check S T E same due e =
     all-each check S T E same
     ∙ each-implies (typeVerdict (typeFault All E T) S E) (typeVerdict (typeFault check E T) S E) 0 (length S)

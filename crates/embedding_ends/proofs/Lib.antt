@@ -1,4 +1,5 @@
 pub mod Each
+pub mod Loops
 pub mod Here
 pub mod EndLaws
 pub mod StepLaws

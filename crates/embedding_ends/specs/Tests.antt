@@ -32,14 +32,14 @@ stepsRight T κ f i = rightSteps κ (leaves T (f .target) (edgeOf f i .steps))
 -- ---- the three checks of edges, and all of them at once
 
 -- what a check asks of edge i of a source type of a kind
-abbrev pub edgeRight : Check → Embedding → Table → Kind → TypeMap → ℕ → Bool
+unfoldable pub edgeRight : Check → Embedding → Table → Kind → TypeMap → ℕ → Bool
 edgeRight Ends E T κ f i = endRight E T κ f i
 edgeRight Steps E T κ f i = stepsRight T κ f i
 edgeRight Clashes E T κ f i = not (clashesAt T κ f i)
 edgeRight All E T κ f i = endRight E T κ f i && (stepsRight T κ f i && not (clashesAt T κ f i))
 
 -- a check of a source type
-abbrev pub typeFault : Check → Embedding → Table → Kind → TypeMap → Verdict
+unfoldable pub typeFault : Check → Embedding → Table → Kind → TypeMap → Verdict
 typeFault Ends E T κ f = endsOf E T κ f
 typeFault Steps E T κ f = stepsOf T κ f
 typeFault Clashes E T κ f = clashesOf T κ f

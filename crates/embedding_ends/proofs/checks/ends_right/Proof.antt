@@ -4,6 +4,7 @@ use native.Mathlib.Omega.{arith}
 use Rattle.embedding_clash.proofs.ClashLaws.{same-steps}
 use Rattle.embedding_ends.proofs.Here.{type-here, edge-here, few-before, path-here, walkable-here}
 use borrow.Author.Needs.{needs}
+use Rattle.embedding_ends.specs.Tests.{edgeRight}
 use Rattle.embedding_ends.proofs.checks.ends_right.Statement.{statement}
 use Rattle.embedding_ends.proofs.checks.ends_right.Tie as tie
 
@@ -17,6 +18,7 @@ right-end-requires c κs =
     (pre .ready, (pre .type-exists, (pre .edge-exists, rw (from-there, steps-there) at ends)))
 
 pub ends-right-spec : {M : Type 1} → statement M
+unfolding edgeRight
 ends-right-spec =
     tie.close
     (tie.spec

@@ -4,10 +4,12 @@ use native.Mathlib.Omega.{arith}
 use Rattle.embedding_ends.proofs.Here.{edge-here, few-before, path-here, walkable-here}
 use Rattle.embedding_ends.proofs.StepLaws.{edge-right}
 use borrow.Author.Needs.{needs}
+use Rattle.embedding_ends.specs.Tests.{edgeRight}
 use Rattle.embedding_ends.proofs.checks.steps_right.Statement.{statement}
 use Rattle.embedding_ends.proofs.checks.steps_right.Tie as tie
 
 returns : tie.Need-returns
+unfolding edgeRight
 returns c =
     let left = c .before .before in let steps = left .before .before in
     let pre = steps .before .before .before .pre in

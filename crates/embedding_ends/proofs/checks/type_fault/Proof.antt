@@ -1,21 +1,15 @@
 -- The loop's invariant: the verdict of the edges that are left is the verdict of all.
-use mathlib.Core.Path.{_≡_, sym, _∙_}
-use Prim.Native.Nat.{_-_, _≤_, _<_}
+use Prim.Native.Nat.{_-_, _<_}
 use native.Mathlib.Omega.{arith}
-use borrow.Author.Tests.{not-true, not-false}
 use Rattle.loaded_table.specs.Loaded.{tableBy}
-use Rattle.loaded_embedding.specs.Loaded.{embeddingBy}
 use Rattle.model.specs.Definitions.Table.{kindOf, edgesOf}
-use Rattle.embedding_clash.specs.Ready.{mapOf}
 use Rattle.embedding_clash.proofs.Arrays.{TypeAt, EdgeAt, type-at, edge-at}
-use Rattle.embedding_ends.specs.Tests.{eachFrom, typeFault}
-use Rattle.embedding_ends.proofs.Each.{edgeVerdict, each-starts, each-passes, each-fails, each-ends, right-passes, wrong-fails, type-each}
+use Rattle.embedding_ends.proofs.Loops.{EdgesLeft, edges-start, edge-passes, edge-fails, edges-end}
 use Rattle.embedding_ends.proofs.checks.type_fault.Statement.{statement}
 use Rattle.embedding_ends.proofs.checks.type_fault.Tie as tie
 
 abbrev Inv-loop : tie.InvT-loop
-Inv-loop check source target em map s n paths i₀ i =
-    (i ≤ n) × (eachFrom (edgeVerdict check (embeddingBy em (tableBy source) map) (tableBy target) (kindOf (tableBy source) s) (mapOf source em map s)) i (n - i) ≡ typeFault check (embeddingBy em (tableBy source) map) (tableBy target) (kindOf (tableBy source) s) (mapOf source em map s))
+Inv-loop check source target em map s n paths i₀ i = EdgesLeft check source target em map s n i
 
 abbrev μ-loop : tie.MeasureT-loop
 μ-loop check source target em map s n paths i₀ i = n - i
@@ -28,11 +22,7 @@ paths-of-requires : tie.Need-paths-of-requires Inv-loop μ-loop
 paths-of-requires c κs = let start = c .before .before in (start .pre .0 .paths-bounded, (c .edges-of .ensures .1, omega (arith, c .edges-of .ensures .1, type-here start .few)))
 
 loop-holds : tie.Need-loop-holds Inv-loop μ-loop
-loop-holds c =
-    let start = c .before .before .before in
-    let a = start .args in
-    let all = type-each (a .check) (embeddingBy (a .em .now) (tableBy (a .source .now)) (a .map .now)) (tableBy (a .target .now)) (kindOf (tableBy (a .source .now)) (a .s)) (mapOf (a .source .now) (a .em .now) (a .map .now) (a .s)) (type-here start .edges-due) in
-    (omega arith, each-starts _ (c .before .edges-of .ensures .0) ∙ sym all)
+loop-holds c = let start = c .before .before .before in edges-start (start .args .check) _ _ _ _ (type-here start) (c .before .edges-of .ensures .0)
 
 -- the entry of the function, seen from the loop
 abbrev startOf : tie.In-loop Inv-loop μ-loop → tie.Start Inv-loop μ-loop
@@ -54,16 +44,13 @@ edge-right-requires c κs =
 returns : tie.Need-returns Inv-loop μ-loop
 returns c =
     let here = c .before .before .before .before in
-    sym (each-fails _ _ _ _ (here .loop-test .taken) (wrong-fails (sym (c .before .before .edge-right .ensures) ∙ not-true _ (c .before .if1 .taken)) (edge-here here .mark-is ∙ sym (c .start .ensures .0))))
-    ∙ here .before .loop .inv .1
+    edge-fails (here .before .loop .inv) (here .loop-test .taken) (c .before .before .edge-right .ensures) (c .before .if1 .taken) (edge-here here) (c .start .ensures .0)
 
 add-i : tie.Need-add-i Inv-loop μ-loop
 add-i c = omega (arith, c .before .before .before .loop-test .taken, type-here (startOf (c .before .before .before)) .at-most)
 
 loop-again : tie.Need-loop-again Inv-loop μ-loop
-loop-again c =
-    let here = c .before .before .before in
-    (omega arith, each-passes _ _ _ (here .loop-test .taken) (right-passes _ (sym (c .before .edge-right .ensures) ∙ not-false _ (c .if1 .left))) ∙ here .before .loop .inv .1)
+loop-again c = let here = c .before .before .before in edge-passes (here .before .loop .inv) (here .loop-test .taken) (c .before .edge-right .ensures) (c .if1 .left)
 
 pub type-fault-spec : {M : Type 1} → statement M
 type-fault-spec =
@@ -83,4 +70,4 @@ type-fault-spec =
     add-i
     (λ c. omega arith)
     loop-again
-    (λ c. sym (each-ends _ _ _ (c .loop-test .left)) ∙ c .before .loop .inv .1))
+    (λ c. edges-end (c .before .loop .inv) (c .loop-test .left)))
