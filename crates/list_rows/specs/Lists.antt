@@ -29,7 +29,8 @@ use Rattle.growing.specs.Laws.{push-placements, push-readable, none-readable, n
 use Rattle.row_sizes.specs.Sizes.{source-index-small}
 use Rattle.filler_rows.specs.Laws.{puts-on, whole-more}
 use Rattle.filler_rows.specs.Storing.{RowMade}
-use Rattle.own_rows.specs.Making.{heldRow, edgeRoom}
+use Rattle.pools.specs.Room.{edgeRoom}
+use Rattle.own_rows.specs.Making.{heldRow}
 use Rattle.own_rows.specs.Progress.{Progress}
 use Rattle.own_rows.specs.Wanted.{Wanted, RowsDone, done-more, done-past, wanted-type, of-filler, of-type, of-item}
 use Rattle.own_rows.specs.Bounds.{weight, IsGap}

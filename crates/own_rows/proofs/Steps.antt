@@ -24,7 +24,8 @@ use Rattle.growing.specs.Growing.{placementsFrom, placementsOf, Task, elementRo
 use Rattle.row_sizes.specs.Sizes.{source-index-small}
 use Rattle.filler_rows.specs.Storing.{Stored, Whole, RowMade}
 use Rattle.filler_rows.specs.Laws.{whole-more}
-use Rattle.own_rows.specs.Making.{edgePlacements, EdgesFrom, OwnEdges, heldRow, edgeRoom}
+use Rattle.pools.specs.Room.{edgeRoom}
+use Rattle.own_rows.specs.Making.{edgePlacements, EdgesFrom, OwnEdges, heldRow}
 use Rattle.own_rows.specs.Bounds.{weight}
 use Rattle.own_rows.specs.Short.{edges-room, edges-gaps, element-short}
 use Rattle.own_rows.specs.Wanted.{Wanted, of-filler, of-type, of-item, RowsDone, done-filler, done-more, done-past, wanted-type}

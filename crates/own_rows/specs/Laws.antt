@@ -16,7 +16,8 @@ use Rattle.growing.specs.declared.Edges.{Edges}
 use Rattle.growing.specs.Growing.{placementOf, noEdges, push, Puts}
 use Rattle.growing.specs.Laws.{push-placements, push-readable, none-readable, none-placed, puts-after}
 use Rattle.filler_rows.specs.Laws.{row-there}
-use Rattle.own_rows.specs.Making.{edgePlacements, EdgesFrom, edgeRoom}
+use Rattle.pools.specs.Room.{edgeRoom}
+use Rattle.own_rows.specs.Making.{edgePlacements, EdgesFrom}
 
 -- ---- edges
 

@@ -1,4 +1,4 @@
--- Edges of a source type as paths with holes, the row of what they stand in, and room for it.
+-- Edges of a source type as paths with holes, and the row of what they stand in.
 use mathlib.Core.Path.{_≡_}
 use mathlib.Core.List.{List, [], _∷_}
 use Prim.Native.Nat.{ℕ, zero, suc, _+_, _*_, _≤_, _<_}
@@ -39,8 +39,3 @@ pub record OwnEdges (source map : List ℕ) (s : ℕ) (r : Edges) : Type 0 where
 -- the row of what an element of type t holds
 unfoldable pub heldRow : List ℕ → List ℕ → Edges → ℕ → List Symbol
 heldRow target em e t = rowOf (place shaped (tableBy target) (fillers shaped (tableBy target)) t (placementsOf em e))
-
--- room for the rows of n edges from a place on: 18 times the steps of each and 4
-unfoldable pub edgeRoom : List ℕ → ℕ → ℕ → ℕ
-edgeRoom map i zero = 0
-edgeRoom map i (suc n) = 18 * getD (lengthsOf map) i 0 + 4 + edgeRoom map (suc i) n

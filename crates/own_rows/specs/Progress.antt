@@ -7,7 +7,7 @@ use Rattle.loaded_table.specs.Loaded.{typesIn, countsOf}
 use Rattle.loaded_setting.specs.Ready.{settingIn, Ready}
 use Rattle.rows.specs.Rows.{HasRows, IsWord, rowsBefore}
 use Rattle.filler_rows.specs.Storing.{Whole}
-use Rattle.own_rows.specs.Making.{edgeRoom}
+use Rattle.pools.specs.Room.{edgeRoom}
 use Rattle.own_rows.specs.Wanted.{RowsDone}
 
 -- they stand before place `at`, and there is room for those of the other types

@@ -18,7 +18,8 @@ use Rattle.rows.specs.Laws.{code-sequence}
 use Rattle.growing.specs.declared.Edges.{Edges}
 use Rattle.growing.specs.Growing.{placementOf, placementsOf, Task, elementRow}
 use Rattle.growing.specs.Parts.{held, first-path, row-built}
-use Rattle.own_rows.specs.Making.{edgePlacements, edgeRoom}
+use Rattle.pools.specs.Room.{edgeRoom}
+use Rattle.own_rows.specs.Making.{edgePlacements}
 use Rattle.own_rows.specs.Bounds.{weight, IsGap, grow-bound}
 
 pub steps-long : (em : List ℕ) (o n : ℕ) → length (stepsFrom em o n) ≡ n

@@ -13,7 +13,7 @@ use Rattle.row_sizes.specs.Sizes.{source-row-small}
 use Rattle.filler_rows.specs.Storing.{Sound, FillersStored, Stored, Whole}
 use Rattle.own_rows.specs.Wanted.{Wanted, of-filler, of-type, of-item, RowsDone}
 use Rattle.own_rows.specs.Progress.{Progress}
-use Rattle.preparing.specs.Preparing.{roomOf}
+use Rattle.pools.specs.Room.{roomOf}
 
 pub target-sound : {source target map em : List ℕ} → Ready source target map em → Sound target
 target-sound ready = record { bounded = ready .target-bounded; sound = ready .valid .target-sound; kept = ready .kept }

@@ -1,41 +1,16 @@
 // Prepares the templates of a setting: for each target type the row of its filler, for each source type the rows of its image.
 ghost use mathlib.Core.Path.{_≡_};
-ghost use Prim.Native.Nat.{ℕ, _+_, _*_, _≤_, _<_};
-ghost use lib.ListN.{length};
-ghost use Rattle.loaded_table.specs.Loaded.{typesIn};
+ghost use Prim.Native.Nat.{_+_};
 ghost use Rattle.loaded_setting.specs.Ready.{settingIn, Ready};
-ghost use Rattle.rows.specs.Rows.{toOf, Rows, HasRows, IsWord};
+ghost use Rattle.rows.specs.Rows.{Rows};
+ghost use Rattle.pools.specs.Pools.{Arrays};
 ghost use Rattle.own_rows.specs.Progress.{Progress, NextToMake};
-ghost use Rattle.preparing.specs.Preparing.{roomOf};
-ghost use Rattle.model.specs.Definitions.TableChecks.{maxTypes};
-use codes::MAX_MEMBERS;
 use filler_rows::filler_rows;
 use list_rows::list_rows;
 use loaded_embedding::MAP;
 use loaded_table::LIST;
 use loaded_table::TABLE;
 use own_rows::own_rows;
-
-// Places of the pool that a step of a path, and an edge itself, take at most.
-pub const STEP_ROOM: usize = 18;
-
-pub const EDGE_ROOM: usize = 4;
-
-// How long a pool has to be for the rows of a setting: 16 places for each target type, and for each place of an edge 18 times its
-// steps and 4.
-pub fn room(source: &[u16; TABLE], target: &[u16; TABLE], map: &[u16; MAP]) -> usize
-    requires { ⌜ typesIn (now source) ≤ maxTypes ⌝ }
-    ensures { λ r. ⌜ r ≡ roomOf (now (source .entry)) (now (target .entry)) (now (map .entry)) ⌝ }
-{
-    let all = loaded_table::types(source) * MAX_MEMBERS;
-    let mut total = loaded_table::types(target) * MAX_MEMBERS;
-    let mut i = 0;
-    while i < all {
-        total += STEP_ROOM * loaded_embedding::steps(map, i) + EDGE_ROOM;
-        i += 1;
-    }
-    total
-}
 
 // Makes the rows of a source type.
 fn type_rows(
@@ -68,8 +43,7 @@ pub fn prepare(
     places: &mut [u32],
 )
     requires ready { ⌜ Ready (now source) (now target) (now map) (now em) ⌝ }
-    requires room { ⌜ (roomOf (now source) (now target) (now map) ≤ length (now pool)) × IsWord (length (now pool)) × HasRows (now places) (typesIn (now source)) ⌝ }
-    requires within { ⌜ ((row : ℕ) → toOf (now places) row ≤ length (now pool)) ⌝ }
+    requires arrays { ⌜ Arrays (now source) (now target) (now map) (now pool) (now places) ⌝ }
     ensures { λ r. ⌜ Rows (settingIn (now (source .entry)) (now (target .entry)) (now (map .entry)) (now (em .entry))) (now (pool .exit)) (now (places .exit)) ⌝ }
 {
     let types = loaded_table::types(source);

@@ -8,8 +8,7 @@ use Rattle.carrying.proofs.prepare_sized.Tie as tie
 prepare-requires : tie.Need-prepare-requires
 prepare-requires c κs =
     let given = c .before .before .before .before .before .before .pre in
-    let arrays = given .1 .0 in
-    (given .0, ((arrays .enough, arrays .short, arrays .long), arrays .within))
+    (given .0, given .1 .0)
 
 size-rows-requires : tie.Need-size-rows-requires
 size-rows-requires c κs =

@@ -17,12 +17,12 @@ abbrev μ-loop : tie.MeasureT-loop
 filler-rows-requires : tie.Need-filler-rows-requires Inv-loop μ-loop
 filler-rows-requires c κs =
     let start = c .before .before .before .before .before .before in
-    (target-sound (start .pre .0), ((omega (arith, filler-room _ _ _ (start .pre .1 .0 .0)), start .pre .1 .0 .1, omega (arith, start .pre .1 .0 .2)), start .pre .1 .1))
+    (target-sound (start .pre .0), ((omega (arith, filler-room _ _ _ (start .pre .1 .enough)), start .pre .1 .short, omega (arith, start .pre .1 .long)), start .pre .1 .within))
 
 loop-holds : tie.Need-loop-holds Inv-loop μ-loop
 loop-holds c =
     let start = c .before .before .before .before .before .before .before .before .before .before .before in
-    (omega arith, progress-here (progress-fillers (start .pre .0) (start .pre .1 .0 .0) (c .before .before .before .before .filler-rows .ensures)))
+    (omega arith, progress-here (progress-fillers (start .pre .0) (start .pre .1 .enough) (c .before .before .before .before .filler-rows .ensures)))
 
 type-rows-requires : tie.Need-type-rows-requires Inv-loop μ-loop
 type-rows-requires c κs =
@@ -33,8 +33,8 @@ type-rows-requires c κs =
       makeable = record {
         ready = start .pre .0;
         exists = omega (arith, c .before .before .loop-test .taken, c .before .before .before .before .before .before .before .before .before .before .before .types .ensures .0);
-        small = omega (arith, start .pre .1 .0 .1, inv .1 .whole .pool-length, fillers .pool-length);
-        long = omega (arith, start .pre .1 .0 .2, inv .1 .whole .places-length, fillers .places-length);
+        small = omega (arith, start .pre .1 .short, inv .1 .whole .pool-length, fillers .pool-length);
+        long = omega (arith, start .pre .1 .long, inv .1 .whole .places-length, fillers .places-length);
       };
       progress = progress-here (inv .1);
     }
@@ -58,7 +58,7 @@ returns : tie.Need-returns Inv-loop μ-loop
 returns c =
     let start = c .before .before .before .before .before .before .before .before .before .before .before .before .before in
     let inv = c .before .loop .inv in
-    progress-all (start .pre .0) (omega (arith, start .pre .1 .0 .2, c .before .before .before .before .before .before .filler-rows .ensures .whole .places-length)) (omega (arith, inv .0, c .loop-test .left, c .before .before .before .before .before .before .before .before .before .types .ensures .0)) (inv .1)
+    progress-all (start .pre .0) (omega (arith, start .pre .1 .long, c .before .before .before .before .before .before .filler-rows .ensures .whole .places-length)) (omega (arith, inv .0, c .loop-test .left, c .before .before .before .before .before .before .before .before .before .types .ensures .0)) (inv .1)
 
 pub prepare-spec : {M : Type 1} → statement M
 prepare-spec =

@@ -6,7 +6,7 @@ use native.Mathlib.Numerals.{add-one}
 use native.Mathlib.Omega.{arith}
 use lib.ListN.{getD}
 use Rattle.loaded_embedding.specs.Loaded.{lengthsOf}
-use Rattle.own_rows.specs.Making.{edgeRoom}
+use Rattle.pools.specs.Room.{edgeRoom}
 
 -- the edges before edge i of n are added; each added at most 1,200,000
 pub record EdgesAdded (map : List ℕ) (first n total i : ℕ) : Type 0 where

@@ -3,11 +3,10 @@ use mathlib.Core.Path.{ap₂, _∙_}
 use Prim.Native.Nat.{ℕ, _+_, _-_, _*_}
 use native.Mathlib.Omega.{arith}
 use borrow.Author.Needs.{needs}
-use Rattle.own_rows.specs.Making.{edgeRoom}
-use Rattle.preparing.specs.Preparing.{roomOf}
-use Rattle.preparing.proofs.Adding.{EdgesAdded, adds-none, adds-more, adds-all}
-use Rattle.preparing.proofs.room.Statement.{statement}
-use Rattle.preparing.proofs.room.Tie as tie
+use Rattle.pools.specs.Room.{edgeRoom, roomOf}
+use Rattle.pools.proofs.Adding.{EdgesAdded, adds-none, adds-more, adds-all}
+use Rattle.pools.proofs.room.Statement.{statement}
+use Rattle.pools.proofs.room.Tie as tie
 
 abbrev Inv-loop : tie.InvT-loop
 Inv-loop source target map all total₀ i₀ total i = EdgesAdded map total₀ all total i

@@ -1,12 +1,19 @@
--- No setting needs more than 226,304 symbols.
+-- Room for the rows of a setting: no setting needs more than 226,304 symbols.
 use mathlib.Core.List.{List}
-use Prim.Native.Nat.{ℕ, zero, suc, _*_, _≤_}
+use Prim.Native.Nat.{ℕ, zero, suc, _+_, _*_, _≤_}
 use native.Mathlib.Omega.{arith}
 use lib.ListN.{getD}
 use Rattle.loaded_table.specs.Loaded.{Bounded, typesIn}
 use Rattle.loaded_embedding.specs.Loaded.{lengthsOf}
-use Rattle.own_rows.specs.Making.{edgeRoom}
-use Rattle.preparing.specs.Preparing.{roomOf}
+
+-- room for the rows of n edges from a place on: 18 times the steps of each and 4
+unfoldable pub edgeRoom : List ℕ → ℕ → ℕ → ℕ
+edgeRoom map i zero = 0
+edgeRoom map i (suc n) = 18 * getD (lengthsOf map) i 0 + 4 + edgeRoom map (suc i) n
+
+-- 16 places for each target type, and the room of all places of edges
+unfoldable pub roomOf : List ℕ → List ℕ → List ℕ → ℕ
+roomOf source target map = typesIn target * 16 + edgeRoom map 0 (typesIn source * 16)
 
 -- an edge has at most 12 steps
 edges-most : (map : List ℕ) → ((i : ℕ) → getD (lengthsOf map) i 0 ≤ 12) → (i n : ℕ) → edgeRoom map i n ≤ 220 * n

@@ -1,2 +1,0 @@
-pub mod Preparing
-pub mod Most
