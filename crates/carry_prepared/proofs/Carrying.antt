@@ -15,7 +15,8 @@ use Rattle.carry_prepared.specs.Carrying.{Carriable, Carries}
 use Rattle.loaded_setting.specs.Ready.{settingIn}
 use Rattle.measuring.specs.Measured.{Measurable, ImageSize}
 use Rattle.writing.specs.Writing.{Writes}
-use Rattle.filling.specs.Asked.{ImageFits, ImageAsked}
+use Rattle.row_traversal.specs.Asked.{ImageAsked}
+use Rattle.filling.specs.Room.{ImageFits}
 use Rattle.model.specs.Definitions.Content.{Content, bytes, contentOf, document, levels}
 use Rattle.model.specs.Definitions.TreeChecks.{maxLevels}
 use Rattle.model.specs.Definitions.Image.{Setting, image, imageBy, imageLevels, imageLength, imageFiller}

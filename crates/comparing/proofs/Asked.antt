@@ -8,7 +8,7 @@ use Rattle.loaded_table.specs.Loaded.{tableBy}
 use Rattle.loaded_setting.specs.Ready.{settingIn, Ready}
 use Rattle.loaded_setting.specs.Trees.{SoundTree}
 use Rattle.rows.specs.Rows.{Rows}
-use Rattle.filling.specs.Asked.{ImageAsked}
+use Rattle.row_traversal.specs.Asked.{ImageAsked}
 
 module _ {source target map em pool places tr : List ℕ} (ready : Ready source target map em) (tree : SoundTree (tableBy source) tr)
     (rows : Rows (settingIn source target map em) pool places) where

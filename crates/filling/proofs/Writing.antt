@@ -8,9 +8,10 @@ use lib.Seq.{sets}
 use Rattle.rows.specs.Rows.{fromOf}
 use Rattle.writing.specs.Writing.{Writes}
 use Rattle.writing.specs.Laws.{writes-left, writes-length, writes-then}
-use Rattle.filling.specs.Asked.{ImageFits, FillerAsked}
-use Rattle.filling.specs.FillerRows.{fillerLeft, filler-starts}
-use Rattle.filling.specs.Loops.{Advance, Roomy, FillerGoes, filler-last, RowGoes, SymbolDone, row-on}
+use Rattle.row_traversal.specs.Asked.{FillerAsked}
+use Rattle.filling.specs.Room.{ImageFits}
+use Rattle.row_traversal.specs.FillerRows.{fillerLeft, filler-starts}
+use Rattle.row_traversal.specs.Loops.{Advance, Roomy, FillerGoes, filler-last, RowGoes, SymbolDone, row-on}
 
 -- Of the bytes `whole`, to be written at offset `at` of `old`, the bytes `rest` are left, to be written at `next` of `out`.
 pub record ToWrite (old : List ℕ) (at : ℕ) (out : List ℕ) (next : ℕ) (whole rest : List ℕ) : Type 0 where

@@ -4,9 +4,9 @@ use mathlib.Core.Bool.{Bool, true, false}
 use mathlib.Core.List.{List, [], _∷_}
 use Prim.Native.Nat.{ℕ, _-_, _≤_, _<_}
 use lib.ListN.{getD}
-use Rattle.filling.specs.Asked.{FillerAsked}
-use Rattle.filling.specs.FillerRows.{filler-starts}
-use Rattle.filling.specs.Loops.{FillerGoes, filler-last, filler-then, RowGoes, SymbolDone}
+use Rattle.row_traversal.specs.Asked.{FillerAsked}
+use Rattle.row_traversal.specs.FillerRows.{filler-starts}
+use Rattle.row_traversal.specs.Loops.{FillerGoes, filler-last, filler-then, RowGoes, SymbolDone}
 use Rattle.matching.specs.declared.Match.{Match}
 use Rattle.matching.specs.Same.{SameBytes, same-then, same-stops, ToCompare, compare-last, compare-stops}
 

@@ -6,8 +6,8 @@ use mathlib.Core.Logic.{_↔_}
 use Prim.Native.Nat.{ℕ}
 use lib.ListN.{drop}
 use Rattle.model.specs.Theorems.Tools.{true-false}
-use Rattle.filling.specs.Asked.{ImageAsked}
-use Rattle.filling.specs.Whole.{held, image-bytes}
+use Rattle.row_traversal.specs.Asked.{ImageAsked}
+use Rattle.row_traversal.specs.Whole.{held, image-bytes}
 use Rattle.matching.specs.Same.{SameBytes, same-then}
 
 -- the bytes of the image before its end, and its end

@@ -9,8 +9,8 @@ use native.Mathlib.Omega.{arith}
 use lib.ListN.{length, drop, getD, length-append, length-drop}
 use lib.Seq.{drop-cons}
 use Rattle.model.specs.Theorems.Tools.{true-false}
-use Rattle.filling.specs.Asked.{SomeAsked}
-use Rattle.filling.specs.Loops.{Advance, Roomy}
+use Rattle.row_traversal.specs.Asked.{SomeAsked}
+use Rattle.row_traversal.specs.Loops.{Advance, Roomy}
 
 -- bytes are asked for, and the place is one of the document
 abbrev pub Compares : (List ℕ → Type 0) → ℕ → ℕ → Type 0

@@ -7,8 +7,8 @@ use native.Mathlib.Omega.{arith}
 use lib.ListN.{length}
 use Rattle.rows.specs.Rows.{fromOf, toOf}
 use Rattle.writing.specs.Laws.{writes-length}
-use Rattle.filling.specs.FillerRows.{filler-row-there}
-use Rattle.filling.specs.Loops.{FillerGoes, filler-goes, filler-last, filler-symbol-there, filler-symbol-number, filler-asks, filler-on}
+use Rattle.row_traversal.specs.FillerRows.{filler-row-there}
+use Rattle.row_traversal.specs.Loops.{FillerGoes, filler-goes, filler-last, filler-symbol-there, filler-symbol-number, filler-asks, filler-on}
 use Rattle.filling.proofs.Writing.{ToWrite, write-all, write-room, write-turn, filler-opens, filler-inside, filler-written}
 use Prim.Native.Nat.{ℕ, _<_}
 use borrow.Fn.Kinds.{In}
@@ -16,7 +16,7 @@ use borrow.Fn.PlainCycle.{Measures, is, falls, and}
 use Rattle.filling.proofs.filler.Reads as filler
 use Rattle.filling.proofs.filler.Kinds as filler-kinds
 use Rattle.filling.proofs.+filler.Lts-filler as filler-lts
-use Rattle.filling.proofs.wide.Reads as wide-reads
+use Rattle.row_traversal.proofs.wide.Reads as wide-reads
 use Rattle.rows.proofs.from.Reads as from-reads
 use Rattle.rows.proofs.to.Reads as to-reads
 use Rattle.writing.proofs.put_close.Reads as put-close-reads

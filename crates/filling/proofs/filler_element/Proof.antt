@@ -4,7 +4,7 @@ use native.Mathlib.Omega.{arith}
 use lib.ListN.{length}
 use borrow.Author.Needs.{needs}
 use Rattle.writing.specs.Laws.{writes-length, writes-then}
-use Rattle.filling.specs.FillerRows.{filler-row-there, filler-empty}
+use Rattle.row_traversal.specs.FillerRows.{filler-row-there, filler-empty}
 use Rattle.filling.proofs.filler_element.Statement.{statement}
 use Rattle.filling.proofs.filler_element.Tie as tie
 

@@ -7,7 +7,7 @@ use lib.ListN.{length}
 use Rattle.writing.specs.Writing.{Writes}
 use Rattle.writing.specs.Laws.{writes-length}
 use Rattle.scanning.specs.Laws.{content-within, content-part}
-use Rattle.filling.specs.Turns.{plain-opening, plain-filler, plain-characters, plain-closing}
+use Rattle.row_traversal.specs.Turns.{plain-opening, plain-filler, plain-characters, plain-closing}
 use Rattle.filling.proofs.plain.Statement.{statement}
 use Rattle.filling.proofs.plain.Tie as tie
 

@@ -6,9 +6,10 @@ use native.Mathlib.Omega.{arith}
 use lib.ListN.{length, length-append}
 use Rattle.writing.specs.Writing.{Writes}
 use Rattle.writing.specs.Laws.{writes-then, writes-length}
-use Rattle.filling.specs.Contents.{spans-from}
-use Rattle.filling.specs.Asked.{ImageFits, ImageAsked}
-use Rattle.filling.specs.Whole.{held, image-root, image-within, image-row, image-bytes}
+use Rattle.row_traversal.specs.Contents.{spans-from}
+use Rattle.row_traversal.specs.Asked.{ImageAsked}
+use Rattle.filling.specs.Room.{ImageFits}
+use Rattle.row_traversal.specs.Whole.{held, image-root, image-within, image-row, image-bytes}
 use Rattle.filling.proofs.write_image.Statement.{statement}
 use Rattle.filling.proofs.write_image.Tie as tie
 

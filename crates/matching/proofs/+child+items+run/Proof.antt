@@ -6,11 +6,11 @@ use Prim.Native.Nat.{_+_, _-_, _*_}
 use native.Mathlib.Omega.{arith}
 use lib.ListN.{length}
 use Rattle.scanning.specs.Laws.{content-within}
-use Rattle.filling.specs.Contents.{spans-from, Behind, behind-none, behind-same}
-use Rattle.filling.specs.RowNumbers.{rank, rank-bounds, item-rank}
-use Rattle.filling.specs.Turns.{row-there, items-rank}
-use Rattle.filling.specs.Elements.{element-within, child-row}
-use Rattle.filling.specs.Loops.{RowGoes, row-goes, row-last, row-less, row-symbol-there, row-sought, asks-items, asks-child, asks-plain, SymbolDone, items-done, child-done, plain-done, row-then, row-on, ListGoes, list-goes, list-within, list-last, item-inside, item-passed, item-asks, item-then, item-on}
+use Rattle.row_traversal.specs.Contents.{spans-from, Behind, behind-none, behind-same}
+use Rattle.row_traversal.specs.RowNumbers.{rank, rank-bounds, item-rank}
+use Rattle.row_traversal.specs.Turns.{row-there, items-rank}
+use Rattle.row_traversal.specs.Elements.{element-within, child-row}
+use Rattle.row_traversal.specs.Loops.{RowGoes, row-goes, row-last, row-less, row-symbol-there, row-sought, asks-items, asks-child, asks-plain, SymbolDone, items-done, child-done, plain-done, row-then, row-on, ListGoes, list-goes, list-within, list-last, item-inside, item-passed, item-asks, item-then, item-on}
 use Rattle.matching.specs.Same.{SameBytes, stays, goes, ToCompare, compare-all, compare-room, compare-turn, compare-stops, all-compared}
 use Rattle.matching.proofs.Running.{symbol-found}
 use Prim.Native.Nat.{ℕ, _<_}
@@ -25,9 +25,9 @@ use Rattle.matching.proofs.+child+items+run.Lts-items as items-lts
 use Rattle.matching.proofs.run.Reads as run
 use Rattle.matching.proofs.run.Kinds as run-kinds
 use Rattle.matching.proofs.+child+items+run.Lts-run as run-lts
-use Rattle.filling.proofs.child_of.Reads as child-of-reads
-use Rattle.filling.proofs.element_from.Reads as element-from-reads
-use Rattle.filling.proofs.row_of.Reads as row-of-reads
+use Rattle.row_traversal.proofs.child_of.Reads as child-of-reads
+use Rattle.row_traversal.proofs.element_from.Reads as element-from-reads
+use Rattle.row_traversal.proofs.row_of.Reads as row-of-reads
 use Rattle.matching.proofs.plain.Reads as plain-reads
 use Rattle.rows.proofs.from.Reads as from-reads
 use Rattle.rows.proofs.to.Reads as to-reads

@@ -5,8 +5,8 @@ use Prim.Native.Nat.{_+_, _-_}
 use native.Mathlib.Omega.{arith}
 use lib.ListN.{length}
 use Rattle.rows.specs.Rows.{fromOf, toOf}
-use Rattle.filling.specs.FillerRows.{filler-row-there}
-use Rattle.filling.specs.Loops.{FillerGoes, filler-goes, filler-symbol-there, filler-symbol-number, filler-asks, filler-on}
+use Rattle.row_traversal.specs.FillerRows.{filler-row-there}
+use Rattle.row_traversal.specs.Loops.{FillerGoes, filler-goes, filler-symbol-there, filler-symbol-number, filler-asks, filler-on}
 use Rattle.matching.specs.Same.{stays, goes, ToCompare, compare-all, compare-room, compare-turn}
 use Rattle.matching.proofs.Running.{filler-other, filler-compared, filler-stops}
 use Prim.Native.Nat.{ℕ, _<_}
@@ -15,7 +15,7 @@ use borrow.Fn.PlainCycle.{Measures, is, falls, and}
 use Rattle.matching.proofs.filler.Reads as filler
 use Rattle.matching.proofs.filler.Kinds as filler-kinds
 use Rattle.matching.proofs.+filler.Lts-filler as filler-lts
-use Rattle.filling.proofs.wide.Reads as wide-reads
+use Rattle.row_traversal.proofs.wide.Reads as wide-reads
 use Rattle.matching.proofs.same_byte.Reads as same-byte-reads
 use Rattle.matching.proofs.same_open.Reads as same-open-reads
 use Rattle.rows.proofs.from.Reads as from-reads

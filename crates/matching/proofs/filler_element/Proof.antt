@@ -1,7 +1,7 @@
 -- `filler_element` meets its contract: an empty row's element is 30 t 32.
 use native.Mathlib.Omega.{arith}
 use borrow.Author.Needs.{needs}
-use Rattle.filling.specs.FillerRows.{filler-row-there, filler-empty}
+use Rattle.row_traversal.specs.FillerRows.{filler-row-there, filler-empty}
 use Rattle.matching.specs.Same.{stays, goes, same-then}
 use Rattle.matching.proofs.Running.{filler-other}
 use Rattle.matching.proofs.filler_element.Statement.{statement}

@@ -1,7 +1,7 @@
 -- `is_image` meets its contract: the root's row is compared between the commands of the root and the end of the document.
 use native.Mathlib.Omega.{arith}
-use Rattle.filling.specs.Contents.{spans-from}
-use Rattle.filling.specs.Whole.{held, image-root, image-within, image-row}
+use Rattle.row_traversal.specs.Contents.{spans-from}
+use Rattle.row_traversal.specs.Whole.{held, image-root, image-within, image-row}
 use Rattle.matching.specs.Same.{stays, goes}
 use Rattle.matching.proofs.Whole.{image-unopened, image-unlike, image-ends}
 use Rattle.matching.proofs.is_image.Statement.{statement}

@@ -6,7 +6,7 @@ use Prim.Native.Nat.{ℕ, _-_}
 use native.Mathlib.Omega.{arith}
 use lib.ListN.{take}
 use Rattle.scanning.specs.Laws.{content-within, content-part}
-use Rattle.filling.specs.Turns.{plain-opening, plain-filler, plain-characters, plain-closing}
+use Rattle.row_traversal.specs.Turns.{plain-opening, plain-filler, plain-characters, plain-closing}
 use Rattle.matching.specs.Same.{SameBytes}
 use Rattle.matching.proofs.plain.Statement.{statement}
 use Rattle.matching.proofs.plain.Tie as tie

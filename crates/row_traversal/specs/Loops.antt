@@ -8,12 +8,12 @@ use lib.ListN.{length, getD}
 use Rattle.model.specs.Definitions.Content.{Content, bytes}
 use Rattle.rows.specs.Rows.{fromOf, toOf}
 use Rattle.scanning.specs.Scanning.{ContentAt}
-use Rattle.filling.specs.Contents.{partFrom, ChildThere, Behind}
-use Rattle.filling.specs.Asked.{SomeAsked, FillerAsked, PlainAsked, ChildAsked, ElementAsked, ItemsAsked, itemBytes, RowAsked}
-use Rattle.filling.specs.FillerRows.{fillerLeft, filler-ends, filler-in, fillerSymbol, filler-inner, filler-more}
-use Rattle.filling.specs.Turns.{row-within, rowLeft, row-starts, row-ends, rowSymbol, row-more, row-plain, row-child, row-items}
-use Rattle.filling.specs.Elements.{child-sought, child-found}
-use Rattle.filling.specs.Items.{Remains, remains-all, remains-within, remains-none, OneItem, one-item-left, item-bytes, item-there, item-row-asked, remains-less}
+use Rattle.row_traversal.specs.Contents.{partFrom, ChildThere, Behind}
+use Rattle.row_traversal.specs.Asked.{SomeAsked, FillerAsked, PlainAsked, ChildAsked, ElementAsked, ItemsAsked, itemBytes, RowAsked}
+use Rattle.row_traversal.specs.FillerRows.{fillerLeft, filler-ends, filler-in, fillerSymbol, filler-inner, filler-more}
+use Rattle.row_traversal.specs.Turns.{row-within, rowLeft, row-starts, row-ends, rowSymbol, row-more, row-plain, row-child, row-items}
+use Rattle.row_traversal.specs.Elements.{child-sought, child-found}
+use Rattle.row_traversal.specs.Items.{Remains, remains-all, remains-within, remains-none, OneItem, one-item-left, item-bytes, item-there, item-row-asked, remains-less}
 
 -- what a loop knows of the whole and of the rest
 abbrev pub Knowing : Type 1

@@ -2,7 +2,7 @@
 -- stand for. A function requires that there are such bytes, and promises for all of them.
 use mathlib.Core.Path.{_≡_}
 use mathlib.Core.List.{List, [], _∷_}
-use Prim.Native.Nat.{ℕ, _+_, _-_, _*_, _≤_, _<_}
+use Prim.Native.Nat.{ℕ, _-_, _*_, _≤_, _<_}
 use lib.ListN.{length}
 use Rattle.model.specs.Definitions.Table.{Table, list, kindOf}
 use Rattle.model.specs.Definitions.Content.{Content, elem, bytes, document}
@@ -14,7 +14,7 @@ use Rattle.loaded_table.specs.Loaded.{tableBy}
 use Rattle.rows.specs.Rows.{Rows, rowAt, toOf, sourceRow, itemRow}
 use Rattle.scanning.specs.Scanning.{ContentAt}
 use Rattle.loaded_setting.specs.Ready.{settingIn, Ready}
-use Rattle.filling.specs.Contents.{NumberedChild, FirstThere}
+use Rattle.row_traversal.specs.Contents.{NumberedChild, FirstThere}
 
 -- ---- what is prepared
 
@@ -120,7 +120,3 @@ pub record SomeAsked (Asked Room : List ℕ → Type 0) : Type 0 where
   pub bytes : List ℕ
   pub asked : Asked bytes
   pub room : Room bytes
-
--- there is room for them from offset `at` on
-abbrev pub ImageFits : (List ℕ → Type 0) → ℕ → ℕ → Type 0
-ImageFits Asked at long = SomeAsked Asked (λ (bs : List ℕ). at + length bs ≤ long)

@@ -3,9 +3,9 @@ use mathlib.Core.Path.{_∙_, sym}
 use native.Mathlib.Omega.{arith}
 use borrow.Author.Needs.{needs}
 use Rattle.scanning.specs.Laws.{content-within}
-use Rattle.filling.specs.Contents.{first-some, first-none}
-use Rattle.filling.proofs.first_type.Statement.{statement}
-use Rattle.filling.proofs.first_type.Tie as tie
+use Rattle.row_traversal.specs.Contents.{first-some, first-none}
+use Rattle.row_traversal.proofs.first_type.Statement.{statement}
+use Rattle.row_traversal.proofs.first_type.Tie as tie
 
 returns : tie.Need-returns
 returns c = λ k. c .wide .ensures .0 ∙ first-some (k .there) (c .before .before .if1 .taken) .1

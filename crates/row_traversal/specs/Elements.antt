@@ -16,11 +16,11 @@ use Rattle.scanning.specs.Scanning.{ContentAt}
 use Rattle.scanning.specs.Laws.{content-within}
 use Rattle.model.specs.Theorems.TemplateShapes.{HoleOfItem}
 use Rattle.model.specs.Theorems.Templates.{writes-again}
-use Rattle.filling.specs.Model.{item-symbols}
-use Rattle.filling.specs.Contents.{partFrom, at-part, inside-part, ChildThere, Behind, element-behind, RowIs}
-use Rattle.filling.specs.Asked.{Prepared, preparedSetting, ChildAsked, ElementAsked, ListOf, itemBytes, own-row, item-row, RowAsked}
-use Rattle.filling.specs.RowNumbers.{first-chosen}
-use Rattle.filling.specs.Turns.{filled-same}
+use Rattle.row_traversal.specs.Model.{item-symbols}
+use Rattle.row_traversal.specs.Contents.{partFrom, at-part, inside-part, ChildThere, Behind, element-behind, RowIs}
+use Rattle.row_traversal.specs.Asked.{Prepared, preparedSetting, ChildAsked, ElementAsked, ListOf, itemBytes, own-row, item-row, RowAsked}
+use Rattle.row_traversal.specs.RowNumbers.{first-chosen}
+use Rattle.row_traversal.specs.Turns.{filled-same}
 
 -- ---- the row of an element
 

@@ -15,12 +15,12 @@ use Rattle.rows.specs.Rows.{symbolOf, rowIn, rowAt, fromOf, toOf, rowIndex, sou
 use Rattle.scanning.specs.Scanning.{ContentAt}
 use Rattle.model.specs.Theorems.TemplateShapes.{HoleIn, HoleOfItem}
 use Rattle.model.specs.Theorems.Templates.{text-characters}
-use Rattle.filling.specs.Model.{Allowed, template-symbols, item-symbols}
-use Rattle.filling.specs.Contents.{afterFirst, SomeChild, sequence-child, choice-child, at-child}
-use Rattle.filling.specs.Asked.{preparedSetting, FillerAsked, PlainAsked, an-opening, a-filler, the-characters, a-closing, ChildAsked, ItemsAsked, RowOf, own-row, item-row, RowAsked}
-use Rattle.filling.specs.Symbols.{Meaning, opens, fills, child-there, text-there, items-there, closes, meaning, filler-symbol, child-symbol, characters-symbol, items-symbol, symbolBytes, row-first, row-done, symbol-in, opening-bytes, filler-bytes, child-bytes, characters-bytes, items-bytes, closing-bytes}
-use Rattle.filling.specs.FillerRows.{fillers-of}
-use Rattle.filling.specs.RowNumbers.{first-chosen, index-small, rank, own-rank}
+use Rattle.row_traversal.specs.Model.{Allowed, template-symbols, item-symbols}
+use Rattle.row_traversal.specs.Contents.{afterFirst, SomeChild, sequence-child, choice-child, at-child}
+use Rattle.row_traversal.specs.Asked.{preparedSetting, FillerAsked, PlainAsked, an-opening, a-filler, the-characters, a-closing, ChildAsked, ItemsAsked, RowOf, own-row, item-row, RowAsked}
+use Rattle.row_traversal.specs.Symbols.{Meaning, opens, fills, child-there, text-there, items-there, closes, meaning, filler-symbol, child-symbol, characters-symbol, items-symbol, symbolBytes, row-first, row-done, symbol-in, opening-bytes, filler-bytes, child-bytes, characters-bytes, items-bytes, closing-bytes}
+use Rattle.row_traversal.specs.FillerRows.{fillers-of}
+use Rattle.row_traversal.specs.RowNumbers.{first-chosen, index-small, rank, own-rank}
 
 -- ---- the symbols of a row
 

@@ -10,9 +10,9 @@ use Rattle.model.specs.Definitions.Conformance.{Holds, no-item, one-item}
 use Rattle.loaded_table.specs.Loaded.{tableBy}
 use Rattle.scanning.specs.Scanning.{ContentAt}
 use Rattle.scanning.specs.Laws.{content-within, element-first, end-first}
-use Rattle.filling.specs.Contents.{partFrom, element-at, element-next}
-use Rattle.filling.specs.Asked.{ItemsAsked, itemBytes, RowAsked}
-use Rattle.filling.specs.Elements.{oneItem, items-none, items-more, item-asked}
+use Rattle.row_traversal.specs.Contents.{partFrom, element-at, element-next}
+use Rattle.row_traversal.specs.Asked.{ItemsAsked, itemBytes, RowAsked}
+use Rattle.row_traversal.specs.Elements.{oneItem, items-none, items-more, item-asked}
 
 -- from offset o on `rest` is left
 pub record Remains {source pool places tr : List ℕ} {r : ℕ} {bs : List ℕ} (a : ItemsAsked source pool places tr r bs) (o : ℕ) : Type 0 where

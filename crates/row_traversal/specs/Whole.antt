@@ -11,9 +11,9 @@ use Rattle.model.specs.Theorems.Templates.{write-image}
 use Rattle.loaded_table.specs.Loaded.{tableBy}
 use Rattle.scanning.specs.Scanning.{ContentAt}
 use Rattle.scanning.specs.Laws.{content-within, root-at}
-use Rattle.filling.specs.Contents.{partFrom, inside-part, FirstThere, RowIs}
-use Rattle.filling.specs.Asked.{preparedSetting, ImageAsked, RowAsked}
-use Rattle.filling.specs.Elements.{element-row}
+use Rattle.row_traversal.specs.Contents.{partFrom, inside-part, FirstThere, RowIs}
+use Rattle.row_traversal.specs.Asked.{preparedSetting, ImageAsked, RowAsked}
+use Rattle.row_traversal.specs.Elements.{element-row}
 
 -- a document's root, what it holds, and its end
 document-bytes : (k : Content) → document 0 k ≡ (0x30 ∷ 0 ∷ []) ++ ((bytes k ++ 0x32 ∷ []) ++ 0x3F ∷ [])

@@ -5,9 +5,9 @@ use borrow.Author.Needs.{needs}
 use Rattle.loaded_table.specs.Loaded.{tableBy, length-of}
 use Rattle.rows.specs.Rows.{sourceRow}
 use Rattle.scanning.specs.Laws.{content-within}
-use Rattle.filling.specs.Contents.{first-conforms}
-use Rattle.filling.proofs.row_of.Statement.{statement}
-use Rattle.filling.proofs.row_of.Tie as tie
+use Rattle.row_traversal.specs.Contents.{first-conforms}
+use Rattle.row_traversal.proofs.row_of.Statement.{statement}
+use Rattle.row_traversal.proofs.row_of.Tie as tie
 
 source-row-requires : tie.Need-source-row-requires
 source-row-requires c κs =

@@ -7,7 +7,7 @@ use lib.ListN.{length, getD}
 use Rattle.model.specs.Definitions.Content.{Content, end, char, elem, bytes}
 use Rattle.scanning.specs.Scanning.{ContentAt}
 use Rattle.scanning.specs.Laws.{element-first, OpensElement, opens, opens-next}
-use Rattle.filling.specs.Contents.{afterFirst, ChildThere, Behind, behind-none}
+use Rattle.row_traversal.specs.Contents.{afterFirst, ChildThere, Behind, behind-none}
 
 -- what follows element number n
 after-next : (n : ℕ) (k : Content) {t : ℕ} {l r : Content} → afterFirst n k ≡ elem t l r → afterFirst (suc n) k ≡ r

@@ -2,9 +2,9 @@
 use mathlib.Core.Logic.{⊎-elim}
 use native.Mathlib.Omega.{arith}
 use Rattle.scanning.specs.Laws.{content-within}
-use Rattle.filling.proofs.Finding.{ToPass, pass-all, pass-from, next-passed, pass-on, pass-none}
-use Rattle.filling.proofs.element_from.Statement.{statement}
-use Rattle.filling.proofs.element_from.Tie as tie
+use Rattle.row_traversal.proofs.Finding.{ToPass, pass-all, pass-from, next-passed, pass-on, pass-none}
+use Rattle.row_traversal.proofs.element_from.Statement.{statement}
+use Rattle.row_traversal.proofs.element_from.Tie as tie
 
 abbrev Inv-loop : tie.InvT-loop
 Inv-loop tr sp i seen near o₀ left₀ o left = ToPass tr i o left
