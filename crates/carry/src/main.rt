@@ -3,24 +3,24 @@
 // its filler elements, or `refused`, number, document and mark.
 use answer_numbers::Answer;
 use codes::MAX_BYTES;
-use console::load;
+use console::read_file;
 
 // Carries by the files' contents, into 60,000 bytes.
-fn carry_files(s: &mut [u8], t: &mut [u8], e: &mut [u8], d: &mut [u8]) -> Answer {
-    let ls = load(b"s1", s);
-    let lt = load(b"s2", t);
-    let le = load(b"em", e);
-    let ld = load(b"tr", d);
-    let mut out = [0u8; MAX_BYTES];
-    carry_entry::carry(&s[..ls], &t[..lt], &e[..le], &d[..ld], &mut out)
-}
-
-fn main() {
+fn carry_files() -> Answer {
     let mut s = io::large_buffer();
     let mut t = io::large_buffer();
     let mut e = io::large_buffer();
     let mut d = io::large_buffer();
-    let a = carry_files(&mut s, &mut t, &mut e, &mut d);
+    let source = read_file(b"s1", &mut s);
+    let target = read_file(b"s2", &mut t);
+    let embedding = read_file(b"em", &mut e);
+    let tree = read_file(b"tr", &mut d);
+    let mut out = [0u8; MAX_BYTES];
+    carry_entry::carry(source, target, embedding, tree, &mut out)
+}
+
+fn main() {
+    let a = carry_files();
     if a.refusal != 0 {
         console::refused(a);
         return;

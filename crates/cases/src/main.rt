@@ -2,13 +2,11 @@
 // line for each: `ok`, value, filler elements and, where the entry writes, the bytes written in hexadecimal; or `refused`,
 // number, document and mark.
 use answer_numbers::Answer;
-use answers_of::print;
-use answers_of::print_written;
-use documents::read;
-use documents::room;
-
-mod answers_of;
-mod documents;
+use case_text::lend_output;
+use case_text::next_entry;
+use case_text::print;
+use case_text::print_written;
+use case_text::read_document;
 
 // The entries by their numbers in the input; 5 brings back.
 const JUDGE_TABLE: u8 = 1;
@@ -19,66 +17,68 @@ const JUDGE_TREE: u8 = 3;
 
 const CARRY: u8 = 4;
 
+// A case of judging a table.
+fn table_case() {
+    let mut a = io::large_buffer();
+    let table = read_document(&mut a);
+    print(judge_entries::judge_table(table));
+}
+
+// A case of judging a tree.
+fn tree_case() {
+    let mut a = io::large_buffer();
+    let mut b = io::large_buffer();
+    let table = read_document(&mut a);
+    let tree = read_document(&mut b);
+    print(judge_entries::judge_tree(table, tree));
+}
+
+// A case of judging an embedding.
+fn embedding_case() {
+    let mut a = io::large_buffer();
+    let mut b = io::large_buffer();
+    let mut c = io::large_buffer();
+    let source = read_document(&mut a);
+    let target = read_document(&mut b);
+    let embedding = read_document(&mut c);
+    print(judge_entries::judge_embedding(source, target, embedding));
+}
+
 // Carries, or brings back.
 fn call<'a>(entry: u8, a: &[u8], b: &[u8], c: &'a [u8], d: &'a [u8], out: &mut [u8]) -> Answer {
     if entry == CARRY {
-        return lafindry::lafindry_carry(a, b, c, d, out);
+        return carry_entry::carry(a, b, c, d, out);
     }
-    lafindry::lafindry_bring_back(a, b, c, d, out)
+    bring_entry::bring_back(a, b, c, d, out)
 }
 
 // A case of an entry that writes.
-fn write<'a>(entry: u8, a: &[u8], b: &[u8], c: &'a [u8], d: &'a [u8], out: &mut [u8]) {
-    let answer = call(entry, a, b, c, d, out);
-    print_written(answer, out);
-}
-
-// One case: the documents that its entry takes are read, the entry is called, its answer printed.
-fn run(entry: u8, a: &mut [u8], b: &mut [u8], c: &mut [u8], d: &mut [u8], out: &mut [u8]) {
-    let la = read(a);
-    if entry == JUDGE_TABLE {
-        print(lafindry::lafindry_judge_table(&a[..la]));
-        return;
-    }
-    let lb = read(b);
-    if entry == JUDGE_TREE {
-        print(lafindry::lafindry_judge_tree(&a[..la], &b[..lb]));
-        return;
-    }
-    let lc = read(c);
-    if entry == JUDGE_EMBEDDING {
-        print(lafindry::lafindry_judge_embedding(&a[..la], &b[..lb], &c[..lc]));
-        return;
-    }
-    let ld = read(d);
-    let lent = room(out);
-    write(
-        entry,
-        &a[..la],
-        &b[..lb],
-        &c[..lc],
-        &d[..ld],
-        &mut out[..lent],
-    );
-}
-
-// One case, with buffers of its own.
-fn one(entry: u8) {
+fn writing_case(entry: u8) {
     let mut a = io::large_buffer();
     let mut b = io::large_buffer();
     let mut c = io::large_buffer();
     let mut d = io::large_buffer();
     let mut out = io::large_buffer();
-    run(entry, &mut a, &mut b, &mut c, &mut d, &mut out);
+    let source = read_document(&mut a);
+    let target = read_document(&mut b);
+    let embedding = read_document(&mut c);
+    let tree = read_document(&mut d);
+    let output = lend_output(&mut out);
+    let answer = call(entry, source, target, embedding, tree, output);
+    print_written(answer, output);
 }
 
-// The next case's entry, or 0 where there is none.
-fn next_entry() -> u8 {
-    let mut entry = [0u8; 1];
-    if io::read_full(0, &mut entry) == 0 {
-        return 0;
+// One case: the documents that its entry takes are read, the entry is called, its answer printed.
+fn run(entry: u8) {
+    if entry == JUDGE_TABLE {
+        table_case();
+    } else if entry == JUDGE_TREE {
+        tree_case();
+    } else if entry == JUDGE_EMBEDDING {
+        embedding_case();
+    } else {
+        writing_case(entry);
     }
-    entry[0]
 }
 
 // The most cases that are run.
@@ -92,7 +92,7 @@ fn main() {
         if entry == 0 {
             return;
         }
-        one(entry);
+        run(entry);
         left -= 1;
     }
 }

@@ -2,8 +2,8 @@
 use borrow.Author.Needs.{needs}
 use Prim.Native.Nat.{_≤_, _-_}
 use lib.ListN.{length}
-use Rattle.cases.proofs.answers_of.print_bytes.Statement.{statement}
-use Rattle.cases.proofs.answers_of.print_bytes.Tie as tie
+use Rattle.case_text.proofs.answers_of.print_bytes.Statement.{statement}
+use Rattle.case_text.proofs.answers_of.print_bytes.Tie as tie
 
 abbrev Inv-loop : tie.InvT-loop
 Inv-loop bytes i₀ i = i ≤ length bytes

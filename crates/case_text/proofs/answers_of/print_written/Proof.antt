@@ -2,8 +2,8 @@
 use borrow.Author.Needs.{needs}
 use lib.Seq.{length-take-le}
 use mathlib.Core.Path.{sym}
-use Rattle.cases.proofs.answers_of.print_written.Statement.{statement}
-use Rattle.cases.proofs.answers_of.print_written.Tie as tie
+use Rattle.case_text.proofs.answers_of.print_written.Statement.{statement}
+use Rattle.case_text.proofs.answers_of.print_written.Tie as tie
 
 pub print-written-spec : {M : Type 1} → statement M
 print-written-spec =
