@@ -1,7 +1,7 @@
 -- The loops over the source types and over the edges of one: what their invariants say, and how a turn keeps them. And what the test
 -- of an edge in all three checks says, by the parts that were made of it.
 use mathlib.Core.Path.{_≡_, refl, sym, ap, _∙_}
-use mathlib.Core.Bool.{Bool, true, false, not, _&&_}
+use mathlib.Core.Bool.{Bool, true, false, not}
 use mathlib.Core.List.{List}
 use Prim.Native.Nat.{ℕ, _+_, _-_, _*_, _≤_, _<_}
 use native.Mathlib.Omega.{arith}
@@ -17,7 +17,7 @@ use Rattle.embedding_clash.proofs.Arrays.{TypeAt, EdgeAt, in-length}
 use Rattle.embedding_ends.specs.declared.checks.Check.{Check}
 use Rattle.embedding_ends.specs.declared.checks.Check.the-variants.{Ends, Steps, All}
 use Rattle.embedding_ends.specs.Tests.{eachFrom, edgeRight, typeFault, firstFault}
-use Rattle.embedding_ends.proofs.Each.{typeVerdict, edgeVerdict, each-starts, each-passes, each-fails, each-ends, right-passes, wrong-fails, type-each, all-each}
+use Rattle.embedding_ends.proofs.Each.{edgeVerdict, each-starts, each-passes, each-fails, each-ends, right-passes, wrong-fails, type-each, all-each}
 
 -- ---- a check, on loaded tables and a loaded embedding
 
