@@ -100,16 +100,16 @@ module _ {source target map em : List ℕ} (ready : Ready source target map em) 
 
   -- ---- a choice
 
-  pub choice-none : (k : Content) (i : ℕ) → count ≤ i → choiceParts (F k) (ms i) (ps i) ≡ broken
+  pub choice-none : (k : Content) (i : ℕ) {parts : Parts} → parts ≡ choiceParts (F k) (ms i) (ps i) → count ≤ i → parts ≡ broken
   unfolding choiceParts pathsFrom
-  choice-none k i over = let none-left : count - i ≡ 0 = omega arith in rw none-left
+  choice-none k i are over = let none-left : count - i ≡ 0 = omega arith in are ∙ rw none-left
 
   module _ (code : getD (kindsOf source) σ 0 ≡ 3) (i : ℕ) (less : i < count) where
     pub choice-follow : Followable target em (getD (startsOf map) (σ * 16 + i) 0) (getD (lengthsOf map) (σ * 16 + i) 0) (getD (targetsOf map) σ 0)
     choice-follow = row-follows ready exists (omega arith) (omega arith) i less
 
-    pub choice-on : (k : Content) → F k (pathAt em map (σ * 16 + i)) ≡ none → choiceParts (F k) (ms i) (ps i) ≡ choiceParts (F k) (ms (i + 1)) (ps (i + 1))
-    choice-on k e = choice-here i less k ∙ there-none _ _ e
+    pub choice-on : (k : Content) {parts : Parts} → parts ≡ choiceParts (F k) (ms i) (ps i) → F k (pathAt em map (σ * 16 + i)) ≡ none → parts ≡ choiceParts (F k) (ms (i + 1)) (ps (i + 1))
+    choice-on k are e = are ∙ choice-here i less k ∙ there-none _ _ e
 
     pub choice-one : {tr : List ℕ} {o : ℕ} {k : Content} {parts : Parts} → parts ≡ choiceParts (F k) (ms i) (ps i) → FoundContent tr o (F k (pathAt em map (σ * 16 + i)))
         → GivesOne source target map em σ tr k 1 (getD (membersIn source) (σ * 16 + i) 0) o cursor.Last parts

@@ -1,5 +1,3 @@
-pub mod Entering
-pub mod Onward
 pub mod Finding
 pub mod Edges
 pub mod Items

@@ -30,8 +30,6 @@ ghost use Rattle.scanning.specs.Scanning.{ContentAt};
 ghost use Rattle.scanning.specs.Spanning.{Spans};
 ghost use Rattle.model.specs.Definitions.TableChecks.{maxMembers, maxTypes};
 
-pub mod following;
-
 // A source type, and where the content of an image of an element of that type begins.
 pub struct Image {
     pub sigma: usize,

@@ -1,9 +1,9 @@
 -- `enter` meets its contract, by the code of the kind.
 use native.Mathlib.Omega.{arith}
 use borrow.Author.Needs.{needs}
-use Rattle.children.proofs.Entering.{enter-text, enter-empty, enter-sequence, enter-choice, enter-list}
-use Rattle.children.proofs.following.enter.Statement.{statement}
-use Rattle.children.proofs.following.enter.Tie as tie
+use Rattle.following.proofs.Entering.{enter-text, enter-empty, enter-sequence, enter-choice, enter-list}
+use Rattle.following.proofs.enter.Statement.{statement}
+use Rattle.following.proofs.enter.Tie as tie
 
 returns : tie.Need-returns
 returns c = λ k a count row. enter-text _ _ _ k count row (c .match .keys1)

@@ -3,9 +3,9 @@ use Prim.Native.Nat.{_-_}
 use native.Mathlib.Omega.{arith}
 use borrow.Author.Needs.{needs}
 use Rattle.paths.specs.Stepping.{place-within, is-small, step-bounds}
-use Rattle.children.proofs.Onward.{Onward, onward-start, next-small, onward-done, onward-missing, onward-there}
-use Rattle.children.proofs.following.follow.Statement.{statement}
-use Rattle.children.proofs.following.follow.Tie as tie
+use Rattle.following.proofs.Onward.{Onward, onward-start, next-small, onward-done, onward-missing, onward-there}
+use Rattle.following.proofs.follow.Statement.{statement}
+use Rattle.following.proofs.follow.Tie as tie
 
 abbrev Inv-loop : tie.InvT-loop
 Inv-loop target em start steps tau tr sp at i₀ here₀ t₀ i here t = Onward target em start steps tau tr at i here t
