@@ -1,5 +1,4 @@
 // Prepares the templates of a setting: for each target type the row of its filler, for each source type the rows of its image.
-ghost use mathlib.Core.Path.{_≡_};
 ghost use Prim.Native.Nat.{_+_};
 ghost use Rattle.loaded_setting.specs.Ready.{settingIn, Ready};
 ghost use Rattle.rows.specs.Rows.{Rows};
