@@ -14,10 +14,10 @@ use loaded_embedding::MAP;
 use loaded_table::TABLE;
 use pools::MIDDLE_POOL;
 use pools::PLACES;
-use pools::POOL;
 use pools::SMALL_PLACES;
 use pools::SMALL_POOL;
 use pools::is_small;
+use pools::largest_pool;
 use pools::room;
 use preparing::prepare;
 use row_sizes::size_rows;
@@ -104,6 +104,6 @@ pub fn carry<'a>(
         let mut pool = [0u8; MIDDLE_POOL];
         return carry_pooled(source, target, map, em, tr, out, &mut pool);
     }
-    let mut pool = [0u8; POOL];
+    let mut pool = largest_pool();
     carry_pooled(source, target, map, em, tr, out, &mut pool)
 }

@@ -14,10 +14,10 @@ use loaded_embedding::MAP;
 use loaded_table::TABLE;
 use pools::MIDDLE_POOL;
 use pools::PLACES;
-use pools::POOL;
 use pools::SMALL_PLACES;
 use pools::SMALL_POOL;
 use pools::is_small;
+use pools::largest_pool;
 use pools::room;
 use preparing::prepare;
 
@@ -88,6 +88,6 @@ pub fn is_image<'a>(
         let mut pool = [0u8; MIDDLE_POOL];
         return is_image_pooled(from, to, map, em, source, spans, tr, &mut pool);
     }
-    let mut pool = [0u8; POOL];
+    let mut pool = largest_pool();
     is_image_pooled(from, to, map, em, source, spans, tr, &mut pool)
 }

@@ -1,4 +1,5 @@
 -- Arrays that are long enough for the rows of a setting.
+use mathlib.Core.Path.{_≡_}
 use Prim.Native.Nat.{ℕ, _+_, _*_, _≤_}
 use mathlib.Core.List.{List}
 use native.Mathlib.Omega.{arith}
@@ -18,6 +19,10 @@ pub record Arrays (source target map pool places : List ℕ) : Type 0 where
 abbrev pub HasRoom : List ℕ → List ℕ → List ℕ → List ℕ → Type 0
 HasRoom source target map pool = (roomOf source target map ≤ length pool) × IsWord (length pool)
 
+-- the symbols that the rows of any setting have at most
+abbrev pub largestPool : ℕ
+largestPool = 226304
+
 -- a setting has few source types, and short rows
 abbrev pub IsSmall : List ℕ → List ℕ → List ℕ → Type 0
 IsSmall source target map = (typesIn source ≤ 8) × (roomOf source target map ≤ 2048)
@@ -25,6 +30,10 @@ IsSmall source target map = (typesIn source ≤ 8) × (roomOf source target map 
 -- a cleared pool is as long as was asked for
 pub cleared-room : {room : ℕ} (n : ℕ) → room ≤ n → IsWord n → (room ≤ length {A = ℕ} (replicate n 0)) × IsWord (length {A = ℕ} (replicate n 0))
 cleared-room n enough short = let is = length-replicate {A = ℕ} n 0 in (omega (arith, enough, is), omega (arith, short, is))
+
+-- the largest one does for any setting
+pub largest-room : {room : ℕ} (pool : List ℕ) → length pool ≡ largestPool → room ≤ largestPool → (room ≤ length pool) × IsWord (length pool)
+largest-room pool long most = (omega (arith, long, most), omega (arith, long))
 
 module _ {source target map : List ℕ} where
   -- cleared places hold no rows

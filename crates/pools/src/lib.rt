@@ -4,7 +4,9 @@ ghost use mathlib.Core.Bool.{true};
 ghost use Prim.Native.Nat.{_≤_};
 ghost use Rattle.loaded_table.specs.Loaded.{typesIn};
 ghost use Rattle.model.specs.Definitions.TableChecks.{maxTypes};
+ghost use lib.ListN.{length};
 ghost use Rattle.pools.specs.Room.{roomOf};
+ghost use Rattle.pools.specs.Pools.{largestPool};
 use codes::MAX_MEMBERS;
 use loaded_embedding::MAP;
 use loaded_table::TABLE;
@@ -53,4 +55,11 @@ pub fn is_small(types: usize, long: usize) -> bool
         return false;
     }
     long <= SMALL_POOL
+}
+
+// The largest pool, cleared. Made here, its numbers are known to a caller by their count alone, and the caller's proof is quick.
+pub fn largest_pool() -> [u8; POOL]
+    ensures { λ r. ⌜ length r ≡ largestPool ⌝ }
+{
+    [0u8; POOL]
 }

@@ -4,7 +4,7 @@ use native.Mathlib.Omega.{arith}
 use Prim.Native.Nat.{ℕ}
 use lib.ListN.{length-replicate}
 use Rattle.pools.specs.Room.{room-most}
-use Rattle.pools.specs.Pools.{cleared-room}
+use Rattle.pools.specs.Pools.{cleared-room, largest-room}
 use borrow.Author.Needs.{needs}
 use Rattle.carrying.proofs.carry.Statement.{statement}
 use Rattle.carrying.proofs.carry.Tie as tie
@@ -22,8 +22,8 @@ carry-pooled-requires c κs =
 
 carry-pooled-requires-2 : tie.Need-carry-pooled-requires-2
 carry-pooled-requires-2 c κs =
-    let given = c .before .before .before .before .before .before .before .before .before .before .pre in
-    (given .0, (given .1, cleared-room 226304 (room-most _ _ _ (given .0 .source-bounded) (given .0 .target-bounded) (given .0 .paths-bounded .short)) (omega arith)))
+    let given = c .before .before .before .before .before .before .before .before .before .before .before .pre in
+    (given .0, (given .1, largest-room (c .before .before .largest-pool .result) (c .before .before .largest-pool .ensures) (room-most _ _ _ (given .0 .source-bounded) (given .0 .target-bounded) (given .0 .paths-bounded .short))))
 
 pub carry-spec : {M : Type 1} → statement M
 carry-spec =
@@ -39,7 +39,8 @@ carry-spec =
     carry-pooled-requires
     (λ c. search needs)
     (λ c. c .before .before .before .carry-pooled .ensures)
-    (λ c. sym (length-replicate {A = ℕ} 226304 0))
+    (λ c κs. search needs)
+    (λ c. search needs)
     carry-pooled-requires-2
     (λ c. search needs)
     (λ c. c .before .before .before .carry-pooled2 .ensures))

@@ -4,7 +4,8 @@ use Prim.Native.Nat.{ℕ}
 use native.Mathlib.Omega.{arith}
 use lib.ListN.{length-replicate}
 use Rattle.pools.specs.Room.{room-most}
-use Rattle.pools.specs.Pools.{cleared-room}
+use Rattle.pools.specs.Pools.{cleared-room, largest-room}
+use borrow.Author.Needs.{needs}
 use Rattle.comparing.proofs.is_image.Statement.{statement}
 use Rattle.comparing.proofs.is_image.Tie as tie
 
@@ -21,8 +22,8 @@ is-image-pooled-requires c κs =
 
 is-image-pooled-requires-2 : tie.Need-is-image-pooled-requires-2
 is-image-pooled-requires-2 c κs =
-    let given = c .before .before .before .before .before .before .before .before .before .before .pre in
-    (given .0, (given .1 .0, (given .1 .1, cleared-room 226304 (room-most _ _ _ (given .0 .source-bounded) (given .0 .target-bounded) (given .0 .paths-bounded .short)) (omega arith))))
+    let given = c .before .before .before .before .before .before .before .before .before .before .before .pre in
+    (given .0, (given .1 .0, (given .1 .1, largest-room (c .before .largest-pool .result) (c .before .largest-pool .ensures) (room-most _ _ _ (given .0 .source-bounded) (given .0 .target-bounded) (given .0 .paths-bounded .short)))))
 
 pub is-image-spec : {M : Type 1} → statement M
 is-image-spec =
@@ -36,6 +37,7 @@ is-image-spec =
     (λ c. sym (length-replicate {A = ℕ} 16384 0))
     is-image-pooled-requires
     (λ c. c .before .is-image-pooled .ensures)
-    (λ c. sym (length-replicate {A = ℕ} 226304 0))
+    (λ c κs. search needs)
+    (λ c. search needs)
     is-image-pooled-requires-2
     (λ c. c .before .is-image-pooled2 .ensures))
