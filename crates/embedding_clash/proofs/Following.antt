@@ -15,7 +15,8 @@ use Rattle.model.specs.Definitions.Table.{text, empty, Table, kindOf, membersOf
 use Rattle.model.specs.Definitions.Embedding.{next, endOf}
 use Rattle.model.specs.Theorems.Facts.{Walks, onward}
 use Rattle.model.specs.Theorems.Tools.{some-none}
-use Rattle.loaded_table.specs.Loaded.{tableBy, typesIn, kindsOf, countsOf, membersIn, kindFrom, length-of, kind-of}
+use Rattle.loaded_table.specs.Loaded.{tableBy, typesIn, kindsOf, countsOf, membersIn, length-of, kind-of}
+use Rattle.loaded_table.specs.Steps.{step-in-row}
 use Rattle.loaded_embedding.specs.Loaded.{stepsFrom, steps-more}
 use Rattle.embedding_clash.specs.Paths.{pathIn, StepExists}
 
@@ -60,40 +61,6 @@ rest-none path count i h = drop-of-length-le (take count path) {i = i} (rw (leng
 
 -- ---- one step
 
--- a step among the first n of a row
-pub record InRow (row : List ℕ) (n p m : ℕ) : Type 0 where
-  pub index : ℕ
-  pub counted : p ≡ suc index
-  pub last : p ≤ n
-  pub leads : getD row index 0 ≡ m
-
-entry-at : (p n : ℕ) (row : List ℕ) (m : ℕ) → entry p (take n row) ≡ some m → InRow row n p m
-unfolding entry
-entry-at zero n row m e = some-none e refl
-entry-at (suc p) zero row m e = some-none e refl
-entry-at (suc p) (suc n) [] m e = some-none e refl
-entry-at (suc zero) (suc n) (x ∷ row) m e = record { index = 0; counted = refl; last = omega arith; leads = cc }
-entry-at (suc (suc p)) (suc n) (x ∷ row) m e =
-    let later : InRow row n (suc p) m = entry-at (suc p) n row m e in
-    record { index = suc (later .index); counted = ap suc (later .counted); last = omega arith; leads = later .leads }
-
--- a step that exists is within the row of its type
-step-of : (code count : ℕ) (row : List ℕ) (p m : ℕ) → count ≤ 16 → stepFrom (kindFrom code count row) p ≡ some m → InRow row 16 p m
-unfolding stepFrom membersOf entry
-step-of zero count row zero m h e = some-none e refl
-step-of zero count row (suc p) m h e = some-none e refl
-step-of (suc zero) count row zero m h e = some-none e refl
-step-of (suc zero) count row (suc p) m h e = some-none e refl
-step-of (suc (suc zero)) count row p m h e =
-    let r : InRow row count p m = entry-at p count row m e in
-    record { index = r .index; counted = r .counted; last = omega arith; leads = r .leads }
-step-of (suc (suc (suc zero))) count row p m h e =
-    let r : InRow row count p m = entry-at p count row m e in
-    record { index = r .index; counted = r .counted; last = omega arith; leads = r .leads }
-step-of (suc (suc (suc (suc code)))) count row zero m h e = some-none e refl
-step-of (suc (suc (suc (suc code)))) count row (suc zero) m h e = record { index = 0; counted = refl; last = omega arith; leads = cc }
-step-of (suc (suc (suc (suc code)))) count row (suc (suc p)) m h e = some-none e refl
-
 -- no step leads on from a text type, an empty type and what is no type
 pub none-from-text : (p m : ℕ) → stepFrom text p ≡ some m → ⊥
 unfolding stepFrom membersOf entry
@@ -123,16 +90,15 @@ step-at {target} {t} {p} s = go (ltb t (typesIn target)) refl
     go : (b : Bool) → ltb t (typesIn target) ≡ b → StepAt target t p
     go true q =
         let inside : t < typesIn target = ltb-true t (typesIn target) q in
-        let row : InRow (drop (t * 16) (membersIn target)) 16 p (next (tableBy target) t p) =
-        step-of (getD (kindsOf target) t 0) (getD (countsOf target) t 0) (drop (t * 16) (membersIn target)) p (next (tableBy target) t p) (s .bounded .few-members t)
+        let row =
+        step-in-row (getD (kindsOf target) t 0) (getD (countsOf target) t 0) (drop (t * 16) (membersIn target)) p (next (tableBy target) t p) (s .bounded .few-members t)
         (rw (kind-of target t inside) at (s .exists)) in
-        let there : t * 16 + (p - 1) ≡ t * 16 + row .index = omega (arith, row .counted) in
         record {
           inside = inside;
           few = s .bounded .few-types;
-          first = omega (arith, row .counted);
-          last = row .last;
-          leads = ap (λ (k : ℕ). getD (membersIn target) k 0) there ∙ sym (getD-drop (t * 16) (membersIn target) (row .index) 0) ∙ row .leads;
+          first = omega (arith, row .0);
+          last = row .1;
+          leads = sym (getD-drop (t * 16) (membersIn target) (p - 1) 0) ∙ row .2;
         }
     go false q = absurd (no-type (tableBy target) t p (next (tableBy target) t p) (rw (length-of target) (ltb-false t (typesIn target) q)) (s .exists))
 

@@ -3,7 +3,7 @@ use mathlib.Core.Path.{_≡_, refl, sym, ap, subst, _∙_}
 use mathlib.Core.Bool.{true}
 use mathlib.Core.List.{List, [], _∷_, List·Memᴰ, List·Memᴰ·head}
 use mathlib.Core.Option.{some}
-use Prim.Native.Nat.{ℕ, zero, suc, _+_, _-_, _*_, _≤_, _<_}
+use Prim.Native.Nat.{ℕ, suc, _+_, _-_, _*_, _≤_, _<_}
 use native.Mathlib.Omega.{arith}
 use lib.ListN.{length, take, drop, getD, length-take, length-drop}
 use lib.Seq.{getD-take, getD-drop, drop-cons, length-take-le}
@@ -14,7 +14,7 @@ use Rattle.model.specs.Definitions.Filler.{fillers}
 use Rattle.model.specs.Definitions.Image.{Placement, placed, under, isPlaced, grow, growKind, growMembers}
 use Rattle.model.specs.Definitions.Templates.{Shape, bare, framed, shaped}
 use Rattle.model.specs.Theorems.Facts.{WellFormed, Fits, nothing-placed, right-here, below-sequence, below-choice, below-list}
-use Rattle.model.specs.Theorems.Tools.{some-none, entry-member}
+use Rattle.model.specs.Theorems.Tools.{entry-member, entry-at}
 use Rattle.model.specs.Theorems.Placing.{under-same}
 use Rattle.loaded_table.specs.Loaded.{Bounded, kindFrom, tableBy, typesIn, kindsOf, countsOf, membersIn, length-of, kind-of}
 use Rattle.rows.specs.Laws.{code-sequence, code-choice, code-list, entry-there}
@@ -22,18 +22,6 @@ use Rattle.growing.specs.declared.Span.{Span}
 use Rattle.growing.specs.Growing.{MemberRange}
 
 -- ---- entries of a list
-
-entry-at : (p : ℕ) (xs : List ℕ) (m : ℕ) → entry p xs ≡ some m → (1 ≤ p) × (p ≤ length xs) × (getD xs (p - 1) 0 ≡ m)
-unfolding entry
-entry-at zero xs m e = some-none e refl
-entry-at (suc p) [] m e = some-none e refl
-entry-at (suc zero) (x ∷ xs) m e = (omega arith, omega arith, cc)
-entry-at (suc (suc p)) (x ∷ xs) m e =
-    let later = entry-at (suc p) xs m e in
-    let less : suc (suc p) - 1 ≡ suc p = omega arith in
-    let less′ : suc p - 1 ≡ p = omega arith in
-    let same : getD xs p 0 ≡ m = rw less′ at (later .2) in
-    (omega arith, omega (arith, later .1), rw less same)
 
 entry-of : (p : ℕ) (xs : List ℕ) → 1 ≤ p → p ≤ length xs → entry p xs ≡ some (getD xs (p - 1) 0)
 entry-of p xs low high =

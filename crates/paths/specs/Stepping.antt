@@ -1,55 +1,19 @@
 -- One step of a path that can be followed: by a loaded table, and in the model.
 use mathlib.Core.Path.{_≡_, refl, sym, _∙_}
 use mathlib.Core.List.{List, [], _∷_, List·Memᴰ}
-use mathlib.Core.Option.{some}
 use Prim.Native.Nat.{ℕ, zero, suc, _+_, _-_, _*_, _≤_, _<_}
 use native.Mathlib.Omega.{arith}
-use lib.ListN.{length, take, drop, getD, length-take}
-use lib.Seq.{getD-drop, getD-take}
-use Rattle.model.specs.Definitions.Basics.{entry}
+use lib.ListN.{length, drop, getD}
+use lib.Seq.{getD-drop}
 use Rattle.model.specs.Definitions.Table.{list, Table, kindOf, membersOf, stepFrom}
 use Rattle.model.specs.Definitions.Embedding.{next}
 use Rattle.model.specs.Theorems.Facts.{Walks}
-use Rattle.model.specs.Theorems.Tools.{some-none, entry-member}
+use Rattle.model.specs.Theorems.Tools.{entry-member}
 use Rattle.model.specs.Theorems.Placing.{walks-step, walks-rest}
 use Rattle.loaded_table.specs.Loaded.{kindFrom, kindIn, tableBy, kindsOf, countsOf, membersIn, length-of, kind-of}
+use Rattle.loaded_table.specs.Steps.{step-in-row}
 use Rattle.loaded_embedding.specs.Loaded.{stepsFrom}
 use Rattle.paths.specs.Following.{Followable, Taken}
-
--- ---- the type that a step goes to
-
--- an entry stands at its position
-entry-at : (p : ℕ) (xs : List ℕ) (m : ℕ) → entry p xs ≡ some m → (1 ≤ p) × (p ≤ length xs) × (getD xs (p - 1) 0 ≡ m)
-unfolding entry
-entry-at zero xs m e = some-none e refl
-entry-at (suc p) [] m e = some-none e refl
-entry-at (suc zero) (x ∷ xs) m e = (omega arith, omega arith, cc)
-entry-at (suc (suc p)) (x ∷ xs) m e =
-    let later = entry-at (suc p) xs m e in
-    let less : suc (suc p) - 1 ≡ suc p = omega arith in
-    let less′ : suc p - 1 ≡ p = omega arith in
-    let same : getD xs p 0 ≡ m = rw less′ at (later .2) in
-    (omega arith, omega (arith, later .1), rw less same)
-
--- so does one of the first members of a row
-row-at : (p count : ℕ) (row : List ℕ) (m : ℕ) → count ≤ 16 → entry p (take count row) ≡ some m → (1 ≤ p) × (p ≤ 16) × (getD row (p - 1) 0 ≡ m)
-row-at p count row m few e =
-    let found = entry-at p (take count row) m e in
-    let within : p - 1 < count = omega (arith, found .0, found .1, length-take count row) in
-    (found .0, omega (arith, found .1, length-take count row), sym (getD-take count row (p - 1) 0 within) ∙ found .2)
-
--- the type that a step goes to stands in the type's row
-step-at : (code count : ℕ) (row : List ℕ) (p m : ℕ) → count ≤ 16 → stepFrom (kindFrom code count row) p ≡ some m → (1 ≤ p) × (p ≤ 16) × (getD row (p - 1) 0 ≡ m)
-unfolding stepFrom membersOf
-step-at zero count row p m few e = absurd (omega (arith, entry-at p [] m e .0, entry-at p [] m e .1))
-step-at (suc zero) count row p m few e = absurd (omega (arith, entry-at p [] m e .0, entry-at p [] m e .1))
-step-at (suc (suc zero)) count row p m few e = row-at p count row m few e
-step-at (suc (suc (suc zero))) count row p m few e = row-at p count row m few e
-step-at (suc (suc (suc (suc code)))) count row p m few e =
-    let found = entry-at p (getD row 0 0 ∷ []) m e in
-    let one : p ≡ 1 = omega (arith, found .0, found .1) in
-    let none : p - 1 ≡ 0 = omega arith in
-    (found .0, omega arith, rw none (rw none at (found .2)))
 
 -- a code above the others is a list's
 pub list-code : (code count : ℕ) (row : List ℕ) → 4 ≤ code → kindFrom code count row ≡ list (getD row 0 0)
@@ -89,7 +53,7 @@ module _ {target em : List ℕ} {start steps d t : ℕ} (now : Taken target em s
 
   at-step : (1 ≤ p) × (p ≤ 16) × (getD (drop (t * 16) (membersIn target)) (p - 1) 0 ≡ next table t p)
   at-step =
-      step-at (getD (kindsOf target) t 0) (getD (countsOf target) t 0) (drop (t * 16) (membersIn target)) p (next table t p)
+      step-in-row (getD (kindsOf target) t 0) (getD (countsOf target) t 0) (drop (t * 16) (membersIn target)) p (next table t p)
       (now .rest .bounded .few-members t) (rw kind-here at (walks-step walks-here))
 
   pub step-bounds : (1 ≤ p) × (p ≤ 16)

@@ -3,8 +3,9 @@ use mathlib.Core.Path.{_≡_, refl}
 use mathlib.Core.Bool.{Bool, true, false, _&&_}
 use mathlib.Core.List.{List, [], _∷_, List·Memᴰ, List·Memᴰ·head, List·Memᴰ·tail}
 use mathlib.Core.Option.{Option, none, some}
-use Prim.Native.Nat.{ℕ, zero, suc, _+_}
+use Prim.Native.Nat.{ℕ, zero, suc, _+_, _-_, _≤_}
 use native.Mathlib.Omega.{arith}
+use lib.ListN.{length, getD}
 use lib.Dec.{eqb}
 use borrow.Author.Tests.{eqb-true}
 use Rattle.model.specs.Definitions.Basics.{pick, entry, memberOf}
@@ -55,6 +56,19 @@ entry-member zero xs {x} e = some-none e refl
 entry-member (suc p) [] {x} e = some-none e refl
 entry-member (suc zero) (y ∷ xs) {x} e = let same : x ≡ y = cc in List·Memᴰ·head same
 entry-member (suc (suc p)) (y ∷ xs) {x} e = List·Memᴰ·tail (entry-member (suc p) xs e)
+
+-- an entry of a list of numbers stands at its position
+pub entry-at : (p : ℕ) (xs : List ℕ) (m : ℕ) → entry p xs ≡ some m → (1 ≤ p) × (p ≤ length xs) × (getD xs (p - 1) 0 ≡ m)
+unfolding entry
+entry-at zero xs m e = some-none e refl
+entry-at (suc p) [] m e = some-none e refl
+entry-at (suc zero) (x ∷ xs) m e = (omega arith, omega arith, cc)
+entry-at (suc (suc p)) (x ∷ xs) m e =
+    let later = entry-at (suc p) xs m e in
+    let less : suc (suc p) - 1 ≡ suc p = omega arith in
+    let less′ : suc p - 1 ≡ p = omega arith in
+    let same : getD xs p 0 ≡ m = rw less′ at (later .2) in
+    (omega arith, omega (arith, later .1), rw less same)
 
 pub one-plus : (j : ℕ) → 1 + j ≡ suc j
 one-plus j = omega arith
