@@ -16,6 +16,7 @@ use Rattle.loaded_setting.specs.Ready.{settingIn}
 use Rattle.measuring.specs.Measured.{Measurable, ImageSize}
 use Rattle.writing.specs.Writing.{Writes}
 use Rattle.row_traversal.specs.Asked.{ImageAsked}
+use Rattle.row_traversal.specs.Whole.{image-asked}
 use Rattle.filling.specs.Room.{ImageFits}
 use Rattle.model.specs.Definitions.Content.{Content, bytes, contentOf, document, levels}
 use Rattle.model.specs.Definitions.TreeChecks.{maxLevels}
@@ -101,15 +102,8 @@ module _ {source map pool places sizes tr : List ℕ} (g : Carriable source map 
   Y = settingIn source (g .target) map (g .em)
 
   -- the image is what writing is asked for
-  image-asked : ImageAsked source pool places tr (document 0 (image Y (contentOf tr)))
-  image-asked =
-      record {
-        prepared = record { target = g .target; map = map; em = g .em; ready = g .ready; rows = g .rows };
-        inside = contentOf tr;
-        form = g .tree .form;
-        holds = g .tree .holds;
-        is = refl;
-      }
+  asked : ImageAsked source pool places tr (document 0 (image Y (contentOf tr)))
+  asked = image-asked (g .ready) (g .tree) (g .rows)
 
   module _ {high size fill : ℕ} (measured : (m : Measurable source map sizes tr) → ImageSize (settingIn source (m .target) map (m .em)) (contentOf tr) high size fill) (old : List ℕ) where
     sizes-are : ImageSize Y (contentOf tr) high size fill
@@ -126,11 +120,11 @@ module _ {source map pool places sizes tr : List ℕ} (g : Carriable source map 
 
     pub carry-fits : high ≤ 128 → size ≤ 60000 → size ≤ length old → ImageFits (ImageAsked source pool places tr) 0 (length old)
     carry-fits low short enough =
-        record { bytes = document 0 (image Y (contentOf tr)); asked = image-asked; room = omega (arith, has-room Y tr old high size (sizes-are .levels-are) (sizes-are .bytes-are) low short enough) }
+        record { bytes = document 0 (image Y (contentOf tr)); asked = asked; room = omega (arith, has-room Y tr old high size (sizes-are .levels-are) (sizes-are .bytes-are) low short enough) }
 
     pub carry-writes : high ≤ 128 → size ≤ 60000 → size ≤ length old → (new : List ℕ) (n : ℕ) → ((bs : List ℕ) → ImageAsked source pool places tr bs → Writes old new 0 bs n)
         → Carries Y tr old new (Carried.Written n (fill / 3))
     carry-writes low short enough new n writes =
-        let done = writes (document 0 (image Y (contentOf tr))) image-asked in
+        let done = writes (document 0 (image Y (contentOf tr))) asked in
         carries Y tr old high size (sizes-are .levels-are) (sizes-are .bytes-are) low short new n (fill / 3) enough (done .written) (omega (arith, done .after))
         (filler-count Y (contentOf tr) fill (sizes-are .filler-is) (omega (arith, sizes-are .bytes-are, image-length Y (contentOf tr))))

@@ -4,11 +4,14 @@ use mathlib.Core.List.{List, [], _∷_, _++_}
 use Prim.Native.Nat.{ℕ, _+_, _<_}
 use native.Mathlib.Omega.{arith}
 use lib.ListN.{length, getD}
-use Rattle.model.specs.Definitions.Content.{Content, bytes, document}
+use Rattle.model.specs.Definitions.Content.{Content, bytes, contentOf, document}
 use Rattle.model.specs.Definitions.Image.{image}
 use Rattle.model.specs.Definitions.Templates.{writes}
 use Rattle.model.specs.Theorems.Templates.{write-image}
 use Rattle.loaded_table.specs.Loaded.{tableBy}
+use Rattle.loaded_setting.specs.Ready.{settingIn, Ready}
+use Rattle.loaded_setting.specs.Trees.{SoundTree}
+use Rattle.rows.specs.Rows.{Rows}
 use Rattle.scanning.specs.Scanning.{ContentAt}
 use Rattle.scanning.specs.Laws.{content-within, root-at}
 use Rattle.row_traversal.specs.Contents.{partFrom, inside-part, FirstThere, RowIs}
@@ -19,6 +22,18 @@ use Rattle.row_traversal.specs.Elements.{element-row}
 document-bytes : (k : Content) → document 0 k ≡ (0x30 ∷ 0 ∷ []) ++ ((bytes k ++ 0x32 ∷ []) ++ 0x3F ∷ [])
 unfolding document bytes
 document-bytes k = refl
+
+-- the image of a source document is asked for, where the templates of its setting are prepared
+pub image-asked : {source target map em pool places tr : List ℕ} → Ready source target map em → SoundTree (tableBy source) tr → Rows (settingIn source target map em) pool places
+    → ImageAsked source pool places tr (document 0 (image (settingIn source target map em) (contentOf tr)))
+image-asked {target = target} {map} {em} {tr = tr} ready tree rows =
+    record {
+      prepared = record { target = target; map = map; em = em; ready = ready; rows = rows };
+      inside = contentOf tr;
+      form = tree .form;
+      holds = tree .holds;
+      is = refl;
+    }
 
 module _ {source pool places tr : List ℕ} {bs : List ℕ} (a : ImageAsked source pool places tr bs) where
   -- what the root of the image holds
