@@ -14,11 +14,9 @@ use inverse::Read;
 use inverse::read_back;
 use loaded_embedding::MAP;
 use loaded_table::TABLE;
+use scanning::spans::SHORT;
 use scanning::spans::fill_spans;
 use writing::copy;
-
-// A document of at most this length is brought back by way of short buffers.
-const SHORT: usize = 2048;
 
 // Writes the source document `source`, which was read from `tr`, if `tr` is its image and there is room for it. Its spans go to a
 // buffer that is at least as long.

@@ -17,10 +17,8 @@ use filling::write_image;
 use loaded_embedding::MAP;
 use loaded_table::TABLE;
 use measuring::measure;
+use scanning::spans::SHORT;
 use scanning::spans::fill_spans;
-
-// A document of at most this length has its spans in a short buffer.
-const SHORT: usize = 2048;
 
 // Writes the image of the document `tr`, whose spans go to a buffer that is at least as long.
 fn write_with<'a>(

@@ -11,6 +11,7 @@ use Rattle.loaded_table.specs.Loaded.{tableBy, kindsOf, countsOf}
 use Rattle.loaded_embedding.specs.Loaded.{startsOf, lengthsOf, PathsBounded}
 use Rattle.growing.specs.declared.Edges.{Edges}
 use Rattle.growing.specs.Growing.{placementOf, placementsOf, PathsReadable}
+use Rattle.rows.specs.Rows.{childSymbol, charactersSymbol}
 
 -- an edge has few steps, and the place of the first is a small number
 abbrev pub EdgeSmall : List ℕ → ℕ → Type 0
@@ -32,9 +33,9 @@ pub record EdgesFrom (map : List ℕ) (first hole count : ℕ) (r : Edges) : Typ
 
 -- the paths of a source type that is a text, empty or a sequence
 pub record OwnEdges (source map : List ℕ) (s : ℕ) (r : Edges) : Type 0 where
-  pub of-text : getD (kindsOf source) s 0 ≡ 0 → EdgesFrom map (s * 16) 144 1 r
-  pub of-empty : getD (kindsOf source) s 0 ≡ 1 → EdgesFrom map (s * 16) 128 0 r
-  pub of-sequence : getD (kindsOf source) s 0 ≡ 2 → EdgesFrom map (s * 16) 128 (getD (countsOf source) s 0) r
+  pub of-text : getD (kindsOf source) s 0 ≡ 0 → EdgesFrom map (s * 16) charactersSymbol 1 r
+  pub of-empty : getD (kindsOf source) s 0 ≡ 1 → EdgesFrom map (s * 16) childSymbol 0 r
+  pub of-sequence : getD (kindsOf source) s 0 ≡ 2 → EdgesFrom map (s * 16) childSymbol (getD (countsOf source) s 0) r
 
 -- the row of what an element of type t holds
 unfoldable pub heldRow : List ℕ → List ℕ → Edges → ℕ → List Symbol

@@ -9,7 +9,7 @@ ghost use Rattle.growing.specs.Growing.{push, Task, elementRow, stepBound};
 ghost use Rattle.filler_rows.specs.Storing.{Stored, RowMade};
 ghost use Rattle.own_rows.specs.Making.{EdgeSmall, EdgesFrom, OwnEdges, heldRow};
 ghost use Rattle.own_rows.specs.Progress.{Progress, NextToMake};
-ghost use Rattle.rows.specs.Rows.{HasRow, IsWord};
+ghost use Rattle.rows.specs.Rows.{HasRow, IsWord, childSymbol, closingSymbol};
 ghost use Rattle.model.specs.Definitions.TableChecks.{maxMembers, maxTypes};
 use codes::MAX_MEMBERS;
 use codes::MAX_STEPS;
@@ -40,7 +40,7 @@ fn with_edge(map: &[u16; MAP], e: Edges, edge: usize, hole: u8) -> Edges
 
 // The paths of `count` edges from a place on, to the holes from a number on.
 fn edges(map: &[u16; MAP], first: usize, hole: u8, count: usize) -> Edges
-    requires { ⌜ (count ≤ maxMembers) × (first + count ≤ edgePlaces) × (hole + count ≤ 146) × (128 ≤ hole) ⌝ }
+    requires { ⌜ (count ≤ maxMembers) × (first + count ≤ edgePlaces) × (hole + count ≤ closingSymbol) × (childSymbol ≤ hole) ⌝ }
     requires small { ⌜ ((i : ℕ) → EdgeSmall (now map) i) ⌝ }
     ensures { λ r. ⌜ EdgesFrom (now (map .entry)) first hole count r ⌝ }
 {

@@ -11,7 +11,7 @@ use Rattle.model.specs.Definitions.Image.{Setting, image}
 use Rattle.model.specs.Definitions.Templates.{fillerRow, fillerBytes, filledRow, itemTemplate, writes, firstIn, heldBy, overChildren}
 use Rattle.model.specs.Theorems.Facts.{SoundTable}
 use Rattle.loaded_table.specs.Loaded.{tableBy}
-use Rattle.rows.specs.Rows.{Rows, rowAt, toOf, sourceRow, itemRow}
+use Rattle.rows.specs.Rows.{Rows, rowAt, toOf, sourceRow, itemRow, fillerSymbol, childSymbol, charactersSymbol, itemsSymbol}
 use Rattle.scanning.specs.Scanning.{ContentAt}
 use Rattle.loaded_setting.specs.Ready.{settingIn, Ready}
 use Rattle.row_traversal.specs.Contents.{NumberedChild, FirstThere}
@@ -48,10 +48,10 @@ pub record FillerAsked (pool places : List ℕ) (t : ℕ) (bs : List ℕ) : Type
 
 -- what a symbol other than a child or items stands for, for an element whose content begins the document tr
 pub data PlainAsked (pool places tr : List ℕ) (x : ℕ) (bs : List ℕ) : Type 0 where
-  an-opening : x < 64 → bs ≡ 0x30 ∷ x ∷ [] → PlainAsked pool places tr x bs
-  a-filler : 64 ≤ x → x < 128 → FillerAsked pool places (x - 64) bs → PlainAsked pool places tr x bs
-  the-characters : {k : Content} → x ≡ 144 → ContentAt tr 0 k → bs ≡ bytes k → PlainAsked pool places tr x bs
-  a-closing : 145 < x → bs ≡ 0x32 ∷ [] → PlainAsked pool places tr x bs
+  an-opening : x < fillerSymbol → bs ≡ 0x30 ∷ x ∷ [] → PlainAsked pool places tr x bs
+  a-filler : fillerSymbol ≤ x → x < childSymbol → FillerAsked pool places (x - fillerSymbol) bs → PlainAsked pool places tr x bs
+  the-characters : {k : Content} → x ≡ charactersSymbol → ContentAt tr 0 k → bs ≡ bytes k → PlainAsked pool places tr x bs
+  a-closing : itemsSymbol < x → bs ≡ 0x32 ∷ [] → PlainAsked pool places tr x bs
 
 -- what the image of child i holds, of the content that begins the document tr
 pub record ChildAsked (source pool places tr : List ℕ) (i : ℕ) (bs : List ℕ) : Type 0 where

@@ -4,6 +4,7 @@ ghost use Prim.Native.Nat.{_-_, _≤_, _<_};
 ghost use Rattle.model.specs.Definitions.Templates.{firstIn};
 ghost use Rattle.model.specs.Definitions.TableChecks.{maxMembers};
 ghost use Rattle.loaded_table.specs.Loaded.{Bounded, tableBy};
+ghost use Rattle.rows.specs.Rows.{childSymbol, charactersSymbol};
 ghost use Rattle.scanning.specs.Spanning.{Spans};
 ghost use Rattle.row_traversal.specs.Contents.{ChildThere, Behind, Conforms, FirstThere, RowIs};
 use codes::MAX_MEMBERS;
@@ -68,7 +69,7 @@ pub fn row_of<'a>(source: &'a [u16; TABLE], tr: &'a [u8], o: usize) -> usize
 
 // The number of the child that symbol x stands for; 16 where it is another symbol.
 pub fn child_of(x: u8) -> usize
-    ensures { λ r. ⌜ (r < maxMembers → (r ≡ x - 128) × (128 ≤ x) × (x < 144)) × (maxMembers ≤ r → 128 ≤ x → x < 144 → ⊥) ⌝ }
+    ensures { λ r. ⌜ (r < maxMembers → (r ≡ x - childSymbol) × (childSymbol ≤ x) × (x < charactersSymbol)) × (maxMembers ≤ r → childSymbol ≤ x → x < charactersSymbol → ⊥) ⌝ }
 {
     if x < CHILD {
         return MAX_MEMBERS;

@@ -11,6 +11,22 @@ use Rattle.model.specs.Definitions.Templates.{Hole, Symbol, opening, closing, f
 
 -- ---- symbols as numbers
 
+-- the least numbers of filler elements and of children, and the numbers of the characters, the items and the end of an element
+abbrev pub fillerSymbol : ℕ
+fillerSymbol = 64
+
+abbrev pub childSymbol : ℕ
+childSymbol = 128
+
+abbrev pub charactersSymbol : ℕ
+charactersSymbol = 144
+
+abbrev pub itemsSymbol : ℕ
+itemsSymbol = 145
+
+abbrev pub closingSymbol : ℕ
+closingSymbol = 146
+
 -- below 64 an element of that type opens, below 128 a filler element of type n - 64, below 144 child n - 128, then the
 -- characters, the items, and the end of an element
 unfoldable pub symbolOf : ℕ → Symbol

@@ -9,6 +9,9 @@ ghost use Rattle.model.specs.Definitions.Refusals.{maxLength};
 use codes::CHARACTER;
 use codes::OPENS;
 
+// A document of at most this length has short buffers, which need not be cleared at length.
+pub const SHORT: usize = 2048;
+
 // How far it is from offset o, where the byte b stands, to the 32 that closes the element around it, by how far it is from the
 // offsets behind o, `behind` from the second of them; 0 where the document ends too soon.
 fn span_at(b: u8, spans: &[u16], o: usize, behind: usize) -> usize

@@ -1,5 +1,6 @@
 // The byte length of a filler element of each type of a loaded table, held at 60,001. The lengths are found in place, by
 // rounds until one changes nothing; what stood there before does not matter. specs/Fill.antt says what the section holds.
+use codes::ELEMENT_BYTES;
 use codes::MAX_TYPES;
 use codes::OVER_BYTES;
 use loaded_table::CHOICE;
@@ -23,7 +24,7 @@ ghost use Rattle.table_fill.specs.Fill.{fillSum, nextFill, HoldsFillRoun
 ghost use Rattle.model.specs.Definitions.TableChecks.{maxTypes};
 
 // The bytes of an element that holds nothing.
-const OWN_BYTES: u16 = 3;
+const OWN_BYTES: u16 = ELEMENT_BYTES as u16;
 
 // ---- one type
 
