@@ -1,10 +1,10 @@
 -- Heights. In a sound table those of `Heights` satisfy 01's equations, and no numbers that do are lower. A type that
 -- has a finite instance has a height that is at most the number of types, so check 6 refuses none that has one;
 -- `FillerLaws` proves the other direction.
-use mathlib.Core.Path.{_≡_, refl, sym, ap, _∙_}
+use mathlib.Core.Path.{_≡_, refl, sym, ap, ap₂, _∙_}
 use mathlib.Core.Bool.{Bool, true, false}
 use mathlib.Core.List.{List, [], _∷_, map, List·Memᴰ, List·Memᴰ·head, List·Memᴰ·tail, List·Memᴰ·not-nil}
-use Prim.Native.Nat.{ℕ, zero, suc, _+_, _≤_, _<_, min}
+use Prim.Native.Nat.{ℕ, zero, suc, _+_, _≤_, _<_, min, max}
 use native.Mathlib.Omega.{arith}
 use native.Mathlib.Nat.{zero-add, suc-add, add-suc}
 use lib.ListN.{length, getD, length-map, List·getD-eq-default}
@@ -45,18 +45,25 @@ height-beyond T (suc n) t h =
     let long : length (map (heightOfKind (heightsTo T n)) T) ≤ t = rw length-map h in
     List·getD-eq-default (map (heightOfKind (heightsTo T n)) T) 0 long
 
+-- of two numbers that are held, the larger is the larger of the two, held; and so with the smaller
+held-max : (n a b : ℕ) → max (min n a) (min n b) ≡ min n (max a b)
+held-max n a b = omega arith
+
+held-min : (n a b : ℕ) → min (min n a) (min n b) ≡ min n (min a b)
+held-min n a b = omega arith
+
 -- Where the heights `hs` are the heights `later` held at n, the heights of kinds by them are held at n + 1.
 module _ (n : ℕ) (hs later : List ℕ) (held : (t : ℕ) → heightIn hs t ≡ min n (heightIn later t)) where
   highest-held : (ms : List ℕ) → highest hs ms ≡ min n (highest later ms)
   unfolding highest
   highest-held [] = omega arith
-  highest-held (m ∷ ms) = omega (arith, held m, highest-held ms)
+  highest-held (m ∷ ms) = ap₂ max (held m) (highest-held ms) ∙ held-max n (heightIn later m) (highest later ms)
 
   lowest-held : (ms : List ℕ) → lowest hs ms ≡ min n (lowest later ms)
   unfolding lowest
   lowest-held [] = omega arith
   lowest-held (m ∷ []) = held m
-  lowest-held (m ∷ n′ ∷ ms) = omega (arith, held m, lowest-held (n′ ∷ ms))
+  lowest-held (m ∷ n′ ∷ ms) = ap₂ min (held m) (lowest-held (n′ ∷ ms)) ∙ held-min n (heightIn later m) (lowest later (n′ ∷ ms))
 
   kind-held : (κ : Kind) → heightOfKind hs κ ≡ min (suc n) (heightOfKind later κ)
   unfolding heightOfKind

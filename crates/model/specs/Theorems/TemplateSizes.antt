@@ -307,6 +307,9 @@ unfolding below
 below-first zero = refl
 below-first (suc n) = zero-add (suc n)
 
+max-nested : (a b c : ℕ) → max a (max b c) ≡ max (max a b) c
+max-nested a b c = omega arith
+
 -- an element that opens, and what stands in it
 below-inside : (d n : ℕ) → max (suc d) (below (suc d) n) ≡ suc d + n
 unfolding below
@@ -317,6 +320,12 @@ below-inside d (suc n) = omega arith
 below-max : (d h n : ℕ) → below d (max (suc h) n) ≡ max (d + suc h) (below d n)
 below-max d h zero = omega (arith, below-some d (max (suc h) 0) (omega arith), below-none d)
 below-max d h (suc n) = omega (arith, below-some d (max (suc h) (suc n)) (omega arith), below-some d (suc n) (omega arith))
+
+-- the element itself, what stands in it, and what comes after it
+around-element : (d k after : ℕ) → max (suc d) (max (below (suc d) k) after) ≡ max (d + suc k) after
+around-element d k after =
+    let inside : max (suc d) (below (suc d) k) ≡ d + suc k = omega (arith, below-inside d k) in
+    max-nested (suc d) (below (suc d) k) after ∙ ap (λ (n : ℕ). max n after) inside
 
 -- what comes after an element
 after-element : (d h n after : ℕ) → max (d + suc h) (max (below d n) after) ≡ max (below d (max (suc h) n)) after
@@ -348,7 +357,7 @@ levels-then {T} sound (regular-built {t} {k} {r} less inner after) d more =
     let K : ℕ = folded levelsOf (λ h. 0) k in
     let R : ℕ = folded levelsOf (λ h. 0) r in
     rw (append-assoc (rowOf k) (closing ∷ rowOf r) more, levels-then sound inner (suc d) (closing ∷ (rowOf r ++ more)), levels-closing (heightOf T) d (rowOf r ++ more), levels-then sound after d more, levels-element true t K R)
-    (omega (arith, below-inside d K, after-element d K R (rowLevels (heightOf T) d more)))
+    (around-element d K (max (below d R) (rowLevels (heightOf T) d more)) ∙ after-element d K R (rowLevels (heightOf T) d more))
 levels-then {T} sound (regular-filler {t} {k} {r} less e after) d more =
     let R : ℕ = folded levelsOf (λ h. 0) r in
     ap₂ (λ (height later : ℕ). max (d + height) later) (filler-height T sound t less) (levels-then sound after d more)
