@@ -1,27 +1,31 @@
 -- The children of a source element before the first of them is read, by the kind of its type.
 use mathlib.Core.Path.{_≡_, refl, sym, ap, _∙_}
 use mathlib.Core.List.{List}
-use mathlib.Core.Option.{none, some}
+use mathlib.Core.Option.{Option, none, some}
 use Prim.Native.Nat.{ℕ, zero, suc, _+_, _-_, _*_, _≤_, _<_}
 use native.Mathlib.Nat.{add-zero}
 use native.Mathlib.Numerals.{add-one}
 use native.Mathlib.Omega.{arith}
 use lib.ListN.{length, take, drop, getD}
-use Rattle.model.specs.Definitions.Table.{Kind, kindOf, edgesOf}
-use Rattle.model.specs.Definitions.Content.{Content}
-use Rattle.model.specs.Definitions.Embedding.{targetOf, pathsOf, Divided, divide}
-use Rattle.model.specs.Definitions.Image.{Setting, onlyPath}
+use Rattle.model.specs.Definitions.Commands.{needed, optional}
+use Rattle.model.specs.Definitions.Table.{Kind, choice, kindOf, edgesOf}
+use Rattle.model.specs.Definitions.Content.{Content, end}
+use Rattle.model.specs.Definitions.Embedding.{targetOf, pathsOf, firstPath, Divided, divide, beforeChoice}
+use Rattle.model.specs.Definitions.Image.{Setting}
 use Rattle.model.specs.Definitions.Inverse.{follow}
 use Rattle.loaded_table.specs.Loaded.{kindFrom, typesIn, kindsOf, countsOf, membersIn}
+use Rattle.loaded_table.specs.Kinds.{choiceCode}
 use Rattle.loaded_embedding.specs.Loaded.{targetsOf, startsOf, lengthsOf, stepsFrom}
 use Rattle.loaded_setting.specs.Ready.{settingIn, Ready}
 use Rattle.scanning.specs.Finding.{FoundContent}
+use Rattle.scanning.specs.Laws.{content-within}
 use Rattle.paths.specs.declared.Cut.{Cut}
 use Rattle.paths.specs.Following.{Followable, Cuts, pathsFrom}
-use Rattle.paths.specs.Cutting.{before-follows, rest-follows}
-use Rattle.paths.specs.Edges.{target-is, paths-are, kind-is, is-sequence, is-choice, row-edges, is-list, list-edge-one, list-follows, list-less, list-member}
-use Rattle.children.specs.Parts.{Parts, done, broken, listParts, kindParts, childParts}
-use Rattle.children.specs.Cursors.{membersLeft, pathsLeft, LeftEdges, LeftChoice, LeftItems}
+use Rattle.paths.specs.Cutting.{first-steps, before-follows, rest-follows}
+use Rattle.paths.specs.Edges.{target-is, paths-are, kind-is, is-sequence, row-edges, first-follows, first-path, is-list, list-edge-one, list-follows, list-less, list-member}
+use Rattle.children.specs.Parts.{Parts, done, broken, choiceParts, optionalParts, listParts, kindParts, childParts}
+use Rattle.children.specs.Cursors.{membersLeft, pathsLeft, along, LeftEdges, LeftChoice, LeftItems}
+use Rattle.children.proofs.Finding.{empty-found, unless-not}
 
 module _ {source target map em : List ℕ} (ready : Ready source target map em) {σ : ℕ} (exists : σ < typesIn source) where
   abbrev X : Setting
@@ -36,6 +40,9 @@ module _ {source target map em : List ℕ} (ready : Ready source target map em) 
   -- the children by the arrays
   abbrev κ : Kind
   κ = kindOf (X .source) σ
+
+  abbrev row : List ℕ
+  row = take count (drop (σ * 16) (membersIn source))
 
   module _ (k : Content) where
     abbrev whole : Parts
@@ -57,7 +64,7 @@ module _ {source target map em : List ℕ} (ready : Ready source target map em) 
         go (suc (suc c)) h = absurd (omega arith)
 
     -- all edges from edge 0 on
-    all-members : membersLeft source σ 0 ≡ take count (drop (σ * 16) (membersIn source))
+    all-members : membersLeft source σ 0 ≡ row
     all-members =
         let left : count - 0 ≡ count = omega arith in
         rw (left, add-zero (σ * 16))
@@ -79,10 +86,47 @@ module _ {source target map em : List ℕ} (ready : Ready source target map em) 
     pub begin-choice : getD (kindsOf source) σ 0 ≡ 3 → LeftChoice source target map em σ k whole
     unfolding kindParts
     begin-choice code =
-        record { is-choice = code; are = parts-by _ count (is-choice ready exists code) (row-edges ready exists (omega arith) (omega arith)) ∙ sym (rw (all-members, all-paths)) }
+        record { is-choice = ap choiceCode code; are = parts-by (choice needed row) count (kind-is ready exists ∙ rw code) (row-edges ready exists (omega arith) (omega arith)) ∙ sym (rw (all-members, all-paths)) }
+
+  -- an optional choice, whose first path is read from the arrays
+  module _ (code : getD (kindsOf source) σ 0 ≡ 4) {first steps τ : ℕ}
+      (is-first : first ≡ getD (startsOf map) (σ * 16) 0) (is-steps : steps ≡ getD (lengthsOf map) (σ * 16) 0) (is-target : τ ≡ tau) where
+    abbrev firstSteps : List ℕ
+    firstSteps = stepsFrom em (first + 2) steps
+
+    pub optional-path : Followable target em first steps τ
+    optional-path = rw (is-first, is-steps, is-target) (first-follows ready exists (ap choiceCode code))
+
+    -- the steps before its first choice step
+    module _ {depth : ℕ} (shared : (depth ≤ steps) × (stepsFrom em (first + 2) depth ≡ beforeChoice (X .target) τ firstSteps)) where
+      pub shared-follows : Followable target em first depth τ
+      shared-follows = first-steps optional-path (shared .0)
+
+      abbrev found : Content → Option Content
+      found k = follow (X .target) τ (stepsFrom em (first + 2) depth) k
+
+      abbrev member : Content → Parts
+      member k = choiceParts (along target map σ k) (membersLeft source σ 0) (pathsLeft source map em σ 0)
+
+      parts-unless : (k : Content) → childParts X σ k ≡ optionalParts (found k) (member k)
+      unfolding kindParts
+      parts-unless k =
+          let one : firstPath (pathsFrom em map (σ * 16) count) ≡ firstSteps =
+          sym (ap firstPath (paths-are ready exists ∙ ap (pathsFrom em map (σ * 16)) (row-edges ready exists (omega arith) (omega arith)))) ∙ first-path ready exists (ap choiceCode code) ∙ sym (rw (is-first, is-steps)) in
+          parts-by k (choice optional row) count (kind-is ready exists ∙ rw code) (row-edges ready exists (omega arith) (omega arith))
+          ∙ rw (one, shared .1, is-target, all-members k, all-paths k)
+
+      pub found-within : (k : Content) {tr : List ℕ} {o : ℕ} → FoundContent tr o (found k) → o < length tr
+      found-within k here = omega (arith, content-within (here .there))
+
+      pub begin-empty : (k : Content) {tr : List ℕ} {o : ℕ} → FoundContent tr o (found k) → getD tr o 0 ≡ 0x32 → childParts X σ k ≡ done
+      begin-empty k here first = parts-unless k ∙ empty-found (member k) here first
+
+      pub begin-member : (k : Content) → (found k ≡ some end → ⊥) → LeftChoice source target map em σ k (childParts X σ k)
+      begin-member k other = record { is-choice = ap choiceCode code; are = parts-unless k ∙ unless-not (member k) (found k) other }
 
   -- a list, whose path is read from the arrays
-  module _ (code : 4 ≤ getD (kindsOf source) σ 0) {first steps τ : ℕ}
+  module _ (code : 5 ≤ getD (kindsOf source) σ 0) {first steps τ : ℕ}
       (is-first : first ≡ getD (startsOf map) (σ * 16) 0) (is-steps : steps ≡ getD (lengthsOf map) (σ * 16) 0) (is-target : τ ≡ tau) where
     abbrev path : List ℕ
     path = stepsFrom em (first + 2) steps
@@ -94,7 +138,7 @@ module _ {source target map em : List ℕ} (ready : Ready source target map em) 
     list-path = rw (is-first, is-steps, is-target) (list-follows ready exists code)
 
     begin-parts : (k : Content) → childParts X σ k ≡ listParts (X .target) d (getD (membersIn source) (σ * 16) 0) (follow (X .target) τ (d .before) k)
-    unfolding kindParts pathsFrom onlyPath
+    unfolding kindParts pathsFrom firstPath
     begin-parts k = rw (is-first, is-steps, is-target) (parts-by k _ 1 (is-list ready exists code) (list-edge-one ready exists code))
 
     module _ {r : Cut} (cut : Cuts em first steps d r) where

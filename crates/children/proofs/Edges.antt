@@ -1,5 +1,6 @@
 -- The next child of a sequence or a choice, by its edges.
 use mathlib.Core.Path.{_≡_, refl, _∙_}
+use mathlib.Core.Bool.{true}
 use mathlib.Core.List.{List, _∷_}
 use mathlib.Core.Option.{Option, none}
 use Prim.Native.Nat.{ℕ, suc, _+_, _-_, _*_, _≤_, _<_}
@@ -8,6 +9,7 @@ use lib.ListN.{drop, getD}
 use lib.Seq.{drop-cons}
 use Rattle.model.specs.Definitions.Content.{Content}
 use Rattle.loaded_table.specs.Loaded.{typesIn, kindsOf, countsOf, membersIn}
+use Rattle.loaded_table.specs.Kinds.{choiceCode, choice-range}
 use Rattle.loaded_embedding.specs.Loaded.{targetsOf, startsOf, lengthsOf}
 use Rattle.loaded_setting.specs.Ready.{Ready}
 use Rattle.scanning.specs.Scanning.{ContentAt}
@@ -104,9 +106,9 @@ module _ {source target map em : List ℕ} (ready : Ready source target map em) 
   unfolding choiceParts pathsFrom
   choice-none k i are over = let none-left : count - i ≡ 0 = omega arith in are ∙ rw none-left
 
-  module _ (code : getD (kindsOf source) σ 0 ≡ 3) (i : ℕ) (less : i < count) where
+  module _ (choosing : choiceCode (getD (kindsOf source) σ 0) ≡ true) (i : ℕ) (less : i < count) where
     pub choice-follow : Followable target em (getD (startsOf map) (σ * 16 + i) 0) (getD (lengthsOf map) (σ * 16 + i) 0) (getD (targetsOf map) σ 0)
-    choice-follow = row-follows ready exists (omega arith) (omega arith) i less
+    choice-follow = row-follows ready exists (choice-range _ choosing .0) (choice-range _ choosing .1) i less
 
     pub choice-on : (k : Content) {parts : Parts} → parts ≡ choiceParts (F k) (ms i) (ps i) → F k (pathAt em map (σ * 16 + i)) ≡ none → parts ≡ choiceParts (F k) (ms (i + 1)) (ps (i + 1))
     choice-on k are e = are ∙ choice-here i less k ∙ there-none _ _ e
@@ -121,5 +123,5 @@ module _ {source target map em : List ℕ} (ready : Ready source target map em) 
           there = found .there;
           on = refl;
           less = omega arith;
-          is-type = row-member ready exists (omega arith) (omega arith) i less;
+          is-type = row-member ready exists (choice-range _ choosing .0) (choice-range _ choosing .1) i less;
         }

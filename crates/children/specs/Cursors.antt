@@ -1,5 +1,6 @@
 -- Which children of a source element are still to be read, by a cursor.
 use mathlib.Core.Path.{_≡_}
+use mathlib.Core.Bool.{true}
 use mathlib.Core.List.{List}
 use mathlib.Core.Option.{Option}
 use Prim.Native.Nat.{ℕ, _+_, _-_, _*_, _≤_, _<_}
@@ -7,6 +8,7 @@ use lib.ListN.{length, take, drop, getD}
 use Rattle.model.specs.Definitions.Content.{Content}
 use Rattle.model.specs.Definitions.Inverse.{follow}
 use Rattle.loaded_table.specs.Loaded.{typesIn, kindsOf, countsOf, membersIn, tableBy}
+use Rattle.loaded_table.specs.Kinds.{choiceCode}
 use Rattle.loaded_embedding.specs.Loaded.{targetsOf, stepsFrom}
 use Rattle.paths.specs.Following.{Followable, pathsFrom}
 use Rattle.scanning.specs.Scanning.{ContentAt}
@@ -46,9 +48,9 @@ pub record LeftEdges (source target map em : List ℕ) (σ : ℕ) (k : Content) 
   pub high : i ≤ getD (countsOf source) σ 0
   pub are : parts ≡ memberParts (along target map σ k) (membersLeft source σ i) (pathsLeft source map em σ i)
 
--- the member of a choice is left
+-- the member of a choice of either kind is left
 pub record LeftChoice (source target map em : List ℕ) (σ : ℕ) (k : Content) (parts : Parts) : Type 0 where
-  pub is-choice : getD (kindsOf source) σ 0 ≡ 3
+  pub is-choice : choiceCode (getD (kindsOf source) σ 0) ≡ true
   pub are : parts ≡ choiceParts (along target map σ k) (membersLeft source σ 0) (pathsLeft source map em σ 0)
 
 -- the items of the target list from an offset on are left

@@ -2,10 +2,11 @@
 use mathlib.Core.List.{List, [], _∷_}
 use mathlib.Core.Option.{Option, none, some}
 use Prim.Native.Nat.{ℕ}
+use Rattle.model.specs.Definitions.Commands.{needed, optional}
 use Rattle.model.specs.Definitions.Table.{Kind, text, empty, sequence, choice, list, Table, kindOf}
 use Rattle.model.specs.Definitions.Content.{Content, end, char, elem}
-use Rattle.model.specs.Definitions.Embedding.{targetOf, pathsOf, Divided, divide}
-use Rattle.model.specs.Definitions.Image.{Setting, onlyPath}
+use Rattle.model.specs.Definitions.Embedding.{targetOf, pathsOf, firstPath, Divided, divide, beforeChoice}
+use Rattle.model.specs.Definitions.Image.{Setting}
 use Rattle.model.specs.Definitions.Inverse.{follow, readOne}
 
 -- no child more; something is missing; a child of a type, what it is read from, and the children after it
@@ -40,6 +41,13 @@ choiceParts at [] ps = broken
 choiceParts at (m ∷ ms) [] = broken
 choiceParts at (m ∷ ms) (p ∷ ps) = ifThere m (at p) (choiceParts at ms ps)
 
+-- of an optional choice there is none where an empty element was found, else the member
+unfoldable pub optionalParts : Option Content → Parts → Parts
+optionalParts none member = member
+optionalParts (some end) member = done
+optionalParts (some (char c r)) member = member
+optionalParts (some (elem t k r)) member = member
+
 unfoldable pub itemParts : (Content → Option Content) → ℕ → Content → Parts
 itemParts beyond m end = done
 itemParts beyond m (char c r) = broken
@@ -55,8 +63,9 @@ unfoldable pub kindParts : Table → Kind → ℕ → List (List ℕ) → Conten
 kindParts T text τ ps k = done
 kindParts T empty τ ps k = done
 kindParts T (sequence ms) τ ps k = memberParts (λ p. follow T τ p k) ms ps
-kindParts T (choice ms) τ ps k = choiceParts (λ p. follow T τ p k) ms ps
-kindParts T (list m) τ ps k = listParts T (divide T τ (onlyPath ps)) m (follow T τ (divide T τ (onlyPath ps) .before) k)
+kindParts T (choice needed ms) τ ps k = choiceParts (λ p. follow T τ p k) ms ps
+kindParts T (choice optional ms) τ ps k = optionalParts (follow T τ (beforeChoice T τ (firstPath ps)) k) (choiceParts (λ p. follow T τ p k) ms ps)
+kindParts T (list m) τ ps k = listParts T (divide T τ (firstPath ps)) m (follow T τ (divide T τ (firstPath ps) .before) k)
 
 -- the children of a source element of type σ, whose image holds k
 abbrev pub childParts : Setting → ℕ → Content → Parts

@@ -1,20 +1,24 @@
 // The children of a source element, one after another, each found in a target document at the end of its path. specs/ says
 // what is found by the model's definitions.
 use codes::CHARACTER;
+use codes::CLOSES;
 use codes::MAX_MEMBERS;
 use codes::OPENS;
 use following::follow;
 use loaded_embedding::MAP;
 use loaded_table::CHOICE;
 use loaded_table::EMPTY;
+use loaded_table::OPTIONAL;
 use loaded_table::SEQUENCE;
 use loaded_table::TABLE;
 use loaded_table::TEXT;
 use loaded_table::count;
 use loaded_table::member;
+use paths::choice_depth;
 use paths::list_depth;
 use scanning::Found;
 use scanning::spans::close_of;
+ghost use mathlib.Core.Path.{_≡_};
 ghost use mathlib.Core.List.{List};
 ghost use Prim.Native.Nat.{ℕ, _+_, _-_, _*_, _≤_, _<_};
 ghost use lib.ListN.{getD, length};
@@ -214,7 +218,7 @@ fn begin_list<'a>(
     image: Image,
 ) -> Cursor
     requires image { ⌜ ImageThere (now source) (now target) (now map) (now em) (now tr) (now sp) image ⌝ }
-    requires list { ⌜ 4 ≤ getD (kindsOf (now source)) (image .sigma) 0 ⌝ }
+    requires list { ⌜ 5 ≤ getD (kindsOf (now source)) (image .sigma) 0 ⌝ }
     ensures { λ r. ⌜ ShowsAll (now (source .entry)) (now (target .entry)) (now (map .entry)) (now (em .entry)) (now (tr .entry)) image r ⌝ }
 {
     let sigma = image.sigma;
@@ -241,6 +245,39 @@ fn begin_list<'a>(
     }
 }
 
+// The cursor before the member of an optional choice: none where the optional choice that its paths agree on is there and empty.
+fn begin_optional<'a>(
+    source: &[u16; TABLE],
+    target: &[u16; TABLE],
+    map: &[u16; MAP],
+    em: &[u8],
+    tr: &'a [u8],
+    sp: &'a [u16],
+    image: Image,
+) -> Cursor
+    requires image { ⌜ ImageThere (now source) (now target) (now map) (now em) (now tr) (now sp) image ⌝ }
+    requires optional { ⌜ getD (kindsOf (now source)) (image .sigma) 0 ≡ 4 ⌝ }
+    ensures { λ r. ⌜ ShowsAll (now (source .entry)) (now (target .entry)) (now (map .entry)) (now (em .entry)) (now (tr .entry)) image r ⌝ }
+{
+    let sigma = image.sigma;
+    let edge = sigma * MAX_MEMBERS;
+    let start = loaded_embedding::start(map, edge);
+    let steps = loaded_embedding::steps(map, edge);
+    let tau = loaded_embedding::target(map, sigma);
+    let depth = choice_depth(target, em, start, steps, tau);
+    let found = follow(target, em, start, depth, tau, tr, sp, image.from);
+    match found {
+        Found::At(o) => {
+            if tr[o] == CLOSES {
+                Cursor::Last
+            } else {
+                Cursor::Choice
+            }
+        }
+        Found::Missing => Cursor::Choice,
+    }
+}
+
 // The cursor before the first child of an element.
 pub fn begin<'a>(
     source: &[u16; TABLE],
@@ -256,10 +293,10 @@ pub fn begin<'a>(
 {
     let kind = loaded_table::kind(source, image.sigma);
     match kind {
-        TEXT => Cursor::Last,
-        EMPTY => Cursor::Last,
+        TEXT | EMPTY => Cursor::Last,
         SEQUENCE => Cursor::Edges(0),
         CHOICE => Cursor::Choice,
+        OPTIONAL => begin_optional(source, target, map, em, tr, sp, image),
         _ => begin_list(source, target, map, em, tr, sp, image),
     }
 }

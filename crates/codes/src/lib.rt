@@ -28,6 +28,8 @@ pub const LIST_TYPE: u8 = 0x14;
 
 pub const MEMBER: u8 = 0x15;
 
+pub const OPTIONAL_TYPE: u8 = 0x17;
+
 pub const TABLE_END: u8 = 0x1F;
 
 // The commands of an embedding.

@@ -9,12 +9,13 @@ use lib.ListN.{length, getD, set, take, drop, length-set}
 use lib.Seq.{getD-set-same, getD-set-other}
 use lib.Dec.{eqb, leb}
 use borrow.Author.Tests.{eq-eqb, ne-eqb, eqb-true, eqb-false, leb-true, leb-false}
-use Rattle.model.specs.Definitions.Table.{Kind, text, empty, sequence, choice, list, Table, kindOf, edgesOf, isChoice}
+use Rattle.model.specs.Definitions.Table.{Kind, text, empty, sequence, choice, list, Table, kindOf, edgesOf}
 use Rattle.model.specs.Definitions.Embedding.{next, Parting, beginning, apart, parting}
 use Rattle.model.specs.Definitions.EmbeddingChecks.{clashing, clash}
 use Rattle.model.specs.Theorems.Facts.{Walks}
-use Rattle.model.specs.Theorems.Tools.{pick-true, pick-false}
+use Rattle.model.specs.Theorems.Tools.{true-false, pick-true, pick-false}
 use Rattle.loaded_table.specs.Loaded.{kindFrom, tableBy, typesIn, kindsOf, countsOf, membersIn, kind-of}
+use Rattle.loaded_table.specs.Kinds.{choiceCode, choice-code, choice-from}
 use Rattle.loaded_embedding.specs.Loaded.{targetsOf, startsOf, lengthsOf, edgeIn}
 use Rattle.embedding_clash.specs.Paths.{pathOf, PathsAt}
 use Rattle.embedding_clash.specs.Ready.{mapOf, Checkable}
@@ -23,15 +24,6 @@ use Rattle.embedding_clash.proofs.Arrays.{type-at, edge-at}
 use Rattle.embedding_clash.proofs.Following.{StepAt, path-steps, goes-on, rest-none}
 
 -- ---- codes of kinds
-
--- the choice kind is the one with code 3
-choice-code : (code count : ℕ) (row : List ℕ) → isChoice (kindFrom code count row) ≡ eqb code 3
-unfolding isChoice
-choice-code zero count row = sym (ne-eqb 0 3 (λ e. omega arith))
-choice-code (suc zero) count row = sym (ne-eqb 1 3 (λ e. omega arith))
-choice-code (suc (suc zero)) count row = sym (ne-eqb 2 3 (λ e. omega arith))
-choice-code (suc (suc (suc zero))) count row = sym (eq-eqb 3 3 refl)
-choice-code (suc (suc (suc (suc code)))) count row = sym (ne-eqb (suc (suc (suc (suc code)))) 3 (λ e. omega arith))
 
 -- whether paths clash goes by the code of the source type's kind alone
 pub by-code : (code count : ℕ) (row : List ℕ) (v : Parting) → clashing (kindFrom code count row) v ≡ clashing (kindFrom code 0 []) v
@@ -42,30 +34,34 @@ by-code (suc (suc zero)) count row beginning = refl
 by-code (suc (suc zero)) count row (apart κ) = refl
 by-code (suc (suc (suc zero))) count row beginning = refl
 by-code (suc (suc (suc zero))) count row (apart κ) = refl
-by-code (suc (suc (suc (suc code)))) count row v = refl
+by-code (suc (suc (suc (suc zero)))) count row beginning = refl
+by-code (suc (suc (suc (suc zero)))) count row (apart κ) = refl
+by-code (suc (suc (suc (suc (suc code))))) count row v = refl
 
 -- where one path is a beginning of the other, in kinds other than sequences and choices
-pub joined-other : (code : ℕ) → (code ≡ 2 → ⊥) → (code ≡ 3 → ⊥) → false ≡ clashing (kindFrom code 0 []) beginning
+pub joined-other : (code : ℕ) → (code ≡ 2 → ⊥) → (code ≡ 3 → ⊥) → (code ≡ 4 → ⊥) → false ≡ clashing (kindFrom code 0 []) beginning
 unfolding clashing
-joined-other zero a b = refl
-joined-other (suc zero) a b = refl
-joined-other (suc (suc zero)) a b = absurd (a refl)
-joined-other (suc (suc (suc zero))) a b = absurd (b refl)
-joined-other (suc (suc (suc (suc code)))) a b = refl
+joined-other zero a b c = refl
+joined-other (suc zero) a b c = refl
+joined-other (suc (suc zero)) a b c = absurd (a refl)
+joined-other (suc (suc (suc zero))) a b c = absurd (b refl)
+joined-other (suc (suc (suc (suc zero)))) a b c = absurd (c refl)
+joined-other (suc (suc (suc (suc (suc code))))) a b c = refl
 
 -- where they part, in kinds other than choices
-pub parted-other : (code : ℕ) (κ : Kind) → (code ≡ 3 → ⊥) → false ≡ clashing (kindFrom code 0 []) (apart κ)
+pub parted-other : (code : ℕ) (κ : Kind) → choiceCode code ≡ false → false ≡ clashing (kindFrom code 0 []) (apart κ)
 unfolding clashing
-parted-other zero κ b = refl
-parted-other (suc zero) κ b = refl
-parted-other (suc (suc zero)) κ b = refl
-parted-other (suc (suc (suc zero))) κ b = absurd (b refl)
-parted-other (suc (suc (suc (suc code)))) κ b = refl
+parted-other zero κ e = refl
+parted-other (suc zero) κ e = refl
+parted-other (suc (suc zero)) κ e = refl
+parted-other (suc (suc (suc zero))) κ e = true-false refl e
+parted-other (suc (suc (suc (suc zero)))) κ e = true-false refl e
+parted-other (suc (suc (suc (suc (suc code))))) κ e = refl
 
--- where they part in a choice
-pub parted-choice : (code at : ℕ) → code ≡ 3 → not (eqb at 3) ≡ clashing (kindFrom code 0 []) (apart (kindFrom at 0 []))
+-- where they part in a choice of either kind
+pub parted-choice : (code at : ℕ) → choiceCode code ≡ true → not (choiceCode at) ≡ clashing (kindFrom code 0 []) (apart (kindFrom at 0 []))
 unfolding clashing
-parted-choice code at e = rw e (ap not (sym (choice-code at 0 [])))
+parted-choice code at e = rw (choice-from code 0 [] e) (ap not (sym (choice-code at 0 [])))
 
 -- and what they part at goes by its code alone
 apart-code : (κ : Kind) (code count : ℕ) (row : List ℕ) → clashing κ (apart (kindFrom code count row)) ≡ clashing κ (apart (kindFrom code 0 []))
@@ -73,7 +69,7 @@ unfolding clashing
 apart-code text code count row = refl
 apart-code empty code count row = refl
 apart-code (sequence ms) code count row = refl
-apart-code (choice ms) code count row = ap not (choice-code code count row ∙ sym (choice-code code 0 []))
+apart-code (choice need ms) code count row = ap not (choice-code code count row ∙ sym (choice-code code 0 []))
 apart-code (list m) code count row = refl
 
 -- ---- along two paths

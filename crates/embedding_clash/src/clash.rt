@@ -4,8 +4,10 @@ use codes::MAX_MEMBERS;
 use codes::MAX_STEPS;
 use loaded_embedding::MAP;
 use loaded_table::CHOICE;
+use loaded_table::OPTIONAL;
 use loaded_table::SEQUENCE;
 use loaded_table::TABLE;
+use loaded_table::is_choice;
 ghost use mathlib.Core.Path.{_≡_};
 ghost use mathlib.Core.List.{[]};
 ghost use Prim.Native.Nat.{_≤_, min};
@@ -91,6 +93,7 @@ fn joined(kind: usize) -> bool
     match kind {
         SEQUENCE => true,
         CHOICE => true,
+        OPTIONAL => true,
         _ => false,
     }
 }
@@ -99,5 +102,9 @@ fn joined(kind: usize) -> bool
 fn parted(kind: usize, at: usize) -> bool
     ensures { λ r. ⌜ r ≡ clashing (kindFrom kind 0 []) (apart (kindFrom at 0 [])) ⌝ }
 {
-    if kind == CHOICE { at != CHOICE } else { false }
+    if is_choice(kind) {
+        !is_choice(at)
+    } else {
+        false
+    }
 }

@@ -1,7 +1,7 @@
 -- Laws of a loop that makes one check after another, and the model's checks of types and of edges as such loops.
 use mathlib.Core.Path.{_≡_, refl, sym, ap, _∙_}
-use mathlib.Core.Bool.{Bool, true, false, not}
-use mathlib.Core.List.{List, [], _∷_}
+use mathlib.Core.Bool.{Bool, true, false, not, _&&_}
+use mathlib.Core.List.{List, [], _∷_, map}
 use Prim.Native.Nat.{ℕ, zero, suc, _+_, _-_, _≤_, _<_}
 use native.Mathlib.Nat.{sub-zero}
 use native.Mathlib.Numerals.{add-one}
@@ -10,8 +10,8 @@ use lib.ListN.{length, getD}
 use lib.Dec.{eqb}
 use Rattle.model.specs.Definitions.Basics.{Verdict, passes, fails, pick, orElse, some-of}
 use Rattle.model.specs.Definitions.Table.{Kind, text, empty, sequence, choice, list, Table, kindOf, edgesOf}
-use Rattle.model.specs.Definitions.Embedding.{Edge, TypeMap, Embedding, noMap, targetOf, endOf, leaves}
-use Rattle.model.specs.Definitions.EmbeddingChecks.{eachType, firstEdge, endsAt, endsAtText, endsOf, rightSteps, stepsOf, firstClash, clashesOf, clash, wrongEnd, wrongSteps, pathClash}
+use Rattle.model.specs.Definitions.Embedding.{Edge, TypeMap, Embedding, noMap, targetOf, endOf, leaves, firstPath}
+use Rattle.model.specs.Definitions.EmbeddingChecks.{eachType, firstEdge, endsAt, endsAtText, endsOf, rightSteps, agrees, stepsOf, firstClash, clashesOf, clash, wrongEnd, wrongSteps, pathClash}
 use Rattle.model.specs.Theorems.Tools.{pick-true, pick-false, and-left, and-right}
 use Rattle.loaded_table.specs.Loaded.{tableBy, length-of}
 use Rattle.loaded_embedding.specs.Loaded.{targetsOf, startsOf, lengthsOf, embeddingBy}
@@ -120,14 +120,16 @@ unfolding endsOf edgesOf endRight edgeOf endsAtText eachFrom
 ends-each E T text f h = edges-each (endsAtText T (f .target)) (f .edges) ∙ ap (eachFrom _ 0) h
 ends-each E T empty f h = refl
 ends-each E T (sequence ms) f h = members-each E T (f .target) ms (f .edges) h
-ends-each E T (choice ms) f h = members-each E T (f .target) ms (f .edges) h
+ends-each E T (choice need ms) f h = members-each E T (f .target) ms (f .edges) h
 ends-each E T (list m) f h = members-each E T (f .target) (m ∷ []) (f .edges) h
 
 -- check 9 of a type
 steps-each : (T : Table) (κ : Kind) (f : TypeMap) → length (f .edges) ≡ edgesOf κ
     → stepsOf T κ f ≡ eachFrom (λ (i : ℕ). pick (stepsRight T κ f i) passes (fails (edgeOf f i .at))) 0 (edgesOf κ)
 unfolding stepsOf stepsRight edgeOf
-steps-each T κ f h = edges-each (λ (d : Edge). rightSteps κ (leaves T (f .target) (d .steps))) (f .edges) ∙ ap (eachFrom _ 0) h
+steps-each T κ f h =
+    edges-each (λ (d : Edge). rightSteps κ (leaves T (f .target) (d .steps)) && agrees T κ (f .target) (firstPath (map (λ (e : Edge). e .steps) (f .edges))) (d .steps)) (f .edges)
+    ∙ ap (eachFrom _ 0) h
 
 -- ---- clashes of one type
 

@@ -7,7 +7,8 @@ use lib.ListN.{length, getD, take, drop, length-take}
 use lib.Seq.{getD-take, getD-drop}
 use lib.Dec.{eqb}
 use borrow.Author.Tests.{eq-eqb, ne-eqb}
-use Rattle.model.specs.Definitions.Table.{Kind, Table, kindOf, membersOf, stepFrom, edgesOf, isText}
+use Rattle.model.specs.Definitions.Commands.{needed, optional}
+use Rattle.model.specs.Definitions.Table.{Kind, sequence, choice, Table, kindOf, membersOf, stepFrom, edgesOf, isText}
 use Rattle.model.specs.Definitions.Embedding.{TypeMap, Embedding, targetOf, next, endOf}
 use Rattle.model.specs.Theorems.Facts.{WellFormed, Walks, arrived, onward}
 use Rattle.model.specs.Theorems.Tools.{entry-member}
@@ -31,7 +32,8 @@ text-code zero count row = sym (eq-eqb 0 0 refl)
 text-code (suc zero) count row = sym (ne-eqb 1 0 (λ e. omega arith))
 text-code (suc (suc zero)) count row = sym (ne-eqb 2 0 (λ e. omega arith))
 text-code (suc (suc (suc zero))) count row = sym (ne-eqb 3 0 (λ e. omega arith))
-text-code (suc (suc (suc (suc code)))) count row = sym (ne-eqb (suc (suc (suc (suc code)))) 0 (λ e. omega arith))
+text-code (suc (suc (suc (suc zero)))) count row = sym (ne-eqb 4 0 (λ e. omega arith))
+text-code (suc (suc (suc (suc (suc code))))) count row = sym (ne-eqb (suc (suc (suc (suc (suc code))))) 0 (λ e. omega arith))
 
 mem-at : (xs : List ℕ) (i : ℕ) → i < length xs → List·Memᴰ (getD xs i 0) xs
 mem-at [] i h = absurd (omega arith)
@@ -46,26 +48,25 @@ record ByMember (E : Embedding) (T : Table) (κ : Kind) (f : TypeMap) (i m : ℕ
   asked : endRight E T κ f i ≡ eqb (endOf T (f .target) (edgeOf f i .steps)) (targetOf E m)
   is-member : List·Memᴰ m (membersOf κ)
 
-in-taken : (ms : List ℕ) (count : ℕ) (row : List ℕ) (i : ℕ) → ms ≡ take count row → i < length ms → List·Memᴰ (getD row i 0) ms
-in-taken ms count row i e h =
-    let below : i < length (take count row) = rw e at h in
-    rw e (rw (taken count row i below) at (mem-at (take count row) i below))
+-- where the members are the first of a row
+row-member : (E : Embedding) (T : Table) (κ : Kind) (f : TypeMap) (count : ℕ) (row : List ℕ) (i : ℕ)
+    → endRight E T κ f i ≡ eqb (endOf T (f .target) (edgeOf f i .steps)) (targetOf E (getD (take count row) i 0))
+    → membersOf κ ≡ take count row → i < length (take count row) → ByMember E T κ f i (getD row i 0)
+row-member E T κ f count row i asks members h = record {
+  asked = asks ∙ ap (λ (m : ℕ). eqb (endOf T (f .target) (edgeOf f i .steps)) (targetOf E m)) (taken count row i h);
+  is-member = rw members (rw (taken count row i h) at (mem-at (take count row) i h));
+}
 
 by-member : (E : Embedding) (T : Table) (f : TypeMap) (code count : ℕ) (row : List ℕ) (i : ℕ)
     → (code ≡ 0 → ⊥) → i < edgesOf (kindFrom code count row) → ByMember E T (kindFrom code count row) f i (getD row i 0)
 unfolding edgesOf endRight membersOf
 by-member E T f zero count row i no-text h = absurd (no-text refl)
 by-member E T f (suc zero) count row i no-text h = absurd (omega arith)
-by-member E T f (suc (suc zero)) count row i no-text h = record {
-  asked = ap (λ (m : ℕ). eqb (endOf T (f .target) (edgeOf f i .steps)) (targetOf E m)) (taken count row i h);
-  is-member = in-taken (take count row) count row i refl h;
-}
-by-member E T f (suc (suc (suc zero))) count row i no-text h = record {
-  asked = ap (λ (m : ℕ). eqb (endOf T (f .target) (edgeOf f i .steps)) (targetOf E m)) (taken count row i h);
-  is-member = in-taken (take count row) count row i refl h;
-}
-by-member E T f (suc (suc (suc (suc code)))) count row zero no-text h = record { asked = refl; is-member = List·Memᴰ·head refl }
-by-member E T f (suc (suc (suc (suc code)))) count row (suc i) no-text h = absurd (omega arith)
+by-member E T f (suc (suc zero)) count row i no-text h = row-member E T (sequence (take count row)) f count row i refl refl h
+by-member E T f (suc (suc (suc zero))) count row i no-text h = row-member E T (choice needed (take count row)) f count row i refl refl h
+by-member E T f (suc (suc (suc (suc zero)))) count row i no-text h = row-member E T (choice optional (take count row)) f count row i refl refl h
+by-member E T f (suc (suc (suc (suc (suc code))))) count row zero no-text h = record { asked = refl; is-member = List·Memᴰ·head refl }
+by-member E T f (suc (suc (suc (suc (suc code))))) count row (suc i) no-text h = absurd (omega arith)
 
 by-text : (E : Embedding) (T : Table) (f : TypeMap) (code count : ℕ) (row : List ℕ) (i : ℕ)
     → code ≡ 0 → endRight E T (kindFrom code count row) f i ≡ isText (kindOf T (endOf T (f .target) (edgeOf f i .steps)))

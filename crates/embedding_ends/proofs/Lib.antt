@@ -3,3 +3,4 @@ pub mod Loops
 pub mod Here
 pub mod EndLaws
 pub mod StepLaws
+pub mod AgreeLaws

@@ -1,6 +1,6 @@
 -- Check 9 for one path: the choices and lists that its steps leave decide.
 use mathlib.Core.Path.{_≡_, refl, sym, ap, _∙_}
-use mathlib.Core.Bool.{Bool, true, false, not, _||_}
+use mathlib.Core.Bool.{Bool, true, false, not, _&&_, _||_}
 use mathlib.Core.List.{List, [], _∷_}
 use mathlib.Core.Option.{some}
 use Prim.Native.Nat.{ℕ, zero, suc, _+_, _*_, _<_}
@@ -8,18 +8,17 @@ use native.Mathlib.Omega.{arith}
 use lib.ListN.{length, getD, take, drop}
 use lib.Dec.{ltb}
 use borrow.Author.Tests.{lt-ltb, le-ltb}
-use Rattle.model.specs.Definitions.Basics.{some-of}
-use Rattle.model.specs.Definitions.Table.{Kind, text, empty, sequence, choice, list, Table, kindOf, stepFrom, edgesOf, isSequence, isChoice, isList}
+use Rattle.model.specs.Definitions.Basics.{pick, some-of}
+use Rattle.model.specs.Definitions.Table.{Kind, text, empty, sequence, choice, list, Table, kindOf, stepFrom, edgesOf, isSequence, isChoice, isOptional, isList}
 use Rattle.model.specs.Definitions.Embedding.{next, leaves}
 use Rattle.loaded_embedding.specs.Loaded.{targetsOf, startsOf, lengthsOf, stepsFrom, edgeIn}
-use Rattle.model.specs.Definitions.EmbeddingChecks.{rightSteps, leavesOnly, sequenceOrList, sequenceOrChoice}
+use Rattle.model.specs.Definitions.EmbeddingChecks.{rightSteps, leavesOnly, sequenceOrList, sequenceOrChoice, optionalFirst}
 use Rattle.model.specs.Theorems.Facts.{Walks, arrived, onward}
 use Rattle.loaded_table.specs.Loaded.{kindFrom, kindIn, tableBy, typesIn, kindsOf, countsOf, membersIn, kind-of}
 use Rattle.embedding_ends.specs.declared.steps.Left.{Left}
 use Rattle.embedding_clash.specs.Paths.{pathOf}
 use Rattle.embedding_clash.specs.Ready.{mapOf, Checkable}
 use Rattle.embedding_clash.specs.Edges.{edgeOf}
-use Rattle.embedding_ends.specs.Tests.{stepsRight}
 use Rattle.embedding_clash.proofs.Arrays.{type-at, edge-at}
 use Rattle.embedding_ends.specs.Kinds.{withKind, rightBy, LeftAll}
 use Rattle.embedding_clash.proofs.Following.{steps-length, path-steps, StepAt, goes-on, none-from-text, none-from}
@@ -41,7 +40,31 @@ more-choice zero count row left b = refl
 more-choice (suc zero) count row left b = refl
 more-choice (suc (suc zero)) count row left b = refl
 more-choice (suc (suc (suc zero))) count row left b = sym (or-true (left .choice))
-more-choice (suc (suc (suc (suc code)))) count row left b = refl
+more-choice (suc (suc (suc (suc zero)))) count row left b = sym (or-true (left .choice))
+more-choice (suc (suc (suc (suc (suc code))))) count row left b = refl
+
+-- whether the first choice is an optional one: told before, or no choice was left so far and what is left tells it
+abbrev firstOptional : Left → Bool → Bool
+firstOptional left b = left .optional || (not (left .choice) && b)
+
+needed-more : (choice optional : Bool) → (optional || false) ≡ (optional || (not choice && false))
+needed-more true optional = refl
+needed-more false optional = refl
+
+optional-more : (choice optional : Bool) → (pick choice optional true || false) ≡ (optional || (not choice && true))
+unfolding pick
+optional-more true optional = refl
+optional-more false optional = sym (or-true optional)
+
+more-optional : (code count : ℕ) (row : List ℕ) (left : Left) (κs : List Kind)
+    → firstOptional (withKind left code) (optionalFirst κs) ≡ firstOptional left (optionalFirst (kindFrom code count row ∷ κs))
+unfolding optionalFirst isChoice isOptional pick
+more-optional zero count row left κs = refl
+more-optional (suc zero) count row left κs = refl
+more-optional (suc (suc zero)) count row left κs = refl
+more-optional (suc (suc (suc zero))) count row left κs = needed-more (left .choice) (left .optional)
+more-optional (suc (suc (suc (suc zero)))) count row left κs = optional-more (left .choice) (left .optional)
+more-optional (suc (suc (suc (suc (suc code))))) count row left κs = refl
 
 more-list : (code count : ℕ) (row : List ℕ) (left : Left) (b : Bool)
     → (withKind left code .list || b) ≡ (left .list || (isList (kindFrom code count row) || b))
@@ -50,12 +73,14 @@ more-list zero count row left b = refl
 more-list (suc zero) count row left b = refl
 more-list (suc (suc zero)) count row left b = refl
 more-list (suc (suc (suc zero))) count row left b = refl
-more-list (suc (suc (suc (suc code)))) count row left b = sym (or-true (left .list))
+more-list (suc (suc (suc (suc zero)))) count row left b = refl
+more-list (suc (suc (suc (suc (suc code))))) count row left b = sym (or-true (left .list))
 
 -- on the way along a path: what was collected, with what is left, is what the whole path leaves
 pub record Leaving (T : Table) (from : ℕ) (whole : List ℕ) (t : ℕ) (rest : List ℕ) (left : Left) : Type 0 where
   pub walks : Walks T t rest
   pub choices : (left .choice || some-of isChoice (leaves T t rest)) ≡ some-of isChoice (leaves T from whole)
+  pub optionals : firstOptional left (optionalFirst (leaves T t rest)) ≡ optionalFirst (leaves T from whole)
   pub lists : (left .list || some-of isList (leaves T t rest)) ≡ some-of isList (leaves T from whole)
 
 leaving-on : {T : Table} {from : ℕ} {whole : List ℕ} {t p : ℕ} {ps : List ℕ} {left : Left} → Leaving T from whole t (p ∷ ps) left
@@ -64,6 +89,7 @@ unfolding some-of leaves
 leaving-on {T} {t = t} {p} {ps} {left} w code count row e = record {
   walks = goes-on (w .walks) .onwards;
   choices = more-choice code count row left (some-of isChoice (leaves T (next T t p) ps)) ∙ (rw e at (w .choices));
+  optionals = more-optional code count row left (leaves T (next T t p) ps) ∙ (rw e at (w .optionals));
   lists = more-list code count row left (some-of isList (leaves T (next T t p) ps)) ∙ (rw e at (w .lists));
 }
 
@@ -74,8 +100,12 @@ leaving-in {target} {t = t} s w =
     leaving-on w (getD (kindsOf target) t 0) (getD (countsOf target) t 0) (drop (t * 16) (membersIn target)) (kind-of target t (s .inside))
 
 pub leaving-ends : {T : Table} {from : ℕ} {whole : List ℕ} {t : ℕ} {rest : List ℕ} {left : Left} → Leaving T from whole t rest left → rest ≡ [] → LeftAll left T from whole
-unfolding some-of leaves
-leaving-ends {left = left} w e = record { choices = sym (or-false (left .choice)) ∙ (rw e at (w .choices)); lists = sym (or-false (left .list)) ∙ (rw e at (w .lists)) }
+unfolding some-of leaves optionalFirst
+leaving-ends {left = left} w e = record {
+  choices = sym (or-false (left .choice)) ∙ (rw e at (w .choices));
+  optionals = sym (or-false (left .optional)) ∙ needed-more (left .choice) (left .optional) ∙ (rw e at (w .optionals));
+  lists = sym (or-false (left .list)) ∙ (rw e at (w .lists));
+}
 
 -- ---- deciding
 
@@ -85,7 +115,7 @@ unfolding sequenceOrList isSequence isList isChoice
 not-choice text p m e = absurd (none-from-text p m e)
 not-choice empty p m e = absurd (none-from p m e)
 not-choice (sequence ms) p m e = refl
-not-choice (choice ms) p m e = refl
+not-choice (choice need ms) p m e = refl
 not-choice (list x) p m e = refl
 
 not-list : (κ : Kind) (p m : ℕ) → stepFrom κ p ≡ some m → not (sequenceOrChoice κ) ≡ isList κ
@@ -93,7 +123,7 @@ unfolding sequenceOrChoice isSequence isList isChoice
 not-list text p m e = absurd (none-from-text p m e)
 not-list empty p m e = absurd (none-from p m e)
 not-list (sequence ms) p m e = refl
-not-list (choice ms) p m e = refl
+not-list (choice need ms) p m e = refl
 not-list (list x) p m e = refl
 
 -- two tests that agree on kinds that steps leave agree on a path
@@ -129,7 +159,8 @@ right-by w l zero count row = rw (l .choices, only-lists w)
 right-by w l (suc zero) count row = refl
 right-by {T} {τ} {ps} w l (suc (suc zero)) count row = rw (l .choices, only-lists w, some-step T τ ps)
 right-by w l (suc (suc (suc zero))) count row = rw (l .choices, l .lists, only-choices w)
-right-by w l (suc (suc (suc (suc code)))) count row = rw (l .choices, l .lists, only-lists w)
+right-by w l (suc (suc (suc (suc zero)))) count row = rw (l .optionals, l .lists, only-choices w)
+right-by w l (suc (suc (suc (suc (suc code))))) count row = rw (l .choices, l .lists, only-lists w)
 
 module _ {source target em map : List ℕ}
     (r : Checkable source target em map)
@@ -142,15 +173,14 @@ module _ {source target em map : List ℕ}
   unfolding edgeIn
   same-leaves = rw (edge-at r s i hs hi .edge-is, type-at r s hs .target-is)
 
-  -- what the code decides of an edge
-  pub edge-right : {left : Left} {kind from count : ℕ} {path : List ℕ} → kind ≡ getD (kindsOf source) s 0 → from ≡ getD (targetsOf map) s 0 → count ≡ getD (lengthsOf map) (s * 16 + i) 0
+  -- what the code decides of the kinds that an edge leaves
+  pub kinds-right : {left : Left} {kind from count : ℕ} {path : List ℕ} → kind ≡ getD (kindsOf source) s 0 → from ≡ getD (targetsOf map) s 0 → count ≡ getD (lengthsOf map) (s * 16 + i) 0
       → path ≡ pathOf em map (s * 16 + i)
       → LeftAll left (tableBy target) from (take count path)
       → rightBy kind left count
-      ≡ stepsRight (tableBy target) (kindOf (tableBy source) s)
-      (mapOf source em map s) i
-  unfolding stepsRight
-  edge-right {left} {count = count} {path} ek ef ec ep l =
+      ≡ rightSteps (kindOf (tableBy source) s)
+      (leaves (tableBy target) (mapOf source em map s .target) (edgeOf (mapOf source em map s) i .steps))
+  kinds-right {left} {count = count} {path} ek ef ec ep l =
       let all : LeftAll left (tableBy target) (getD (targetsOf map) s 0) (stepsFrom em (getD (startsOf map) (s * 16 + i) 0 + 2) (getD (lengthsOf map) (s * 16 + i) 0)) =
       rw (ef, ec, ep, path-steps em (getD (startsOf map) (s * 16 + i) 0) (getD (lengthsOf map) (s * 16 + i) 0)) at l in
       let decided : rightBy (getD (kindsOf source) s 0) left (length (stepsFrom em (getD (startsOf map) (s * 16 + i) 0 + 2) (getD (lengthsOf map) (s * 16 + i) 0)))

@@ -1,4 +1,5 @@
 // Checks 8 to 10: each edge of each source type, in order.
+use super::agreement::agree;
 use super::ends::right_end;
 use super::steps::kinds_left;
 use super::steps::right_kinds;
@@ -10,6 +11,7 @@ use embedding_clash::path::paths_of;
 use embedding_clash::walk::end_of;
 use embedding_form::edges::edges_of;
 use loaded_embedding::MAP;
+use loaded_table::OPTIONAL;
 use loaded_table::TABLE;
 ghost use mathlib.Core.Path.{_≡_};
 ghost use Prim.Native.Nat.{_<_};
@@ -101,7 +103,7 @@ fn ends_right(
     right_end(source, target, em, map, s, i, end)
 }
 
-// Whether its steps are of the right kinds.
+// Whether its steps are of the right kinds, and those of an optional choice before its first choice step are the first path's.
 fn steps_right(
     source: &[u16; TABLE],
     target: &[u16; TABLE],
@@ -118,7 +120,16 @@ fn steps_right(
     let count = loaded_embedding::steps(map, s * MAX_MEMBERS + i);
     let from = loaded_embedding::target(map, s);
     let left = kinds_left(target, from, path, count);
-    right_kinds(loaded_table::kind(source, s), left, count)
+    let kind = loaded_table::kind(source, s);
+    if !right_kinds(kind, left, count) {
+        return false;
+    }
+    if kind != OPTIONAL {
+        return true;
+    }
+    let first = paths[0];
+    let steps = loaded_embedding::steps(map, s * MAX_MEMBERS);
+    agree(target, from, first, steps, path, count)
 }
 
 // Whether edge `i` of source type `s` is as a check asks.

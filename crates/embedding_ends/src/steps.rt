@@ -3,18 +3,23 @@ use codes::MAX_STEPS;
 use embedding_clash::walk::next_type;
 use loaded_table::CHOICE;
 use loaded_table::EMPTY;
+use loaded_table::OPTIONAL;
 use loaded_table::SEQUENCE;
 use loaded_table::TABLE;
 use loaded_table::TEXT;
 ghost use mathlib.Core.Path.{_≡_};
+ghost use mathlib.Core.Bool.{true};
 ghost use lib.ListN.{take};
 ghost use Rattle.loaded_table.specs.Loaded.{tableBy};
 ghost use Rattle.embedding_clash.specs.Paths.{Walkable};
+ghost use Rattle.model.specs.Definitions.Basics.{pick};
 ghost use Rattle.embedding_ends.specs.Kinds.{withKind, rightBy, LeftAll};
 
-// Whether a path leaves a choice, and whether it leaves a list.
+// Whether a path leaves a choice of either kind, whether the first choice that it leaves is an optional one, and whether it leaves
+// a list.
 pub struct Left {
     pub choice: bool,
+    pub optional: bool,
     pub list: bool,
 }
 
@@ -25,6 +30,7 @@ pub fn kinds_left(target: &[u16; TABLE], from: usize, path: [u8; MAX_STEPS], cou
 {
     let mut left = Left {
         choice: false,
+        optional: false,
         list: false,
     };
     let mut t = from;
@@ -47,18 +53,32 @@ fn with_kind(left: Left, kind: usize) -> Left
         SEQUENCE => left,
         CHOICE => Left {
             choice: true,
+            optional: left.optional,
+            list: left.list,
+        },
+        OPTIONAL => Left {
+            choice: true,
+            optional: optional_first(left),
             list: left.list,
         },
         _ => Left {
             choice: left.choice,
+            optional: left.optional,
             list: true,
         },
     }
 }
 
+// Whether the first choice left is an optional one, where one step more leaves an optional choice.
+fn optional_first(left: Left) -> bool
+    ensures { λ r. ⌜ r ≡ pick (left .choice) (left .optional) true ⌝ }
+{
+    if left.choice { left.optional } else { true }
+}
+
 // Whether a path of `count` steps that leaves these kinds is right for a source type of a kind: from a text type no
-// choices; from a sequence no choices and some step; from a choice some choice and no list; from a list some list and no
-// choice.
+// choices; from a sequence no choices and some step; from a choice some choice and no list; from an optional choice no
+// list and some choice, the first an optional one; from a list some list and no choice.
 pub fn right_kinds(kind: usize, left: Left, count: usize) -> bool
     ensures { λ r. ⌜ r ≡ rightBy kind left count ⌝ }
 {
@@ -76,6 +96,12 @@ pub fn right_kinds(kind: usize, left: Left, count: usize) -> bool
                 return false;
             }
             left.choice
+        }
+        OPTIONAL => {
+            if left.list {
+                return false;
+            }
+            left.optional
         }
         _ => {
             if left.choice {

@@ -26,14 +26,28 @@ members-counted members t n long h few =
 
 -- ---- kinds
 
--- a code other than those of the first four kinds is a list's
-pub past-three : (P : ℕ → Type 0) → ((code : ℕ) → P (suc (suc (suc (suc code)))))
-    → (code : ℕ) → (code ≡ 0 → ⊥) → (code ≡ 1 → ⊥) → (code ≡ 2 → ⊥) → (code ≡ 3 → ⊥) → P code
-past-three P lists zero a b c d = absurd (a refl)
-past-three P lists (suc zero) a b c d = absurd (b refl)
-past-three P lists (suc (suc zero)) a b c d = absurd (c refl)
-past-three P lists (suc (suc (suc zero))) a b c d = absurd (d refl)
-past-three P lists (suc (suc (suc (suc code)))) a b c d = lists code
+-- a code from 2 to 4 is that of a kind with a row of members: of a sequence or of a choice of either kind
+pub with-row : (P : ℕ → Type 0) → P 2 → P 3 → P 4 → (code : ℕ) → 2 ≤ code → code < 5 → P code
+with-row P two three four zero low high = absurd (omega arith)
+with-row P two three four (suc zero) low high = absurd (omega arith)
+with-row P two three four (suc (suc zero)) low high = two
+with-row P two three four (suc (suc (suc zero))) low high = three
+with-row P two three four (suc (suc (suc (suc zero)))) low high = four
+with-row P two three four (suc (suc (suc (suc (suc code))))) low high = absurd (omega arith)
+
+-- a code other than those of the first five kinds is a list's
+pub past-four : (P : ℕ → Type 0) → ((code : ℕ) → P (suc (suc (suc (suc (suc code))))))
+    → (code : ℕ) → (code ≡ 0 → ⊥) → (code ≡ 1 → ⊥) → (code ≡ 2 → ⊥) → (code ≡ 3 → ⊥) → (code ≡ 4 → ⊥) → P code
+past-four P lists zero a b c d e = absurd (a refl)
+past-four P lists (suc zero) a b c d e = absurd (b refl)
+past-four P lists (suc (suc zero)) a b c d e = absurd (c refl)
+past-four P lists (suc (suc (suc zero))) a b c d e = absurd (d refl)
+past-four P lists (suc (suc (suc (suc zero)))) a b c d e = absurd (e refl)
+past-four P lists (suc (suc (suc (suc (suc code))))) a b c d e = lists code
+
+-- that is, one from 5 on
+pub from-five : (P : ℕ → Type 0) → ((code : ℕ) → P (suc (suc (suc (suc (suc code)))))) → (code : ℕ) → 5 ≤ code → P code
+from-five P lists code high = past-four P lists code (λ e. omega (arith, e)) (λ e. omega (arith, e)) (λ e. omega (arith, e)) (λ e. omega (arith, e)) (λ e. omega (arith, e))
 
 -- a kind with so many members counted has no more edges than 16
 kind-few : (code count : ℕ) (row : List ℕ) → count ≤ 16 → edgesOf (kindFrom code count row) ≤ 16
@@ -42,7 +56,8 @@ kind-few zero count row h = omega arith
 kind-few (suc zero) count row h = omega arith
 kind-few (suc (suc zero)) count row h = rw (length-take count row) (omega arith)
 kind-few (suc (suc (suc zero))) count row h = rw (length-take count row) (omega arith)
-kind-few (suc (suc (suc (suc code)))) count row h = omega arith
+kind-few (suc (suc (suc (suc zero)))) count row h = rw (length-take count row) (omega arith)
+kind-few (suc (suc (suc (suc (suc code))))) count row h = omega arith
 
 -- nor has a type of a loaded table, nor a number that is none
 pub few-edges : (rows : List ℕ) → Bounded rows → (t : ℕ) → edgesOf (kindOf (tableBy rows) t) ≤ 16
@@ -71,19 +86,15 @@ module _ (rows : List ℕ) (t : ℕ) (here : t < typesIn rows) {code : ℕ} (tol
   unfolding edgesOf
   empty-edge e = rw (sym kind-told, e)
 
-  pub list-edge : (code ≡ 0 → ⊥) → (code ≡ 1 → ⊥) → (code ≡ 2 → ⊥) → (code ≡ 3 → ⊥) → 1 ≡ edgesOf (kindOf (tableBy rows) t)
+  pub list-edge : 5 ≤ code → 1 ≡ edgesOf (kindOf (tableBy rows) t)
   unfolding edgesOf
-  list-edge a b c d = rw (sym kind-told) (past-three (λ (k : ℕ). 1 ≡ edgesOf (kindFrom k (getD (countsOf rows) t 0) (drop (t * 16) (membersIn rows)))) (λ k. refl) code a b c d)
+  list-edge high = rw (sym kind-told) (from-five (λ (k : ℕ). 1 ≡ edgesOf (kindFrom k (getD (countsOf rows) t 0) (drop (t * 16) (membersIn rows)))) (λ k. refl) code high)
 
   module _ (bounded : Bounded rows) {n : ℕ} (counted : n ≡ getD (countsOf rows) t 0) where
-    -- a sequence and a choice have an edge for each member counted
+    -- a sequence and a choice of either kind have an edge for each member counted
     all-counted : n ≡ length (take (getD (countsOf rows) t 0) (drop (t * 16) (membersIn rows)))
     all-counted = counted ∙ members-counted (membersIn rows) t (getD (countsOf rows) t 0) (members-whole rows bounded) (omega (arith, here, bounded .few-types)) (bounded .few-members t)
 
-    pub sequence-edges : code ≡ 2 → n ≡ edgesOf (kindOf (tableBy rows) t)
+    pub row-edges : 2 ≤ code → code < 5 → n ≡ edgesOf (kindOf (tableBy rows) t)
     unfolding edgesOf
-    sequence-edges e = rw (sym kind-told, e) all-counted
-
-    pub choice-edges : code ≡ 3 → n ≡ edgesOf (kindOf (tableBy rows) t)
-    unfolding edgesOf
-    choice-edges e = rw (sym kind-told, e) all-counted
+    row-edges low high = rw (sym kind-told) (with-row (λ (k : ℕ). n ≡ edgesOf (kindFrom k (getD (countsOf rows) t 0) (drop (t * 16) (membersIn rows)))) all-counted all-counted all-counted code low high)

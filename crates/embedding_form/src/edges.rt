@@ -6,12 +6,13 @@ ghost use Rattle.model.specs.Definitions.Table.{kindOf, edgesOf};
 ghost use Rattle.model.specs.Definitions.TableChecks.{maxMembers};
 use loaded_table::CHOICE;
 use loaded_table::EMPTY;
+use loaded_table::OPTIONAL;
 use loaded_table::SEQUENCE;
 use loaded_table::TABLE;
 use loaded_table::TEXT;
 
-// The number of edges of type t: one for text, none for an empty type, one a member for a sequence or a choice, one for a
-// list.
+// The number of edges of type t: one for text, none for an empty type, one a member for a sequence or a choice of
+// either kind, one for a list.
 pub fn edges_of(table: &[u16; TABLE], t: usize) -> usize
     requires { ⌜ Bounded (now table) ⌝ }
     requires { ⌜ t < typesIn (now table) ⌝ }
@@ -22,8 +23,7 @@ pub fn edges_of(table: &[u16; TABLE], t: usize) -> usize
     match kind {
         TEXT => 1,
         EMPTY => 0,
-        SEQUENCE => loaded_table::count(table, t),
-        CHOICE => loaded_table::count(table, t),
+        SEQUENCE | CHOICE | OPTIONAL => loaded_table::count(table, t),
         _ => 1,
     }
 }

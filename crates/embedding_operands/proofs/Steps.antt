@@ -7,7 +7,7 @@ use native.Mathlib.Omega.{arith}
 use lib.ListN.{length, take, drop, getD}
 use lib.Seq.{getD-drop}
 use Rattle.loaded_table.specs.Loaded.{kindFrom, tableBy, typesIn, kindsOf, countsOf, membersIn}
-use Rattle.embedding_form.proofs.Types.{row-long, past-three, kind-told}
+use Rattle.embedding_form.proofs.Types.{row-long, with-row, from-five, kind-told}
 use Rattle.model.specs.Definitions.Basics.{entry}
 use Rattle.model.specs.Definitions.Table.{kindOf, stepFrom, membersOf}
 
@@ -67,31 +67,31 @@ only-none m zero h = refl
 only-none m (suc zero) h = absurd (h refl)
 only-none m (suc (suc p)) h = refl
 
+-- a text and an empty type have no steps
+no-step : (code count : ℕ) (row : List ℕ) (p : ℕ) → code < 2 → none ≡ stepFrom (kindFrom code count row) p
+unfolding stepFrom membersOf
+no-step zero count row p low = entry-none p
+no-step (suc zero) count row p low = entry-none p
+no-step (suc (suc code)) count row p low = absurd (omega arith)
+
 -- a type of a loaded table, whose kind has this code
 module _ (rows : List ℕ) (t : ℕ) (here : t < typesIn rows) {code : ℕ} (told : code ≡ getD (kindsOf rows) t 0) where
   -- where a step goes from each kind
-  pub text-nowhere : (p : ℕ) → code ≡ 0 → none ≡ stepFrom (kindOf (tableBy rows) t) p
-  unfolding stepFrom membersOf
-  text-nowhere p e = rw (sym (kind-told rows t here told), e) (entry-none p)
+  pub nowhere : (p : ℕ) → code < 2 → none ≡ stepFrom (kindOf (tableBy rows) t) p
+  nowhere p low = rw (sym (kind-told rows t here told)) (no-step code (getD (countsOf rows) t 0) (drop (t * 16) (membersIn rows)) p low)
 
-  pub empty-nowhere : (p : ℕ) → code ≡ 1 → none ≡ stepFrom (kindOf (tableBy rows) t) p
+  pub row-to : (p : ℕ) → 2 ≤ code → code < 5 → entry p (take (getD (countsOf rows) t 0) (drop (t * 16) (membersIn rows))) ≡ stepFrom (kindOf (tableBy rows) t) p
   unfolding stepFrom membersOf
-  empty-nowhere p e = rw (sym (kind-told rows t here told), e) (entry-none p)
+  row-to p low high =
+      rw (sym (kind-told rows t here told))
+      (with-row (λ (k : ℕ). entry p (take (getD (countsOf rows) t 0) (drop (t * 16) (membersIn rows))) ≡ stepFrom (kindFrom k (getD (countsOf rows) t 0) (drop (t * 16) (membersIn rows))) p) refl refl refl code low high)
 
-  pub sequence-to : (p : ℕ) → code ≡ 2 → entry p (take (getD (countsOf rows) t 0) (drop (t * 16) (membersIn rows))) ≡ stepFrom (kindOf (tableBy rows) t) p
-  unfolding stepFrom membersOf
-  sequence-to p e = rw (sym (kind-told rows t here told), e)
-
-  pub choice-to : (p : ℕ) → code ≡ 3 → entry p (take (getD (countsOf rows) t 0) (drop (t * 16) (membersIn rows))) ≡ stepFrom (kindOf (tableBy rows) t) p
-  unfolding stepFrom membersOf
-  choice-to p e = rw (sym (kind-told rows t here told), e)
-
-  module _ (not-text : code ≡ 0 → ⊥) (not-empty : code ≡ 1 → ⊥) (not-sequence : code ≡ 2 → ⊥) (not-choice : code ≡ 3 → ⊥) (p : ℕ) where
+  module _ (high : 5 ≤ code) (p : ℕ) where
     to-only : entry p (getD (drop (t * 16) (membersIn rows)) 0 0 ∷ []) ≡ stepFrom (kindOf (tableBy rows) t) p
     unfolding stepFrom membersOf
     to-only =
         rw (sym (kind-told rows t here told))
-        (past-three (λ (k : ℕ). entry p (getD (drop (t * 16) (membersIn rows)) 0 0 ∷ []) ≡ stepFrom (kindFrom k (getD (countsOf rows) t 0) (drop (t * 16) (membersIn rows))) p) (λ k. refl) code not-text not-empty not-sequence not-choice)
+        (from-five (λ (k : ℕ). entry p (getD (drop (t * 16) (membersIn rows)) 0 0 ∷ []) ≡ stepFrom (kindFrom k (getD (countsOf rows) t 0) (drop (t * 16) (membersIn rows))) p) (λ k. refl) code high)
 
     pub list-to : {m : ℕ} → m ≡ getD (membersIn rows) (t * 16 + 0) 0 → p ≡ 1 → some m ≡ stepFrom (kindOf (tableBy rows) t) p
     list-to {m} is e =

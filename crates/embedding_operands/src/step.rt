@@ -9,6 +9,7 @@ ghost use Rattle.model.specs.Definitions.Table.{kindOf, stepFrom};
 ghost use Rattle.model.specs.Definitions.TableChecks.{maxMembers, maxTypes};
 use loaded_table::CHOICE;
 use loaded_table::EMPTY;
+use loaded_table::OPTIONAL;
 use loaded_table::SEQUENCE;
 use loaded_table::TABLE;
 use loaded_table::TEXT;
@@ -42,10 +43,8 @@ pub fn step_from(table: &[u16; TABLE], t: usize, p: usize) -> Stepped
 {
     let kind = loaded_table::kind(table, t);
     match kind {
-        TEXT => Stepped::Nowhere,
-        EMPTY => Stepped::Nowhere,
-        SEQUENCE => member_at(table, t, p),
-        CHOICE => member_at(table, t, p),
+        TEXT | EMPTY => Stepped::Nowhere,
+        SEQUENCE | CHOICE | OPTIONAL => member_at(table, t, p),
         _ => {
             if p == 1 {
                 Stepped::To(loaded_table::member(table, t, 0))

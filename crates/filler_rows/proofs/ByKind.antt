@@ -6,6 +6,7 @@ use native.Mathlib.Numerals.{add-one}
 use native.Mathlib.Omega.{arith}
 use lib.ListN.{length, take, getD, length-take, length-map}
 use lib.Seq.{take-suc, take-all}
+use Rattle.model.specs.Definitions.Commands.{needed}
 use Rattle.model.specs.Definitions.Table.{Kind, Table, kindOf, membersOf}
 use Rattle.model.specs.Definitions.Heights.{heightIn, heights, heightOf, leastMember}
 use Rattle.model.specs.Definitions.Templates.{Symbol, filler, fillerRow}
@@ -50,12 +51,12 @@ module _ {target : List ℕ} (sound : Sound target) {t : ℕ} (exists : t < type
   pub hollow-none : {code : ℕ} → code ≡ getD (kindsOf target) t 0 → (code ≡ 2 → ⊥) → (code ≡ 3 → ⊥) → fillerRow T t ≡ []
   unfolding filled
   hollow-none is no-sequence no-choice =
-      row ∙ kind-other target t exists is (λ κ. map filler (filled (heights T) κ) ≡ []) no-sequence no-choice refl refl (λ m. refl)
+      row ∙ kind-other target t exists is (λ κ. map filler (filled (heights T) κ) ≡ []) no-sequence no-choice refl refl (λ ms. refl) (λ m. refl)
 
   -- the least member
   module _ {code : ℕ} (is : code ≡ getD (kindsOf target) t 0) (choosing : code ≡ 3) {m : ℕ} (least : m ≡ leastMember (heightsOf target) ms) where
     some-member : 0 < length ms
-    some-member = sound .sound .well-formed .choices-choose t ms (kind-choice target t exists is choosing)
+    some-member = sound .sound .well-formed .choices-choose t needed ms (kind-choice target t exists is choosing)
 
     same-heights : (k : ℕ) → List·Memᴰ k ms → heightIn (heightsOf target) k ≡ heightIn (heights T) k
     unfolding heightIn heightOf membersOf

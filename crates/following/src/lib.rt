@@ -1,6 +1,7 @@
 // Following a path of an embedding in a target document.
 use loaded_table::CHOICE;
 use loaded_table::EMPTY;
+use loaded_table::OPTIONAL;
 use loaded_table::SEQUENCE;
 use loaded_table::TABLE;
 use loaded_table::TEXT;
@@ -29,10 +30,9 @@ fn enter<'a>(kind: usize, p: usize, next: usize, tr: &'a [u8], sp: &'a [u16], at
     ensures { λ r. ⌜ ((k : Content) → ContentAt (now (tr .entry)) at k → (count : _) (row : _) → Finds (now (tr .entry)) r (model.enter (kindFrom kind count row) p next k)) ⌝ }
 {
     match kind {
-        TEXT => Found::Missing,
-        EMPTY => Found::Missing,
+        TEXT | EMPTY => Found::Missing,
         SEQUENCE => child(tr, sp, at, p),
-        CHOICE => child_of_type(tr, at, next as u8),
+        CHOICE | OPTIONAL => child_of_type(tr, at, next as u8),
         _ => child(tr, sp, at, 1),
     }
 }

@@ -8,16 +8,18 @@ use native.Mathlib.Omega.{arith}
 use lib.ListN.{length, take, drop, getD, length-take, length-drop}
 use lib.Seq.{getD-take, getD-drop, drop-cons, length-take-le}
 use Rattle.model.specs.Definitions.Basics.{entry}
+use Rattle.model.specs.Definitions.Commands.{Need}
 use Rattle.model.specs.Definitions.Table.{Kind, sequence, choice, list, Table, kindOf, membersOf, stepFrom}
 use Rattle.model.specs.Definitions.Embedding.{next}
 use Rattle.model.specs.Definitions.Filler.{fillers}
 use Rattle.model.specs.Definitions.Image.{Placement, placed, under, isPlaced, grow, growKind, growMembers}
 use Rattle.model.specs.Definitions.Templates.{Shape, bare, framed, shaped}
 use Rattle.model.specs.Theorems.Facts.{WellFormed, Fits, nothing-placed, right-here, below-sequence, below-choice, below-list}
-use Rattle.model.specs.Theorems.Tools.{entry-member, entry-at}
+use Rattle.model.specs.Theorems.Tools.{entry-member, entry-at, true-false}
 use Rattle.model.specs.Theorems.Placing.{under-same}
 use Rattle.loaded_table.specs.Loaded.{Bounded, kindFrom, tableBy, typesIn, kindsOf, countsOf, membersIn, length-of, kind-of}
-use Rattle.rows.specs.Laws.{code-sequence, code-choice, code-list, entry-there}
+use Rattle.loaded_table.specs.Kinds.{choiceCode, code-choice}
+use Rattle.rows.specs.Laws.{code-sequence, code-list, entry-there}
 use Rattle.growing.specs.declared.Span.{Span}
 use Rattle.growing.specs.Growing.{MemberRange}
 
@@ -139,13 +141,13 @@ module _ {target : List ℕ} (bounded : Bounded target) (wf : WellFormed (tableB
           each = λ j l h. rw less-one (fits j _ (at j (omega (arith, span .0)) (omega (arith, span .1))));
         }
 
-    by-choice : (ms : List ℕ) → kindOf T t ≡ choice ms → stepFrom (choice ms) q ≡ some (next T t q) → Fits T n (next T t q) (under q ps) → (r : Span) → MemberRange target t q r
+    by-choice : (need : Need) (ms : List ℕ) → kindOf T t ≡ choice need ms → stepFrom (choice need ms) q ≡ some (next T t q) → Fits T n (next T t q) (under q ps) → (r : Span) → MemberRange target t q r
         → Grows target (suc n) t ps r
     unfolding grow growKind membersOf stepFrom shaped
-    by-choice ms kind step fits r spans =
-        let found = code-choice code count row ms (kind-here (choice ms) kind) in
-        let span = spans .of-other (λ e. omega (arith, found .0)) in
-        let here = entry-here q (next T t q) (rw (found .1) step) in
+    by-choice need ms kind step fits r spans =
+        let found = code-choice code count row (kind-here (choice need ms) kind) in
+        let span = spans .of-other (λ e. true-false (found .0) (ap choiceCode e)) in
+        let here = entry-here q (next T t q) (rw (found .2) step) in
         by-one r (next T t q) (here .0) (omega (arith, here .1, bounded .few-members t)) (here .2) (span .0) (span .1) (rw kind refl)
         (member-exists _ (rw kind (entry-member q ms step))) fits
 
@@ -167,9 +169,9 @@ grows {target = target} bounded wf {t = t} exists (placed [] b ∷ []) right-her
 grows {target = target} bounded wf {t = t} exists (placed (p ∷ path′) b ∷ rs) (below-sequence {n = n} ms kind starts fits) q path a qs is r spans =
     let here : p ≡ q = cc in
     by-sequence bounded wf exists n p path′ b rs ms kind fits r (subst (λ (s : ℕ). MemberRange target t s r) (sym here) spans)
-grows {target = target} bounded wf {t = t} exists (placed (p ∷ path′) b ∷ rs) (below-choice {n = n} ms kind step starts fits) q path a qs is r spans =
+grows {target = target} bounded wf {t = t} exists (placed (p ∷ path′) b ∷ rs) (below-choice {n = n} need ms kind step starts fits) q path a qs is r spans =
     let here : p ≡ q = cc in
-    by-choice bounded wf exists n p path′ b rs ms kind step fits r (subst (λ (s : ℕ). MemberRange target t s r) (sym here) spans)
+    by-choice bounded wf exists n p path′ b rs need ms kind step fits r (subst (λ (s : ℕ). MemberRange target t s r) (sym here) spans)
 grows {target = target} bounded wf {t = t} exists (placed (p ∷ path′) b ∷ rs) (below-list {n = n} m kind starts fits) q path a qs is r spans =
     let here : p ≡ q = cc in
     by-list bounded wf exists n p path′ b rs m kind refl fits r (subst (λ (s : ℕ). MemberRange target t s r) (sym here) spans)

@@ -18,7 +18,7 @@ pub fits-positive : {T : Table} {n t : ℕ} {ps : List (Placement Shape)} → Fi
 fits-positive nothing-placed = omega arith
 fits-positive right-here = omega arith
 fits-positive (below-sequence ms kind starts fits) = omega arith
-fits-positive (below-choice ms kind step starts fits) = omega arith
+fits-positive (below-choice need ms kind step starts fits) = omega arith
 fits-positive (below-list m kind starts fits) = omega arith
 
 module _ (target em : List ℕ) (e : Edges) (n t : ℕ) where

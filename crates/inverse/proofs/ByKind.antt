@@ -7,16 +7,17 @@ use native.Mathlib.Nat.{add-zero}
 use native.Mathlib.Omega.{arith}
 use lib.ListN.{drop, getD}
 use Rattle.model.specs.Definitions.Basics.{andThen}
+use Rattle.model.specs.Definitions.Commands.{needed, optional}
 use Rattle.model.specs.Definitions.Table.{Kind, text, empty, sequence, choice, list, Table, kindOf, edgesOf}
 use Rattle.model.specs.Definitions.Content.{Content, end, char, elem}
-use Rattle.model.specs.Definitions.Embedding.{targetOf, pathsOf, Divided, divide}
-use Rattle.model.specs.Definitions.Image.{Setting, onlyPath}
-use Rattle.model.specs.Definitions.Inverse.{follow, readOne, readMembers, readIfThere, readChoice, readItems, readList, readKind, readTo}
+use Rattle.model.specs.Definitions.Embedding.{targetOf, pathsOf, firstPath, Divided, divide, beforeChoice}
+use Rattle.model.specs.Definitions.Image.{Setting}
+use Rattle.model.specs.Definitions.Inverse.{follow, readOne, readMembers, readIfThere, readChoice, unlessEmpty, readItems, readList, readKind, readTo}
 use Rattle.loaded_table.specs.Loaded.{kindFrom, typesIn, kindsOf, countsOf, membersIn}
 use Rattle.loaded_embedding.specs.Loaded.{targetsOf, startsOf, lengthsOf}
 use Rattle.loaded_setting.specs.Ready.{settingIn, Ready}
 use Rattle.paths.specs.Following.{Followable, pathAt, pathsFrom}
-use Rattle.children.specs.Parts.{Parts, readParts, partOf, ifThere, memberParts, choiceParts, itemParts, listParts, kindParts, childParts}
+use Rattle.children.specs.Parts.{Parts, readParts, partOf, ifThere, memberParts, choiceParts, optionalParts, itemParts, listParts, kindParts, childParts}
 use Rattle.paths.specs.Edges.{target-is, paths-are, kind-is, edge-follows}
 
 module _ (read : ℕ → Content → Option Content) where
@@ -42,6 +43,14 @@ module _ (read : ℕ → Content → Option Content) where
   choice-read at (m ∷ ms) [] = refl
   choice-read at (m ∷ ms) (p ∷ ps) = there-read m (at p) (choiceParts at ms ps) (readChoice read at ms ps) (choice-read at ms ps)
 
+  -- an optional choice reads as nothing, or as a choice does
+  optional-read : (found member : Option Content) (rest : Parts) → member ≡ readParts read rest → unlessEmpty found member ≡ readParts read (optionalParts found rest)
+  unfolding readParts optionalParts unlessEmpty
+  optional-read none member rest e = e
+  optional-read (some end) member rest e = refl
+  optional-read (some (char c r)) member rest e = e
+  optional-read (some (elem t k r)) member rest e = e
+
   items-read : (beyond : Content → Option Content) (m : ℕ) (k : Content) → readItems read beyond m k ≡ readParts read (itemParts beyond m k)
   unfolding readItems itemParts readParts
   items-read beyond m end = refl
@@ -58,8 +67,10 @@ module _ (read : ℕ → Content → Option Content) where
   kind-read T text τ ps k other = absurd (other refl)
   kind-read T empty τ ps k other = refl
   kind-read T (sequence ms) τ ps k other = members-read (λ p. follow T τ p k) ms ps
-  kind-read T (choice ms) τ ps k other = choice-read (λ p. follow T τ p k) ms ps
-  kind-read T (list m) τ ps k other = list-read T (divide T τ (onlyPath ps)) m (follow T τ (divide T τ (onlyPath ps) .before) k)
+  kind-read T (choice needed ms) τ ps k other = choice-read (λ p. follow T τ p k) ms ps
+  kind-read T (choice optional ms) τ ps k other =
+      optional-read (follow T τ (beforeChoice T τ (firstPath ps)) k) _ _ (choice-read (λ p. follow T τ p k) ms ps)
+  kind-read T (list m) τ ps k other = list-read T (divide T τ (firstPath ps)) m (follow T τ (divide T τ (firstPath ps) .before) k)
 
 -- with no level left nothing is read
 pub read-zero : (X : Setting) (n σ : ℕ) (k : Content) → n ≡ 0 → readTo X n σ k ≡ none
@@ -79,7 +90,8 @@ text-code zero count row e = refl
 text-code (suc zero) count row e = cc
 text-code (suc (suc zero)) count row e = cc
 text-code (suc (suc (suc zero))) count row e = cc
-text-code (suc (suc (suc (suc code)))) count row e = cc
+text-code (suc (suc (suc (suc zero)))) count row e = cc
+text-code (suc (suc (suc (suc (suc code))))) count row e = cc
 
 module _ {source target map em : List ℕ} (ready : Ready source target map em) {σ : ℕ} (exists : σ < typesIn source) (n : ℕ) (some-level : n ≡ 0 → ⊥) where
   abbrev X : Setting
@@ -100,12 +112,12 @@ module _ {source target map em : List ℕ} (ready : Ready source target map em) 
     is-text = kind-is ready exists ∙ rw code
 
     pub read-text : (k : Content) → readTo X n σ k ≡ follow (X .target) (getD (targetsOf map) σ 0) (pathAt em map (σ * 16 + 0)) k
-    unfolding readKind pathsFrom onlyPath edgesOf
+    unfolding readKind pathsFrom firstPath edgesOf
     read-text k =
         read-level X n σ k some-level
         ∙ ap (λ (κ : Kind). readKind (λ m j. readTo X (n - 1) m j) (X .target) κ (targetOf (X .embedding) σ) (pathsOf (X .embedding) σ) k) is-text
-        ∙ ap (λ (q : ℕ). follow (X .target) q (onlyPath (pathsOf (X .embedding) σ)) k) (target-is ready exists)
-        ∙ ap (λ (l : List (List ℕ)). follow (X .target) (getD (targetsOf map) σ 0) (onlyPath l) k) (paths-are ready exists ∙ ap (λ (κ : Kind). pathsFrom em map (σ * 16) (edgesOf κ)) is-text)
+        ∙ ap (λ (q : ℕ). follow (X .target) q (firstPath (pathsOf (X .embedding) σ)) k) (target-is ready exists)
+        ∙ ap (λ (l : List (List ℕ)). follow (X .target) (getD (targetsOf map) σ 0) (firstPath l) k) (paths-are ready exists ∙ ap (λ (κ : Kind). pathsFrom em map (σ * 16) (edgesOf κ)) is-text)
         ∙ ap (λ (i : ℕ). follow (X .target) (getD (targetsOf map) σ 0) (pathAt em map i) k) (sym (add-zero (σ * 16)))
 
     pub text-follows : Followable target em (getD (startsOf map) (σ * 16 + 0) 0) (getD (lengthsOf map) (σ * 16 + 0) 0) (getD (targetsOf map) σ 0)

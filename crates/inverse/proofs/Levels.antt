@@ -8,12 +8,13 @@ use native.Mathlib.Omega.{arith}
 use lib.ListN.{length, length-append}
 use lib.Dec.{eqb}
 use Rattle.model.specs.Definitions.Basics.{andThen, pick, some-of}
+use Rattle.model.specs.Definitions.Commands.{Need, needed, optional}
 use Rattle.model.specs.Definitions.Table.{Kind, text, empty, sequence, choice, list, Table, kindOf, membersOf}
 use Rattle.model.specs.Definitions.Content.{Content, end, char, elem, levels, bytes}
-use Rattle.model.specs.Definitions.Embedding.{next, targetOf, Divided, divide, leaves}
-use Rattle.model.specs.Definitions.EmbeddingChecks.{rightSteps, leavesOnly}
-use Rattle.model.specs.Definitions.Image.{Setting, onlyPath}
-use Rattle.model.specs.Definitions.Inverse.{childAt, childOfType, enter, follow, readOne, readMembers, readIfThere, readChoice, readItems, readList, readKind, readTo}
+use Rattle.model.specs.Definitions.Embedding.{next, targetOf, firstPath, Divided, divide, leaves, beforeChoice}
+use Rattle.model.specs.Definitions.EmbeddingChecks.{rightSteps, leavesOnly, optionalFirst}
+use Rattle.model.specs.Definitions.Image.{Setting}
+use Rattle.model.specs.Definitions.Inverse.{childAt, childOfType, enter, follow, readOne, readMembers, readIfThere, readChoice, unlessEmpty, readItems, readList, readKind, readTo}
 use Rattle.model.specs.Theorems.Facts.{Along, along-none, along-both, GoodPath, MemberPath, ValidEdges, text-edge, no-edge, sequence-edges, choice-edges, list-edge, Valid}
 use Rattle.model.specs.Theorems.Tools.{some-none, true-false}
 
@@ -42,7 +43,7 @@ unfolding enter
 enter-lower text p τ k j e = some-none e refl
 enter-lower empty p τ k j e = some-none e refl
 enter-lower (sequence ms) p τ k j e = child-lower k p j e
-enter-lower (choice ms) p τ k j e = typed-lower k τ j e
+enter-lower (choice need ms) p τ k j e = typed-lower k τ j e
 enter-lower (list m) p τ k j e = child-lower k 1 j e
 
 follow-lower : (T : Table) (τ : ℕ) (ps : List ℕ) (k j : Content) → follow T τ ps k ≡ some j → levels j ≤ levels k
@@ -70,6 +71,12 @@ unfolding leaves
 edge-lower X τ κ [] k j needs good e = true-false (good .right) needs
 edge-lower X τ κ (p ∷ ps) k j needs good e = step-lower (X .target) τ p ps k j e
 
+-- that of a choice of either kind has to
+choice-steps : (need : Need) (ms : List ℕ) → rightSteps (choice need ms) [] ≡ false
+unfolding rightSteps leavesOnly some-of optionalFirst
+choice-steps needed ms = refl
+choice-steps optional ms = refl
+
 -- ---- two ways to read that agree on lower content
 
 module _ (first second : ℕ → Content → Option Content) where
@@ -95,14 +102,20 @@ module _ (first second : ℕ → Content → Option Content) where
         (λ j e. agree m j (exist m (List·Memᴰ·head refl)) (omega (arith, edge-lower X τ (sequence ns) p k j (unfold rightSteps leavesOnly some-of in refl) (path .good) e)))
         (members-same X τ ns k low ms pss rest (λ q here. exist q (List·Memᴰ·tail here)))
 
-    choice-same : (X : Setting) (τ : ℕ) (ns : List ℕ) (k : Content) → levels k ≤ bound → (ms : List ℕ) (pss : List (List ℕ)) → Along (MemberPath X τ (choice ns)) ms pss
+    choice-same : (X : Setting) (τ : ℕ) (need : Need) (ns : List ℕ) (k : Content) → levels k ≤ bound → (ms : List ℕ) (pss : List (List ℕ)) → Along (MemberPath X τ (choice need ns)) ms pss
         → ((m : ℕ) → List·Memᴰ m ms → m < n) → readChoice first (λ p. follow (X .target) τ p k) ms pss ≡ readChoice second (λ p. follow (X .target) τ p k) ms pss
     unfolding readChoice
-    choice-same X τ ns k low [] [] along-none exist = refl
-    choice-same X τ ns k low (m ∷ ms) (p ∷ pss) (along-both path rest) exist =
+    choice-same X τ need ns k low [] [] along-none exist = refl
+    choice-same X τ need ns k low (m ∷ ms) (p ∷ pss) (along-both path rest) exist =
         there-same m (follow (X .target) τ p k) _ _
-        (λ j e. agree m j (exist m (List·Memᴰ·head refl)) (omega (arith, edge-lower X τ (choice ns) p k j (unfold rightSteps leavesOnly some-of in refl) (path .good) e)))
-        (choice-same X τ ns k low ms pss rest (λ q here. exist q (List·Memᴰ·tail here)))
+        (λ j e. agree m j (exist m (List·Memᴰ·head refl)) (omega (arith, edge-lower X τ (choice need ns) p k j (choice-steps need ns) (path .good) e)))
+        (choice-same X τ need ns k low ms pss rest (λ q here. exist q (List·Memᴰ·tail here)))
+
+    either-same : (X : Setting) (τ : ℕ) (need : Need) (ms : List ℕ) (pss : List (List ℕ)) (k : Content) → readChoice first (λ p. follow (X .target) τ p k) ms pss ≡ readChoice second (λ p. follow (X .target) τ p k) ms pss
+        → readKind first (X .target) (choice need ms) τ pss k ≡ readKind second (X .target) (choice need ms) τ pss k
+    unfolding readKind
+    either-same X τ needed ms pss k same = same
+    either-same X τ optional ms pss k same = ap (unlessEmpty (follow (X .target) τ (beforeChoice (X .target) τ (firstPath pss)) k)) same
 
     items-same : (T : Table) (τ : ℕ) (ps : List ℕ) (m : ℕ) → m < n → (k : Content) → levels k ≤ bound
         → readItems first (follow T τ ps) m k ≡ readItems second (follow T τ ps) m k
@@ -124,9 +137,9 @@ module _ (first second : ℕ → Content → Option Content) where
     kind-same X τ k low (text-edge good ends) exist = refl
     kind-same X τ k low no-edge exist = refl
     kind-same X τ k low (sequence-edges {ms} {pss} along pairs) exist = members-same X τ ms k low ms pss along exist
-    kind-same X τ k low (choice-edges {ms} {pss} along pairs) exist = choice-same X τ ms k low ms pss along exist
+    kind-same X τ k low (choice-edges {need} {ms} {pss} along pairs shared) exist = either-same X τ need ms pss k (choice-same X τ need ms k low ms pss along exist)
     kind-same X τ k low (list-edge {m} {ps} path) exist =
-        let d : Divided = divide (X .target) τ (onlyPath (ps ∷ [])) in
+        let d : Divided = divide (X .target) τ (firstPath (ps ∷ [])) in
         list-same (X .target) d m (exist m (List·Memᴰ·head refl)) (follow (X .target) τ (d .before) k)
         (λ j e. omega (arith, follow-lower (X .target) τ (d .before) k j e))
 

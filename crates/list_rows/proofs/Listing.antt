@@ -1,5 +1,6 @@
 -- The rows of a source list, by the values that the code has.
 use mathlib.Core.Path.{_≡_, subst}
+use mathlib.Core.Option.{none}
 use mathlib.Core.List.{List}
 use Prim.Native.Nat.{ℕ, _+_, _-_, _*_, _≤_, _<_}
 use native.Mathlib.Numerals.{add-one}
@@ -23,14 +24,15 @@ use Rattle.filler_rows.specs.Laws.{made-as-written, puts-as}
 use Rattle.own_rows.specs.Making.{heldRow}
 use Rattle.own_rows.specs.Wanted.{done-filler}
 use Rattle.own_rows.specs.Progress.{NextToMake}
-use Rattle.list_rows.specs.Lists.{onePath, beforePath, restPath, CutAt, beforeRoom, restRoom, depth-is, before-task, before-row, before-short, rest-task, rest-row, rest-short, list-room}
+use Rattle.own_rows.specs.OnePath.{onePath}
+use Rattle.list_rows.specs.Lists.{beforePath, restPath, CutAt, beforeRoom, restRoom, depth-is, before-task, before-row, before-short, rest-task, rest-row, rest-short, list-room}
 
 -- the path from an item on
 pub rest-path-is : (map : List ℕ) (s : ℕ) (r : Cut) {start steps : ℕ} → start ≡ getD (startsOf map) (s * 16) 0 → steps ≡ getD (lengthsOf map) (s * 16) 0
     → {e : Edges} → e ≡ onePath (start + 2 * (r .depth + 1) + 2) (steps - (r .depth + 1)) 128 → e ≡ restPath map s r
 rest-path-is map s r is-start is-steps e = rw (is-start, is-steps, add-one (r .depth)) at e
 
-module _ {source target map em : List ℕ} (ready : Ready source target map em) {s : ℕ} (exists : s < typesIn source) (code : 4 ≤ getD (kindsOf source) s 0) where
+module _ {source target map em : List ℕ} (ready : Ready source target map em) {s : ℕ} (exists : s < typesIn source) (code : 5 ≤ getD (kindsOf source) s 0) where
   abbrev X : Setting
   X = settingIn source target map em
 
@@ -61,7 +63,7 @@ module _ {source target map em : List ℕ} (ready : Ready source target map em) 
           (task, (done-filler (next .progress .done) t (omega (arith, task .is-type, length-of target)) (omega arith), (room, next .makeable .small, own, filler)))
 
       pub own-made : {pool places : List ℕ} {at row : ℕ} {pool′ places′ : List ℕ} {end : ℕ} → RowMade pool places at row (heldRow target em e t) 0 pool′ places′ end × (end ≤ at + length (elementRow target em e stepBound t))
-          → RowMade pool places at row (template X s 0) 0 pool′ places′ end × (end ≤ at + beforeRoom X s)
+          → RowMade pool places at row (template X s none) 0 pool′ places′ end × (end ≤ at + beforeRoom X s)
       own-made {pool} {places} {at} {row} {pool′} {places′} {end} made =
           (subst (λ (content : List Symbol). RowMade pool places at row content 0 pool′ places′ end) (rw (is-path, is-type) (before-row ready exists code cuts)) (made .0), omega (arith, made .1, own-short))
 

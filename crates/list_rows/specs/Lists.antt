@@ -1,7 +1,8 @@
 -- The two rows of a source list: its own, up to the first list on its path, and that of an item.
 use mathlib.Core.Path.{_≡_, refl, sym, ap, ap₂, subst, _∙_}
 use mathlib.Core.Bool.{Bool, true, false}
-use mathlib.Core.List.{List, [], _∷_, _++_}
+use mathlib.Core.List.{List, [], _∷_}
+use mathlib.Core.Option.{Option, none}
 use Prim.Native.Nat.{ℕ, suc, _+_, _-_, _*_, _≤_, _<_}
 use native.Mathlib.Numerals.{add-one}
 use native.Mathlib.Omega.{arith}
@@ -9,10 +10,10 @@ use lib.ListN.{length, getD}
 use lib.Dec.{ltb}
 use borrow.Author.Tests.{ltb-true, ltb-false}
 use Rattle.model.specs.Definitions.Table.{Table, kindOf, list, edgesOf}
-use Rattle.model.specs.Definitions.Embedding.{Divided, divide}
-use Rattle.model.specs.Definitions.Image.{Setting, Placement, placed, place, onlyPath, isPlaced}
-use Rattle.model.specs.Definitions.Templates.{child, Hole, Shape, gap, framed, shaped, Symbol, rowOf, holesOf, template, templateBy, itemTemplate, itemBy, dividedOf, items}
-use Rattle.model.specs.Theorems.Facts.{All, all-none, all-more, Fits}
+use Rattle.model.specs.Definitions.Embedding.{Divided, divide, firstPath}
+use Rattle.model.specs.Definitions.Image.{Setting, placed, place, isPlaced}
+use Rattle.model.specs.Definitions.Templates.{child, Hole, Shape, gap, framed, shaped, Symbol, holesOf, template, templateBy, itemTemplate, itemBy, dividedOf, items}
+use Rattle.model.specs.Theorems.Facts.{Fits}
 use Rattle.model.specs.Theorems.TemplateShapes.{Regular, regular-built, item-regular}
 use Rattle.model.specs.Theorems.NeverLonger.{rest-always-fits}
 use Rattle.model.specs.Definitions.Basics.{pick}
@@ -22,34 +23,28 @@ use Rattle.loaded_setting.specs.Ready.{settingIn, Ready}
 use Rattle.paths.specs.declared.Cut.{Cut}
 use Rattle.paths.specs.Following.{pathAt, pathsFrom, Cuts}
 use Rattle.paths.specs.Edges.{target-is, paths-are, is-list, list-edge-one, list-less}
-use Rattle.rows.specs.Rows.{rowIndex, sourceRow, itemRow, IsHole, holeOf, typeRow, rowsBefore}
+use Rattle.rows.specs.Rows.{rowIndex, sourceRow, itemRow, holeOf, typeRow, rowsBefore}
 use Rattle.growing.specs.declared.Edges.{Edges}
-use Rattle.growing.specs.Growing.{placementOf, placementsOf, noEdges, push, PathsReadable, Task, elementRow, stepBound}
-use Rattle.growing.specs.Laws.{push-placements, push-readable, none-readable, none-placed}
+use Rattle.growing.specs.Growing.{placementOf, placementsOf, Task, elementRow, stepBound}
 use Rattle.row_sizes.specs.Sizes.{source-index-small}
 use Rattle.filler_rows.specs.Laws.{puts-on, whole-more}
 use Rattle.filler_rows.specs.Storing.{RowMade}
 use Rattle.pools.specs.Room.{edgeRoom}
 use Rattle.own_rows.specs.Making.{heldRow}
-use Rattle.own_rows.specs.Progress.{Progress}
+use Rattle.own_rows.specs.Progress.{Progress, laterRoom}
 use Rattle.own_rows.specs.Wanted.{Wanted, RowsDone, done-more, done-past, wanted-type, of-filler, of-type, of-item}
-use Rattle.own_rows.specs.Bounds.{weight, IsGap}
+use Rattle.own_rows.specs.OnePath.{onePath, one-placed, one-readable, one-short}
 use Rattle.own_rows.specs.Holes.{child-hole, type-task, type-template}
-use Rattle.own_rows.specs.Short.{steps-long, element-short}
-use Rattle.own_rows.specs.Laws.{room-split}
+use Rattle.own_rows.specs.Steps.{later-split}
 
 -- ---- what the model places for it
 
-list-holes : (em map : List ℕ) (T : Table) (τ i t m : ℕ) {r : Cut} → Cuts em (getD (startsOf map) i 0) (getD (lengthsOf map) i 0) (divide T τ (pathAt em map i)) r
+list-holes : (em map : List ℕ) (T : Table) (τ i : ℕ) (t : Option ℕ) (m : ℕ) {r : Cut} → Cuts em (getD (startsOf map) i 0) (getD (lengthsOf map) i 0) (divide T τ (pathAt em map i)) r
     → placementOf em (getD (startsOf map) i 0 + 2) (r .depth) 145 ∷ [] ≡ holesOf gap T (list m) τ (pathsFrom em map i 1) t
-unfolding holesOf onlyPath pathsFrom placementOf holeOf pick
+unfolding holesOf firstPath pathsFrom placementOf holeOf pick
 list-holes em map T τ i t m cuts = ap (λ (path : List ℕ). placed path (gap items) ∷ []) (cuts .before)
 
--- ---- one path
-
--- one path alone, to a hole
-unfoldable pub onePath : ℕ → ℕ → ℕ → Edges
-onePath next left hole = push noEdges next left hole
+-- ---- its paths
 
 -- the path of a source list up to the first list on it, and the path from an item on
 abbrev pub beforePath : List ℕ → ℕ → Cut → Edges
@@ -58,44 +53,12 @@ beforePath map s r = onePath (getD (startsOf map) (s * 16) 0 + 2) (r .depth) 145
 abbrev pub restPath : List ℕ → ℕ → Cut → Edges
 restPath map s r = onePath (getD (startsOf map) (s * 16) 0 + 2 * suc (r .depth) + 2) (getD (lengthsOf map) (s * 16) 0 - suc (r .depth)) 128
 
-module _ (em : List ℕ) (next left hole : ℕ) where
-  one-placed : placementsOf em (onePath next left hole) ≡ placementOf em next left hole ∷ []
-  unfolding onePath noEdges
-  one-placed =
-      push-placements (none-readable em) (omega arith) next left hole
-      ∙ ap (λ (l : List (Placement Shape)). l ++ (placementOf em next left hole ∷ [])) (none-placed em)
-
-  one-readable : next + 2 * left ≤ length em + 1 → IsHole hole → PathsReadable em (onePath next left hole)
-  unfolding onePath noEdges
-  one-readable within is-hole = push-readable (none-readable em) (omega arith) next left hole within is-hole
-
-  one-some : onePath next left hole .count ≡ 0 → ⊥
-  unfolding onePath noEdges push
-  one-some e = omega (arith, e)
-
-  one-gap : All IsGap (placementsOf em (onePath next left hole))
-  unfolding placementOf rowOf
-  one-gap =
-      let one : IsGap (placementOf em next left hole) = omega arith in
-      subst (All IsGap) (sym one-placed) (all-more one all-none)
-
-  one-weight : weight (placementsOf em (onePath next left hole)) ≡ 18 * left + 1
-  unfolding weight placementOf
-  one-weight = ap weight one-placed ∙ rw (steps-long em next left) (omega arith)
-
-  -- its element is short
-  one-short : {target : List ℕ} {t : ℕ} → Task target em (onePath next left hole) stepBound t → length (elementRow target em (onePath next left hole) stepBound t) ≤ 18 * left + 3
-  one-short task = omega (arith, element-short task one-some one-gap, one-weight)
-
 -- ---- room
 
 -- a type leaves room for 18 times the steps of its first edge
-room-type : (map : List ℕ) (s types : ℕ) → s < types → 18 * getD (lengthsOf map) (s * 16) 0 + edgeRoom map (suc s * 16) ((types - suc s) * 16) ≤ edgeRoom map (s * 16) ((types - s) * 16)
+room-type : (source map : List ℕ) (s : ℕ) → s < typesIn source → 18 * getD (lengthsOf map) (s * 16) 0 + laterRoom source map (suc s) ≤ laterRoom source map s
 unfolding edgeRoom
-room-type map s types less =
-    let a : (types - s) * 16 ≡ suc (15 + (types - suc s) * 16) = omega arith in
-    let b : suc s * 16 ≡ suc (s * 16) + 15 = omega arith in
-    rw (a, b) (omega (arith, room-split map (suc (s * 16)) 15 ((types - suc s) * 16)))
+room-type source map s less = omega (arith, later-split source map s less)
 
 -- ---- a source list
 
@@ -114,7 +77,7 @@ restRoom map X s = 18 * (getD (lengthsOf map) (s * 16) 0 - suc (length (dividedO
 built-exists : {T : Table} {Ok : Hole → Type 0} {t : ℕ} {k r : Shape} → Regular T Ok (framed true t k r) → t < length T
 built-exists (regular-built exists below after) = exists
 
-module _ {source target map em : List ℕ} (ready : Ready source target map em) {s : ℕ} (exists : s < typesIn source) (code : 4 ≤ getD (kindsOf source) s 0) where
+module _ {source target map em : List ℕ} (ready : Ready source target map em) {s : ℕ} (exists : s < typesIn source) (code : 5 ≤ getD (kindsOf source) s 0) where
   abbrev X : Setting
   X = settingIn source target map em
 
@@ -126,7 +89,7 @@ module _ {source target map em : List ℕ} (ready : Ready source target map em) 
 
   -- the model divides the same path
   divided-is : dividedOf X s ≡ cutPath
-  unfolding dividedOf onlyPath pathsFrom
+  unfolding dividedOf firstPath pathsFrom
   divided-is = rw (target-is ready exists, paths-are ready exists, list-edge-one ready exists code) refl
 
   before-less : length (dividedOf X s .before) < getD (lengthsOf map) (s * 16) 0
@@ -138,7 +101,7 @@ module _ {source target map em : List ℕ} (ready : Ready source target map em) 
   both-room = omega (arith, before-less)
 
   -- all templates of a list are one
-  template-same : (t : ℕ) → template X s 0 ≡ template X s t
+  template-same : (t : Option ℕ) → template X s none ≡ template X s t
   unfolding template templateBy holesOf
   template-same t = rw (is-list ready exists code) refl
 
@@ -150,16 +113,16 @@ module _ {source target map em : List ℕ} (ready : Ready source target map em) 
     depth-less = omega (arith, depth-is, before-less)
 
     -- its own row: the path before the list, to the hole of the items
-    before-placed : placementsOf em (beforePath map s r) ≡ holesOf gap (tableBy target) (kindOf (tableBy source) s) (getD (targetsOf map) s 0) (pathsFrom em map (s * 16) (edgesOf (kindOf (tableBy source) s))) 0
+    before-placed : placementsOf em (beforePath map s r) ≡ holesOf gap (tableBy target) (kindOf (tableBy source) s) (getD (targetsOf map) s 0) (pathsFrom em map (s * 16) (edgesOf (kindOf (tableBy source) s))) none
     before-placed =
         rw (list-edge-one ready exists code, is-list ready exists code)
-        (one-placed em _ _ 145 ∙ list-holes em map (tableBy target) (getD (targetsOf map) s 0) (s * 16) 0 (getD (membersIn source) (s * 16) 0) cuts)
+        (one-placed em _ _ 145 ∙ list-holes em map (tableBy target) (getD (targetsOf map) s 0) (s * 16) none (getD (membersIn source) (s * 16) 0) cuts)
 
     pub before-task : Task target em (beforePath map s r) stepBound (getD (targetsOf map) s 0)
-    before-task = type-task ready exists 0 (beforePath map s r) before-placed (one-readable em _ _ 145 (omega (arith, ready .paths-bounded .within (s * 16), depth-less)) (omega arith, omega arith))
+    before-task = type-task ready exists none (beforePath map s r) before-placed (one-readable em _ _ 145 (omega (arith, ready .paths-bounded .within (s * 16), depth-less)) (omega arith, omega arith))
 
-    pub before-row : heldRow target em (beforePath map s r) (getD (targetsOf map) s 0) ≡ template X s 0
-    before-row = type-template ready exists 0 (beforePath map s r) before-placed
+    pub before-row : heldRow target em (beforePath map s r) (getD (targetsOf map) s 0) ≡ template X s none
+    before-row = type-template ready exists none (beforePath map s r) before-placed
 
     pub before-short : length (elementRow target em (beforePath map s r) stepBound (getD (targetsOf map) s 0)) ≤ beforeRoom X s
     unfolding beforeRoom
@@ -206,7 +169,7 @@ module _ {source target map em : List ℕ} (ready : Ready source target map em) 
   -- ---- one type more
 
   -- it has no other templates than its first
-  index-none : (t j : ℕ) → rowIndex (kindOf (X .source) s) t ≡ j → j ≡ 0
+  index-none : (t : Option ℕ) (j : ℕ) → rowIndex (kindOf (X .source) s) t ≡ j → j ≡ 0
   unfolding rowIndex
   index-none t j e = sym (rw (is-list ready exists code) at e)
 
@@ -215,7 +178,10 @@ module _ {source target map em : List ℕ} (ready : Ready source target map em) 
   unfolding itemRow sourceRow
   wanted-item (of-filler τ exists is what depth) = absurd (omega (arith, exists, length-of target, ready .target-bounded .few-types))
   wanted-item (of-type s′ t exists chosen is what depth) =
-      absurd (omega (arith, is, source-index-small (ready .source-bounded) s′ t (omega (arith, exists, length-of source)) chosen))
+      let small = source-index-small (ready .source-bounded) s′ t (omega (arith, exists, length-of source)) chosen in
+      let same : s′ ≡ s = omega (arith, is, small) in
+      let last : rowIndex (kindOf (X .source) s′) t ≡ 16 = omega (arith, is, small) in
+      absurd (omega (arith, index-none t 16 (rw same at last)))
   wanted-item (of-item s′ m exists kind is what depth) = let same : s′ ≡ s = omega arith in (rw same at what, rw same at depth)
 
   -- nobody wants the rows between the two of a list
@@ -228,25 +194,25 @@ module _ {source target map em : List ℕ} (ready : Ready source target map em) 
           let high = ltb-false r _ e in
           let j : ℕ = r - rowsBefore s in
           let is : r ≡ typeRow s j = omega (arith, high) in
-          let found = wanted-type ready s j (omega (arith, high)) (subst (λ (k : ℕ). Wanted X k row depth) is wanted) in
+          let found = wanted-type ready s j (omega (arith, high)) (λ last. absurd (omega (arith, high))) (subst (λ (k : ℕ). Wanted X k row depth) is wanted) in
           absurd (omega (arith, high, index-none (found .0) j (found .2)))
 
   -- there is room for both
   pub list-room : {pool₀ places₀ pool places : List ℕ} {at : ℕ} → Progress source target map em pool₀ places₀ s pool places at → at + (beforeRoom X s + restRoom map X s) ≤ length pool
-  list-room now = omega (arith, room-type map s (typesIn source) exists, now .room, now .whole .pool-length, both-room)
+  list-room now = omega (arith, room-type source map s exists, now .room, now .whole .pool-length, both-room)
 
   -- its two rows are one type more
   pub list-progress : {pool₀ places₀ pool places : List ℕ} {at : ℕ} {pool₁ places₁ : List ℕ} {end : ℕ} {pool₂ places₂ : List ℕ} {last : ℕ} → Progress source target map em pool₀ places₀ s pool places at
-      → RowMade pool places at (rowsBefore s) (template X s 0) 0 pool₁ places₁ end
+      → RowMade pool places at (rowsBefore s) (template X s none) 0 pool₁ places₁ end
       → RowMade pool₁ places₁ end (typeRow s 16) (itemTemplate X s) (length (dividedOf X s .before)) pool₂ places₂ last
       → end ≤ at + beforeRoom X s → last ≤ end + restRoom map X s
       → Progress source target map em pool₀ places₀ (s + 1) pool₂ places₂ last
   list-progress {pool₀} {places₀} {pool} {places} {at} {pool₁} {places₁} {end} {pool₂} {places₂} {last} now own item own-short item-short =
       let short : last ≤ at + 18 * getD (lengthsOf map) (s * 16) 0 = omega (arith, own-short, item-short, both-room) in
-      let room = room-type map s (typesIn source) exists in
+      let room = room-type source map s exists in
       let one = done-more (now .done) own
       (λ row d wanted. let zero-is : rowsBefore s ≡ typeRow s 0 = omega arith in
-      let found = wanted-type ready s 0 (omega arith) (subst (λ (k : ℕ). Wanted X k row d) zero-is wanted) in
+      let found = wanted-type ready s 0 (omega arith) (λ last. absurd (omega arith)) (subst (λ (k : ℕ). Wanted X k row d) zero-is wanted) in
       (template-same (found .0) ∙ sym (found .3), sym (found .4))) in
       let two = done-more (done-past (typeRow s 16) one between) item
       (λ row d wanted. let found = wanted-item wanted in (sym (found .0), sym (found .1))) in

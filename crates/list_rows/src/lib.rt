@@ -1,5 +1,6 @@
 // The rows of a source list: its own, up to the first list on its path, and that of an item.
 ghost use mathlib.Core.Path.{_≡_};
+ghost use mathlib.Core.Option.{none};
 ghost use Prim.Native.Nat.{_+_, _-_, _*_, _≤_, _<_};
 ghost use lib.ListN.{length, getD};
 ghost use Rattle.model.specs.Definitions.Templates.{template, itemTemplate, dividedOf};
@@ -8,7 +9,7 @@ ghost use Rattle.loaded_embedding.specs.Loaded.{startsOf, lengthsOf};
 ghost use Rattle.loaded_setting.specs.Ready.{settingIn, Ready};
 ghost use Rattle.filler_rows.specs.Storing.{RowMade};
 ghost use Rattle.own_rows.specs.Progress.{Progress, Makeable, NextToMake};
-ghost use Rattle.list_rows.specs.Lists.{onePath, beforePath, restPath, CutAt, beforeRoom, restRoom};
+ghost use Rattle.list_rows.specs.Lists.{beforePath, restPath, CutAt, beforeRoom, restRoom};
 ghost use Rattle.rows.specs.Rows.{typeRow, rowsBefore};
 ghost use Rattle.model.specs.Definitions.TableChecks.{maxMembers, maxTypes};
 use codes::MAX_MEMBERS;
@@ -17,10 +18,9 @@ use codes::MAX_TYPES;
 use filler_rows::place;
 use growing::Edges;
 use growing::element;
-use growing::no_edges;
-use growing::pushed;
 use loaded_embedding::MAP;
 use loaded_table::TABLE;
+use own_rows::one_path;
 use own_rows::own_row;
 use paths::Cut;
 use paths::list_depth;
@@ -37,22 +37,13 @@ fn list_cut(
     s: usize,
 ) -> Cut
     requires ready { ⌜ Ready (now source) (now target) (now map) (now em) ⌝ }
-    requires list { ⌜ (s < typesIn (now source)) × (4 ≤ getD (kindsOf (now source)) s 0) ⌝ }
+    requires list { ⌜ (s < typesIn (now source)) × (5 ≤ getD (kindsOf (now source)) s 0) ⌝ }
     ensures { λ r. ⌜ CutAt (now (target .entry)) (now (map .entry)) (now (em .entry)) s r ⌝ }
 {
     let start = loaded_embedding::start(map, s * MAX_MEMBERS);
     let steps = loaded_embedding::steps(map, s * MAX_MEMBERS);
     let t = loaded_embedding::target(map, s);
     list_depth(target, em, start, steps, t)
-}
-
-// The one path of some steps from an offset on, to a hole.
-fn one_path(next: usize, steps: usize, hole: u8) -> Edges
-    requires { ⌜ (next < 65536) × (steps < 256) ⌝ }
-    ensures { λ r. ⌜ r ≡ onePath next steps hole ⌝ }
-{
-    let none = no_edges();
-    pushed(none, next as u16, steps as u8, hole)
 }
 
 // The path of the source list s up to the first list on it, to the hole of the items.
@@ -89,8 +80,8 @@ fn before_row(
     at: usize,
 ) -> usize
     requires next { ⌜ NextToMake (now source) (now target) (now map) (now em) (now pool) (now places) s at ⌝ }
-    requires list { ⌜ 4 ≤ getD (kindsOf (now source)) s 0 ⌝ }
-    ensures made { λ r. ⌜ RowMade (now (pool .entry)) (now (places .entry)) at (rowsBefore s) (template (settingIn (now (source .entry)) (now (target .entry)) (now (map .entry)) (now (em .entry))) s 0) 0 (now (pool .exit)) (now (places .exit)) r ⌝ }
+    requires list { ⌜ 5 ≤ getD (kindsOf (now source)) s 0 ⌝ }
+    ensures made { λ r. ⌜ RowMade (now (pool .entry)) (now (places .entry)) at (rowsBefore s) (template (settingIn (now (source .entry)) (now (target .entry)) (now (map .entry)) (now (em .entry))) s none) 0 (now (pool .exit)) (now (places .exit)) r ⌝ }
     ensures short { λ r. ⌜ r ≤ at + beforeRoom (settingIn (now (source .entry)) (now (target .entry)) (now (map .entry)) (now (em .entry))) s ⌝ }
 {
     let cut = list_cut(source, target, map, em, s);
@@ -120,7 +111,7 @@ fn rest_row(
     at: usize,
 ) -> usize
     requires makeable { ⌜ Makeable (now source) (now target) (now map) (now em) (now pool) (now places) s ⌝ }
-    requires list { ⌜ 4 ≤ getD (kindsOf (now source)) s 0 ⌝ }
+    requires list { ⌜ 5 ≤ getD (kindsOf (now source)) s 0 ⌝ }
     requires room { ⌜ at + restRoom (now map) (settingIn (now source) (now target) (now map) (now em)) s ≤ length (now pool) ⌝ }
     ensures made { λ r. ⌜ RowMade (now (pool .entry)) (now (places .entry)) at (typeRow s maxMembers) (itemTemplate (settingIn (now (source .entry)) (now (target .entry)) (now (map .entry)) (now (em .entry))) s) (length (dividedOf (settingIn (now (source .entry)) (now (target .entry)) (now (map .entry)) (now (em .entry))) s .before)) (now (pool .exit)) (now (places .exit)) r ⌝ }
     ensures short { λ r. ⌜ r ≤ at + restRoom (now (map .entry)) (settingIn (now (source .entry)) (now (target .entry)) (now (map .entry)) (now (em .entry))) s ⌝ }
@@ -152,7 +143,7 @@ pub fn list_rows(
     at: usize,
 ) -> usize
     requires next { ⌜ NextToMake (now source) (now target) (now map) (now em) (now pool) (now places) s at ⌝ }
-    requires list { ⌜ 4 ≤ getD (kindsOf (now source)) s 0 ⌝ }
+    requires list { ⌜ 5 ≤ getD (kindsOf (now source)) s 0 ⌝ }
     ensures { λ r. ⌜ Progress (now (source .entry)) (now (target .entry)) (now (map .entry)) (now (em .entry)) (now (pool .entry)) (now (places .entry)) (s + 1) (now (pool .exit)) (now (places .exit)) r ⌝ }
 {
     let end = before_row(source, target, map, em, s, pool, places, at);

@@ -10,6 +10,7 @@ use lib.Seq.{getD-take, getD-drop, getD-set-same, getD-set-other, length-take-le
 use lib.Dec.{eqb, ltb}
 use borrow.Author.Tests.{eqb-true, eqb-false, ltb-true, ltb-false}
 use mathlib.Core.Logic.{_⊎_, inl, inr}
+use Rattle.model.specs.Definitions.Commands.{needed, optional}
 use Rattle.model.specs.Definitions.Table as model
 use Rattle.model.specs.Definitions.TableChecks.{maxMembers}
 use Rattle.model.specs.Definitions.Table.{Kind, text, empty, sequence, choice, list, kindOf}
@@ -21,8 +22,9 @@ abbrev pub kindFrom : ℕ → ℕ → List ℕ → Kind
 kindFrom zero count row = text
 kindFrom (suc zero) count row = empty
 kindFrom (suc (suc zero)) count row = sequence (take count row)
-kindFrom (suc (suc (suc zero))) count row = choice (take count row)
-kindFrom (suc (suc (suc (suc code)))) count row = list (getD row 0 0)
+kindFrom (suc (suc (suc zero))) count row = choice needed (take count row)
+kindFrom (suc (suc (suc (suc zero)))) count row = choice optional (take count row)
+kindFrom (suc (suc (suc (suc (suc code))))) count row = list (getD row 0 0)
 
 -- the kind of type t
 abbrev pub kindIn : List ℕ → List ℕ → List ℕ → ℕ → Kind

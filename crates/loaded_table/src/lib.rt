@@ -4,6 +4,7 @@
 ghost use mathlib.Core.Path.{_≡_};
 ghost use Prim.Native.Nat.{_<_, _+_, _*_};
 ghost use lib.ListN.{getD, set};
+ghost use Rattle.loaded_table.specs.Kinds.{choiceCode};
 ghost use Rattle.loaded_table.specs.Loaded.{typesIn, kindsOf, countsOf, heightsOf, fillOf, membersIn, countsStart, fillStart, heightsStart, memberPlace, membersStart, tableSize, typesPlace};
 ghost use Rattle.model.specs.Definitions.TableChecks.{maxMembers, maxTypes};
 use codes::MAX_MEMBERS;
@@ -25,7 +26,7 @@ pub const MEMBERS: usize = 256;
 
 pub const TYPES: usize = 1280;
 
-// The kinds of content model.
+// The kinds of content model. An optional choice is a choice that may hold nothing; what is above is read as a list.
 pub const TEXT: usize = 0;
 
 pub const EMPTY: usize = 1;
@@ -34,7 +35,20 @@ pub const SEQUENCE: usize = 2;
 
 pub const CHOICE: usize = 3;
 
-pub const LIST: usize = 4;
+pub const OPTIONAL: usize = 4;
+
+pub const LIST: usize = 5;
+
+// Whether a kind is a choice, of either kind.
+pub fn is_choice(kind: usize) -> bool
+    ensures { λ r. ⌜ r ≡ choiceCode kind ⌝ }
+{
+    match kind {
+        CHOICE => true,
+        OPTIONAL => true,
+        _ => false,
+    }
+}
 
 // A number at full width.
 fn wide(x: u16) -> usize

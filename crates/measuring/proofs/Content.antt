@@ -2,18 +2,20 @@
 use mathlib.Core.Path.{_≡_, refl, sym}
 use mathlib.Core.Bool.{Bool, true, false}
 use mathlib.Core.List.{List, [], _∷_, List·Memᴰ, List·Memᴰ·head, List·Memᴰ·tail}
+use mathlib.Core.Option.{none}
 use Prim.Native.Nat.{ℕ, suc, _+_, _<_}
 use native.Mathlib.Omega.{arith}
 use lib.ListN.{length}
 use lib.Dec.{eqb}
 use borrow.Author.Tests.{eq-eqb}
 use Rattle.model.specs.Definitions.Basics.{pick}
+use Rattle.model.specs.Definitions.Commands.{Need}
 use Rattle.model.specs.Definitions.Table.{Kind, text, empty, sequence, choice, list, Table, kindOf, membersOf}
 use Rattle.model.specs.Definitions.Content.{Content, end, char, elem}
-use Rattle.model.specs.Definitions.Conformance.{Holds, no-character, one-character, nothing, no-member, one-member, chosen, no-item, one-item}
+use Rattle.model.specs.Definitions.Conformance.{Holds, no-character, one-character, nothing, no-member, one-member, chosen, left-out, no-item, one-item}
 use Rattle.model.specs.Definitions.Templates.{firstIn}
 use Rattle.model.specs.Theorems.Facts.{WellFormed}
-use Rattle.rows.specs.Rows.{indexIn, FirstChild, of-text, of-empty, of-sequence, of-choice, of-list}
+use Rattle.rows.specs.Rows.{indexIn, FirstChild, of-text, of-empty, of-sequence, of-choice, of-nothing, of-list}
 use Rattle.measuring.specs.Measured.{typeAhead}
 use Rattle.measuring.proofs.Edges.{HasEdge, in-sequence, in-choice, in-list}
 
@@ -64,26 +66,35 @@ module _ (S : Table) where
       let less : i < length all = omega (arith, many) in
       child-left (exist m (List·Memᴰ·head refl)) hk (in-sequence less) (left-sequence (omega (arith, many)) (λ n e. exist n (List·Memᴰ·tail e)) hr)
 
+  -- the member of a choice, or nothing
+  left-choice : {need : Need} {ms : List ℕ} {k : Content} → ((m : ℕ) → List·Memᴰ m ms → m < length S) → Holds S (choice need ms) k → ContentLeft S (choice need ms) 0 k
+  left-choice exist (chosen {m = m} {ms = ms} e hk) = child-left (exist m e) hk (in-choice (member-index m ms e)) none-left
+  left-choice exist left-out = none-left
+
   -- all of conforming content
   left-all : (κ : Kind) {k : Content} → ((m : ℕ) → List·Memᴰ m (membersOf κ) → m < length S) → Holds S κ k → ContentLeft S κ 0 k
   unfolding membersOf
   left-all text exist h = left-text h
   left-all empty exist nothing = none-left
   left-all (sequence ms) exist h = left-sequence (omega arith) exist h
-  left-all (choice ms) exist (chosen {m = m} e hk) = child-left (exist m e) hk (in-choice (member-index m ms e)) none-left
+  left-all (choice need ms) exist h = left-choice exist h
   left-all (list m) exist h = left-list (exist m (List·Memᴰ·head refl)) h
 
-  -- the first child of a choice is a member
-  pub first-chosen : (κ : Kind) {k : Content} → Holds S κ k → FirstChild (firstIn k) κ
+  -- the first child of a choice is a member, or there is none
+  pub first-chosen : {κ : Kind} {k : Content} → Holds S κ k → FirstChild (firstIn k) κ
   unfolding firstIn
-  first-chosen text h = of-text
-  first-chosen empty h = of-empty
-  first-chosen (sequence ms) h = of-sequence
-  first-chosen (choice ms) (chosen {m = m} e hk) = of-choice (member-index m ms e)
-  first-chosen (list m) h = of-list
+  first-chosen no-character = of-text
+  first-chosen (one-character a h) = of-text
+  first-chosen nothing = of-empty
+  first-chosen no-member = of-sequence
+  first-chosen (one-member hk hr) = of-sequence
+  first-chosen (chosen {m = m} {ms = ms} e hk) = of-choice (member-index m ms e)
+  first-chosen left-out = of-nothing
+  first-chosen no-item = of-list
+  first-chosen (one-item hk hr) = of-list
 
   -- conforming content has its first child at its start, if it has one
-  no-child : {k : Content} → Holds S text k → firstIn k ≡ 0
+  no-child : {k : Content} → Holds S text k → firstIn k ≡ none
   unfolding firstIn
   no-child no-character = refl
   no-child (one-character a h) = no-child h
@@ -96,6 +107,7 @@ module _ (S : Table) where
   first-ahead no-member = refl
   first-ahead (one-member hk hr) = refl
   first-ahead (chosen e hk) = refl
+  first-ahead left-out = refl
   first-ahead no-item = refl
   first-ahead (one-item hk hr) = refl
 

@@ -2,19 +2,21 @@
 use mathlib.Core.Path.{_≡_, refl, sym, ap, _∙_}
 use mathlib.Core.Bool.{Bool, true, false}
 use mathlib.Core.List.{List, [], _∷_, map}
+use mathlib.Core.Option.{some}
 use Prim.Native.Nat.{ℕ, zero, suc, _+_, _*_, _≤_, _<_}
 use native.Mathlib.Nat.{add-zero, add-suc, suc-add}
 use native.Mathlib.Omega.{arith}
 use lib.ListN.{length, drop, getD, length-take}
 use lib.Dec.{eqb}
 use Rattle.model.specs.Definitions.Basics.{pick}
+use Rattle.model.specs.Definitions.Commands.{Need}
 use Rattle.model.specs.Definitions.Table.{Kind, sequence, choice, list, Table, kindOf, edgesOf}
-use Rattle.model.specs.Definitions.Embedding.{Edge, pathsOf, noMap}
-use Rattle.model.specs.Definitions.Image.{pathOfMember, onlyPath}
+use Rattle.model.specs.Definitions.Embedding.{Edge, pathsOf, firstPath, noMap}
+use Rattle.model.specs.Definitions.Image.{pathOfMember}
 use Rattle.model.specs.Definitions.Templates.{depthOf, around}
 use Rattle.loaded_table.specs.Loaded.{Bounded, tableBy, typesIn, kindsOf, countsOf, membersIn, kindFrom, kind-of, length-of}
 use Rattle.loaded_embedding.specs.Loaded.{stepsFrom, edgeIn, edgesFrom, mapsFrom, embeddingIn, embeddingBy, lengthsOf}
-use Rattle.rows.specs.Rows.{indexIn, rowIndex}
+use Rattle.rows.specs.Rows.{indexIn, memberIndex, rowIndex}
 use Rattle.measuring.specs.Measured.{edgeNumber}
 
 -- ---- by the code of a kind
@@ -25,30 +27,33 @@ unfolding edgeNumber
 number-of-sequence code count row i t e = rw e refl
 
 pub number-of-other : (code count : ℕ) (row : List ℕ) (i t : ℕ) → (code ≡ 2 → ⊥)
-    → edgeNumber (kindFrom code count row) i t ≡ rowIndex (kindFrom code count row) t
+    → edgeNumber (kindFrom code count row) i t ≡ rowIndex (kindFrom code count row) (some t)
 unfolding edgeNumber rowIndex
 number-of-other zero count row i t other = refl
 number-of-other (suc zero) count row i t other = refl
 number-of-other (suc (suc zero)) count row i t other = absurd (other refl)
 number-of-other (suc (suc (suc zero))) count row i t other = refl
-number-of-other (suc (suc (suc (suc code)))) count row i t other = refl
+number-of-other (suc (suc (suc (suc zero)))) count row i t other = refl
+number-of-other (suc (suc (suc (suc (suc code))))) count row i t other = refl
 
 -- something stands around the items of a list only
-pub around-list : (code count : ℕ) (row : List ℕ) (n : ℕ) → 4 ≤ code → around (kindFrom code count row) n ≡ n
+pub around-list : (code count : ℕ) (row : List ℕ) (n : ℕ) → 5 ≤ code → around (kindFrom code count row) n ≡ n
 unfolding around
 around-list zero count row n large = absurd (omega arith)
 around-list (suc zero) count row n large = absurd (omega arith)
 around-list (suc (suc zero)) count row n large = absurd (omega arith)
 around-list (suc (suc (suc zero))) count row n large = absurd (omega arith)
-around-list (suc (suc (suc (suc code)))) count row n large = refl
+around-list (suc (suc (suc (suc zero)))) count row n large = absurd (omega arith)
+around-list (suc (suc (suc (suc (suc code))))) count row n large = refl
 
-pub around-other : (code count : ℕ) (row : List ℕ) (n : ℕ) → code < 4 → around (kindFrom code count row) n ≡ 0
+pub around-other : (code count : ℕ) (row : List ℕ) (n : ℕ) → code < 5 → around (kindFrom code count row) n ≡ 0
 unfolding around
 around-other zero count row n small = refl
 around-other (suc zero) count row n small = refl
 around-other (suc (suc zero)) count row n small = refl
 around-other (suc (suc (suc zero))) count row n small = refl
-around-other (suc (suc (suc (suc code)))) count row n small = absurd (omega arith)
+around-other (suc (suc (suc (suc zero)))) count row n small = refl
+around-other (suc (suc (suc (suc (suc code))))) count row n small = absurd (omega arith)
 
 -- a type has at most 16 edges
 edges-from : (code count : ℕ) (row : List ℕ) → count ≤ 16 → edgesOf (kindFrom code count row) ≤ 16
@@ -57,7 +62,8 @@ edges-from zero count row few = omega arith
 edges-from (suc zero) count row few = omega arith
 edges-from (suc (suc zero)) count row few = omega (arith, length-take count row)
 edges-from (suc (suc (suc zero))) count row few = omega (arith, length-take count row)
-edges-from (suc (suc (suc (suc code)))) count row few = omega arith
+edges-from (suc (suc (suc (suc zero)))) count row few = omega (arith, length-take count row)
+edges-from (suc (suc (suc (suc (suc code))))) count row few = omega arith
 
 few-edges : {source : List ℕ} {s : ℕ} → Bounded source → s < typesIn source → edgesOf (kindOf (tableBy source) s) ≤ 16
 few-edges {source} {s} bounded exists =
@@ -69,11 +75,11 @@ few-edges {source} {s} bounded exists =
 -- child number i, of type t, has an edge in an element of this kind
 pub data HasEdge (i t : ℕ) : Kind → Type 0 where
   in-sequence : {ms : List ℕ} → i < length ms → HasEdge i t (sequence ms)
-  in-choice : {ms : List ℕ} → indexIn t ms < length ms → HasEdge i t (choice ms)
+  in-choice : {need : Need} {ms : List ℕ} → indexIn t ms < length ms → HasEdge i t (choice need ms)
   in-list : {m : ℕ} → HasEdge i t (list m)
 
 number-below : {κ : Kind} {i t : ℕ} → HasEdge i t κ → edgeNumber κ i t < edgesOf κ
-unfolding edgeNumber edgesOf rowIndex
+unfolding edgeNumber edgesOf rowIndex memberIndex
 number-below (in-sequence less) = less
 number-below (in-choice less) = less
 number-below in-list = omega arith
@@ -100,17 +106,17 @@ member-path t (m ∷ ms) (p ∷ ps) less same = go (eqb t m) refl (member-path t
         let shorter′ : suc (indexIn t ms) < suc (length ms) = rw e at shorter in
         rw e (later (omega (arith, shorter′)) (omega (arith, same)))
 
-only-path : (ps : List (List ℕ)) → onlyPath ps ≡ getD ps 0 []
-unfolding onlyPath
-only-path [] = refl
-only-path (p ∷ ps) = refl
+first-path : (ps : List (List ℕ)) → firstPath ps ≡ getD ps 0 []
+unfolding firstPath
+first-path [] = refl
+first-path (p ∷ ps) = refl
 
 depth-by-edge : {κ : Kind} {i t : ℕ} (ps : List (List ℕ)) → HasEdge i t κ → length ps ≡ edgesOf κ
     → depthOf κ ps i t ≡ length (getD ps (edgeNumber κ i t) [])
-unfolding depthOf edgeNumber edgesOf rowIndex
+unfolding depthOf edgeNumber edgesOf rowIndex memberIndex
 depth-by-edge ps (in-sequence less) many = refl
 depth-by-edge {t = t} ps (in-choice {ms = ms} less) many = ap length (member-path t ms ps less many)
-depth-by-edge ps in-list many = ap length (only-path ps)
+depth-by-edge ps in-list many = ap length (first-path ps)
 
 length-steps : (em : List ℕ) (at n : ℕ) → length (stepsFrom em at n) ≡ n
 unfolding stepsFrom
@@ -154,8 +160,8 @@ pub child-steps : (source map em : List ℕ) (s i t : ℕ) → s < typesIn sourc
     → depthOf (kindOf (tableBy source) s) (pathsOf (embeddingBy em (tableBy source) map) s) i t
     ≡ getD (lengthsOf map) (s * 16 + edgeNumber (kindOf (tableBy source) s) i t) 0
 child-steps source map em s i t exists edge =
-    let some : s < length (tableBy source) = omega (arith, exists, length-of source) in
+    let there : s < length (tableBy source) = omega (arith, exists, length-of source) in
     let n = edgesOf (kindOf (tableBy source) s) in
-    ap (λ (ps : List (List ℕ)). depthOf (kindOf (tableBy source) s) ps i t) (paths-in em _ _ _ (tableBy source) s some)
+    ap (λ (ps : List (List ℕ)). depthOf (kindOf (tableBy source) s) ps i t) (paths-in em _ _ _ (tableBy source) s there)
     ∙ depth-by-edge (paths em _ (lengthsOf map) (s * 16) n) edge (length-paths em _ _ (s * 16) n)
     ∙ length-path em _ (lengthsOf map) (s * 16) n _ (number-below edge)

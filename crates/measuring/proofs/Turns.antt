@@ -1,6 +1,7 @@
 -- The turns of the loop over an element's content, for every content that begins at `from`.
 use mathlib.Core.Path.{_≡_, refl, sym, ap, _∙_, subst}
 use mathlib.Core.List.{List}
+use mathlib.Core.Option.{Option}
 use Prim.Native.Nat.{ℕ, _+_, _*_, _≤_, _<_, min, max}
 use native.Mathlib.Numerals.{add-one}
 use native.Mathlib.Omega.{arith}
@@ -26,7 +27,7 @@ unfolding around
 held-around text n m same = omega arith
 held-around empty n m same = omega arith
 held-around (sequence ms) n m same = omega arith
-held-around (choice ms) n m same = omega arith
+held-around (choice need ms) n m same = omega arith
 held-around (list item) n m same = same item refl
 
 held-start : (a b : ℕ) → min 60001 (max (min 60001 a) b) ≡ min 60001 (max a b)
@@ -87,7 +88,7 @@ module _ {source map sizes tr : List ℕ} {s from : ℕ} where
         filler-is = c ∙ held-around _ _ _ (λ item same. at item same .filler-is);
       }
 
-  module _ {first row high long fill : ℕ}
+  module _ {first : Option ℕ} {row high long fill : ℕ}
       (firsts : (k : Content) → ContentAt tr from k → first ≡ typeAhead k)
       (is-row : row ≡ sourceRow (tableBy source) s first)
       (is-high : high ≡ levelsIn sizes row)
@@ -97,7 +98,7 @@ module _ {source map sizes tr : List ℕ} {s from : ℕ} where
         → SizeAt sizes row (ownLevels (givenSetting g) s (firstIn (g .held))) (ownLength (givenSetting g) s (firstIn (g .held))) (ownFiller (givenSetting g) s (firstIn (g .held)))
     own-at g =
         let same : first ≡ firstIn (g .held) = firsts (g .held) (g .there) ∙ first-ahead (tableBy source) (g .holds) in
-        let own = g .sized .own-size s (firstIn (g .held)) (exists-in g) (first-chosen (tableBy source) (kindOf (tableBy source) s) (g .holds)) in
+        let own = g .sized .own-size s (firstIn (g .held)) (exists-in g) (first-chosen (tableBy source) (g .holds)) in
         rw (is-row, same) own
 
     -- at the start all of the content is left

@@ -1,6 +1,7 @@
 -- Measuring the image of source content by the sizes of prepared templates: what the functions need, and what they give.
 use mathlib.Core.Path.{_≡_}
 use mathlib.Core.List.{List}
+use mathlib.Core.Option.{Option, none, some}
 use Prim.Native.Nat.{ℕ, _+_, _*_, _≤_, _<_, min, max}
 use Rattle.model.specs.Definitions.Table.{Kind, text, empty, sequence, choice, list, kindOf}
 use Rattle.model.specs.Definitions.Content.{Content, end, char, elem, bytes, contentOf, document}
@@ -18,14 +19,14 @@ unfoldable pub edgeNumber : Kind → ℕ → ℕ → ℕ
 edgeNumber text i t = 0
 edgeNumber empty i t = 0
 edgeNumber (sequence ms) i t = i
-edgeNumber (choice ms) i t = rowIndex (choice ms) t
+edgeNumber (choice need ms) i t = rowIndex (choice need ms) (some t)
 edgeNumber (list m) i t = 0
 
--- the type of the element that content begins with; 0 where it begins with none
-unfoldable pub typeAhead : Content → ℕ
-typeAhead end = 0
-typeAhead (char c r) = 0
-typeAhead (elem t k r) = t
+-- the type of the element that content begins with, if it begins with one
+unfoldable pub typeAhead : Content → Option ℕ
+typeAhead end = none
+typeAhead (char c r) = none
+typeAhead (elem t k r) = some t
 
 -- each of three numbers is at most 60,001
 pub record Held (levels bytes fill : ℕ) : Type 0 where

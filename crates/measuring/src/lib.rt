@@ -10,7 +10,7 @@ ghost use Rattle.loaded_table.specs.Loaded.{Bounded, tableBy, typesIn, heldLeng
 ghost use Rattle.loaded_embedding.specs.Loaded.{lengthsOf};
 ghost use Rattle.loaded_setting.specs.Ready.{settingIn};
 ghost use Rattle.scanning.specs.Scanning.{ContentAt};
-ghost use Rattle.rows.specs.Rows.{levelsIn, bytesIn, fillerIn, itemRow};
+ghost use Rattle.rows.specs.Rows.{levelsIn, bytesIn, fillerIn, firstFrom, itemRow};
 ghost use Rattle.measuring.specs.Measured.{edgeNumber, typeAhead, Held, Given, Measured, Measurable, ImageSize};
 ghost use Rattle.model.specs.Definitions.TableChecks.{maxMembers};
 use codes::CHARACTER;
@@ -29,7 +29,7 @@ use rows::TYPE_ROWS;
 
 // A byte at full width.
 fn wide(x: u8) -> usize
-    ensures { λ r. ⌜ r ≡ x ⌝ }
+    ensures { λ r. ⌜ (r ≡ x) × (r < 256) ⌝ }
 {
     x as usize
 }
@@ -77,15 +77,15 @@ fn with_child(size: Size, around: Size, depth: usize, inner: Size) -> Size
     }
 }
 
-// The type of the element that content begins with at `from`; 0 where it begins with none.
+// The type of the element that content begins with at `from`; NO_CHILD where it begins with none.
 fn type_ahead(tr: &[u8], from: usize) -> usize
     requires { ⌜ ((k : Content) × ContentAt (now tr) from k) ⌝ }
-    ensures { λ r. ⌜ ((k : Content) → ContentAt (now (tr .entry)) from k → r ≡ typeAhead k) ⌝ }
+    ensures { λ r. ⌜ ((k : Content) → ContentAt (now (tr .entry)) from k → firstFrom r ≡ typeAhead k) ⌝ }
 {
     if tr[from] == OPENS {
         return wide(tr[from + 1]);
     }
-    0
+    rows::NO_CHILD
 }
 
 // The size of what stands around each item of source type s; zeros where s is no list.
@@ -109,7 +109,7 @@ fn item_size<'a>(source: &'a [u16; TABLE], sizes: &'a [u16], s: usize) -> Size
 // The number of the edge of child number i, of type t, of an element of type s.
 fn edge_of(source: &[u16; TABLE], s: usize, i: usize, t: usize) -> usize
     requires bounded { ⌜ Bounded (now source) ⌝ }
-    requires { ⌜ s < typesIn (now source) ⌝ }
+    requires { ⌜ (s < typesIn (now source)) × (t < 256) ⌝ }
     ensures { λ r. ⌜ r ≡ edgeNumber (kindOf (tableBy (now (source .entry))) s) i t ⌝ }
 {
     if loaded_table::kind(source, s) == SEQUENCE {
@@ -128,7 +128,7 @@ fn child_depth<'a>(
     t: usize,
 ) -> usize
     requires bounded { ⌜ Bounded (now source) ⌝ }
-    requires { ⌜ (s < typesIn (now source)) × (edgeNumber (kindOf (tableBy (now source)) s) i t < maxMembers) ⌝ }
+    requires { ⌜ (s < typesIn (now source)) × (t < 256) × (edgeNumber (kindOf (tableBy (now source)) s) i t < maxMembers) ⌝ }
     ensures { λ r. ⌜ (r ≡ getD (lengthsOf (now (map .entry))) (s * maxMembers + edgeNumber (kindOf (tableBy (now (source .entry))) s) i t) 0) × (r < 65536) ⌝ }
 {
     let edge = edge_of(source, s, i, t);

@@ -10,6 +10,7 @@ use lib.ListN.{length, length-append}
 use lib.Dec.{eqb, leb}
 use borrow.Author.Tests.{leb-true, leb-false, le-leb, lt-leb, eqb-true, eqb-false}
 use Rattle.model.specs.Definitions.Basics.{pick, entry}
+use Rattle.model.specs.Definitions.Commands.{Need}
 use Rattle.model.specs.Definitions.Table.{sequence, choice, list, Table, kindOf}
 use Rattle.model.specs.Definitions.Embedding.{next}
 use Rattle.model.specs.Definitions.Filler.{fillers}
@@ -116,9 +117,9 @@ module _ (T : Table) (few : (τ : ℕ) (ms : List ℕ) → kindOf T τ ≡ seque
     unfolding grow growKind
     of-sequence ms kind = rw kind refl
 
-    of-choice : (ms : List ℕ) → kindOf T τ ≡ choice ms → content (suc n) τ all ≡ framed true (next T τ q) (content n (next T τ q) (under q all)) bare
+    of-choice : (need : Need) (ms : List ℕ) → kindOf T τ ≡ choice need ms → content (suc n) τ all ≡ framed true (next T τ q) (content n (next T τ q) (under q all)) bare
     unfolding grow growKind shaped
-    of-choice ms kind = rw kind refl
+    of-choice need ms kind = rw kind refl
 
     of-list : (m : ℕ) → kindOf T τ ≡ list m → content (suc n) τ all ≡ framed true m (content n m (under q all)) bare
     unfolding grow growKind shaped
@@ -139,9 +140,9 @@ module _ (T : Table) (few : (τ : ℕ) (ms : List ℕ) → kindOf T τ ≡ seque
       let row = members-bound (λ m qs. content n m qs) all 1 ms
       (λ i m e s. grow-bound n m (fits (1 + i) m (rw (one-plus i) e)) (under-all IsGap IsGap (1 + i) (λ other b h. h) all gaps) s) in
       rw (of-sequence n τ q path a ps ms kind) (omega (arith, row, few τ ms kind, gain-most 1 starts))
-  grow-bound (suc n) τ (below-choice {q = q} {path} {a} {ps} ms kind step starts fits) gaps there =
+  grow-bound (suc n) τ (below-choice {q = q} {path} {a} {ps} need ms kind step starts fits) gaps there =
       let inner = grow-bound n (next T τ q) fits (under-all IsGap IsGap q (λ other b h. h) (placed (q ∷ path) a ∷ ps) gaps) in
-      rw (of-choice n τ q path a ps ms kind) (one-bound n (next T τ q) q path a ps starts inner)
+      rw (of-choice n τ q path a ps need ms kind) (one-bound n (next T τ q) q path a ps starts inner)
   grow-bound (suc n) τ (below-list {path = path} {a} {ps} m kind starts fits) gaps there =
       let inner = grow-bound n m fits (under-all IsGap IsGap 1 (λ other b h. h) (placed (1 ∷ path) a ∷ ps) gaps) in
       rw (of-list n τ 1 path a ps m kind) (one-bound n m 1 path a ps starts inner)

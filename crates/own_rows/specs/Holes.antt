@@ -2,6 +2,7 @@
 use mathlib.Core.Path.{_≡_, refl, sym, ap, ap₂, subst, _∙_}
 use mathlib.Core.Bool.{Bool, true, false}
 use mathlib.Core.List.{List, [], _∷_}
+use mathlib.Core.Option.{Option, none, some}
 use Prim.Native.Nat.{ℕ, zero, suc, _+_, _-_, _*_, _≤_, _<_}
 use native.Mathlib.Nat.{add-zero, zero-add}
 use native.Mathlib.Omega.{arith}
@@ -9,15 +10,16 @@ use lib.ListN.{length, getD}
 use lib.Dec.{eqb}
 use borrow.Author.Tests.{lt-ltb}
 use Rattle.model.specs.Definitions.Basics.{pick}
+use Rattle.model.specs.Definitions.Commands.{Need}
 use Rattle.model.specs.Definitions.Table.{text, empty, sequence, choice, Table, kindOf, edgesOf}
-use Rattle.model.specs.Definitions.Embedding.{targetOf, pathsOf}
+use Rattle.model.specs.Definitions.Embedding.{targetOf, pathsOf, firstPath, beforeChoice}
 use Rattle.model.specs.Definitions.Filler.{fillers}
-use Rattle.model.specs.Definitions.Image.{Setting, Placement, placed, place, pathOfMember, onlyPath}
-use Rattle.model.specs.Definitions.Templates.{Shape, gap, shaped, rowOf, Hole, child, holesAlong, holesOf, template, templateBy}
+use Rattle.model.specs.Definitions.Image.{Setting, Placement, placed, place, pathOfMember}
+use Rattle.model.specs.Definitions.Templates.{Shape, gap, shaped, rowOf, Hole, characters, child, holesAlong, choiceHole, holesOf, template, templateBy}
 use Rattle.model.specs.Theorems.Facts.{Fits}
 use Rattle.model.specs.Theorems.TemplateShapes.{holes-fit}
 use Rattle.loaded_table.specs.Loaded.{tableBy, typesIn, length-of}
-use Rattle.loaded_embedding.specs.Loaded.{targetsOf}
+use Rattle.loaded_embedding.specs.Loaded.{targetsOf, stepsFrom}
 use Rattle.loaded_setting.specs.Ready.{settingIn, Ready}
 use Rattle.paths.specs.Following.{pathAt, pathsFrom}
 use Rattle.paths.specs.Edges.{target-is, paths-are}
@@ -63,27 +65,33 @@ member-path em map t i (m ∷ ms) less = go (eqb t m) refl (member-path em map t
         rw e (later (omega (arith, short)) ∙ ap (pathAt em map) on)
 
 -- what is placed for a source type of each kind, its paths being those of the edges from place i on
-pub text-holes : (em map : List ℕ) (T : Table) (τ i t : ℕ) → edgePlacements em map i 144 1 ≡ holesOf gap T text τ (pathsFrom em map i 1) t
-unfolding edgePlacements holesOf onlyPath pathsFrom placementOf holeOf pick
+pub text-holes : (em map : List ℕ) (T : Table) (τ i : ℕ) (t : Option ℕ) → edgePlacements em map i 144 1 ≡ holesOf gap T text τ (pathsFrom em map i 1) t
+unfolding edgePlacements holesOf firstPath pathsFrom placementOf holeOf pick
 text-holes em map T τ i t = refl
 
-pub empty-holes : (em map : List ℕ) (T : Table) (τ i t : ℕ) → edgePlacements em map i 128 0 ≡ holesOf gap T empty τ (pathsFrom em map i 0) t
+pub empty-holes : (em map : List ℕ) (T : Table) (τ i : ℕ) (t : Option ℕ) → edgePlacements em map i 128 0 ≡ holesOf gap T empty τ (pathsFrom em map i 0) t
 unfolding edgePlacements holesOf
 empty-holes em map T τ i t = refl
 
-pub sequence-holes : (em map : List ℕ) (T : Table) (τ i t : ℕ) (ms : List ℕ) (n : ℕ) → n ≤ 16 → edgePlacements em map i 128 n ≡ holesOf gap T (sequence ms) τ (pathsFrom em map i n) t
+pub sequence-holes : (em map : List ℕ) (T : Table) (τ i : ℕ) (t : Option ℕ) (ms : List ℕ) (n : ℕ) → n ≤ 16 → edgePlacements em map i 128 n ≡ holesOf gap T (sequence ms) τ (pathsFrom em map i n) t
 unfolding holesOf
 sequence-holes em map T τ i t ms n few = along-edges em map i 0 n (omega arith) ∙ along-same (λ j. gap (child (0 + j))) (λ j. gap (child j)) (λ j. ap (λ (k : ℕ). gap (child k)) (zero-add j)) (pathsFrom em map i n)
 
-pub choice-holes : (em map : List ℕ) (T : Table) (τ i t : ℕ) (ms : List ℕ) → indexIn t ms < length ms
-    → edgePlacements em map (i + indexIn t ms) 128 1 ≡ holesOf gap T (choice ms) τ (pathsFrom em map i (length ms)) t
-unfolding edgePlacements holesOf placementOf
-choice-holes em map T τ i t ms less =
+pub choice-holes : (em map : List ℕ) (T : Table) (τ i t : ℕ) (need : Need) (ms : List ℕ) → indexIn t ms < length ms
+    → edgePlacements em map (i + indexIn t ms) 128 1 ≡ holesOf gap T (choice need ms) τ (pathsFrom em map i (length ms)) (some t)
+unfolding edgePlacements holesOf choiceHole placementOf
+choice-holes em map T τ i t need ms less =
     ap₂ (λ (path : List ℕ) (h : Hole). placed path (gap h) ∷ []) (sym (member-path em map t i ms less)) (child-hole 0 (omega arith))
+
+-- nothing, at the end of the steps that the paths of a choice share
+pub nothing-holes : (em : List ℕ) (T : Table) (τ o depth : ℕ) (need : Need) (ms : List ℕ) (pss : List (List ℕ)) → stepsFrom em o depth ≡ beforeChoice T τ (firstPath pss)
+    → placementOf em o depth 144 ∷ [] ≡ holesOf gap T (choice need ms) τ pss none
+unfolding holesOf choiceHole placementOf holeOf pick
+nothing-holes em T τ o depth need ms pss shared = ap (λ (path : List ℕ). placed path (gap characters) ∷ []) shared
 
 -- ---- the task of a source type, and its template
 
-module _ {source target map em : List ℕ} (ready : Ready source target map em) {s : ℕ} (exists : s < typesIn source) (t : ℕ) (e : Edges)
+module _ {source target map em : List ℕ} (ready : Ready source target map em) {s : ℕ} (exists : s < typesIn source) (t : Option ℕ) (e : Edges)
     (holes : placementsOf em e ≡ holesOf gap (tableBy target) (kindOf (tableBy source) s) (getD (targetsOf map) s 0) (pathsFrom em map (s * 16) (edgesOf (kindOf (tableBy source) s))) t) where
   abbrev X : Setting
   X = settingIn source target map em

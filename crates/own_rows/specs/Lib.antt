@@ -4,4 +4,6 @@ pub mod Bounds
 pub mod Wanted
 pub mod Holes
 pub mod Short
+pub mod OnePath
 pub mod Progress
+pub mod Steps

@@ -2,6 +2,7 @@
 use mathlib.Core.Path.{_≡_, refl}
 use mathlib.Core.Bool.{Bool, true, false}
 use mathlib.Core.List.{List}
+use mathlib.Core.Option.{Option}
 use Prim.Native.Nat.{ℕ, _+_, _<_}
 use native.Mathlib.Omega.{arith}
 use lib.ListN.{length}
@@ -20,7 +21,7 @@ use Rattle.filler_rows.specs.Laws.{stored-made, stored-still}
 -- row r is to be `row`, with d elements open around it
 pub data Wanted (X : Setting) (r : ℕ) (row : List Symbol) (d : ℕ) : Type 0 where
   of-filler : (τ : ℕ) → τ < length (X .target) → r ≡ τ → row ≡ fillerRow (X .target) τ → d ≡ 0 → Wanted X r row d
-  of-type : (s t : ℕ) → s < length (X .source) → FirstChild t (kindOf (X .source) s) → r ≡ sourceRow (X .source) s t → row ≡ template X s t → d ≡ 0 → Wanted X r row d
+  of-type : (s : ℕ) (t : Option ℕ) → s < length (X .source) → FirstChild t (kindOf (X .source) s) → r ≡ sourceRow (X .source) s t → row ≡ template X s t → d ≡ 0 → Wanted X r row d
   of-item : (s m : ℕ) → s < length (X .source) → kindOf (X .source) s ≡ list m → r ≡ itemRow s → row ≡ itemTemplate X s → d ≡ length (dividedOf X s .before) → Wanted X r row d
 
 -- the rows before number k stand before place `at`
@@ -54,16 +55,18 @@ module _ {source target map em : List ℕ} (ready : Ready source target map em) 
   abbrev X : Setting
   X = settingIn source target map em
 
-  -- row j of source type s is a template of s
-  pub wanted-type : (s j : ℕ) → j < 16 → {row : List Symbol} {d : ℕ} → Wanted X (typeRow s j) row d
-      → (t : ℕ) × (FirstChild t (kindOf (X .source) s)) × (rowIndex (kindOf (X .source) s) t ≡ j) × (row ≡ template X s t) × (d ≡ 0)
+  -- row j of source type s is a template of s, but for the last one of a list
+  pub wanted-type : (s j : ℕ) → j < 17 → (j ≡ 16 → (m : ℕ) → kindOf (X .source) s ≡ list m → ⊥) → {row : List Symbol} {d : ℕ} → Wanted X (typeRow s j) row d
+      → (t : Option ℕ) × (FirstChild t (kindOf (X .source) s)) × (rowIndex (kindOf (X .source) s) t ≡ j) × (row ≡ template X s t) × (d ≡ 0)
   unfolding itemRow sourceRow
-  wanted-type s j less (of-filler τ exists is what depth) = absurd (omega (arith, exists, length-of target, ready .target-bounded .few-types))
-  wanted-type s j less (of-type s′ t exists chosen is what depth) =
+  wanted-type s j less no-item (of-filler τ exists is what depth) = absurd (omega (arith, exists, length-of target, ready .target-bounded .few-types))
+  wanted-type s j less no-item (of-type s′ t exists chosen is what depth) =
       let small = source-index-small (ready .source-bounded) s′ t (omega (arith, exists, length-of source)) chosen in
       let same : s′ ≡ s = omega (arith, small, is) in
       let index-is : rowIndex (kindOf (X .source) s′) t ≡ j = omega (arith, small, is) in
       let chosen′ : FirstChild t (kindOf (X .source) s) = rw same at chosen in
       let index : rowIndex (kindOf (X .source) s) t ≡ j = rw same at index-is in
       (t, chosen′, index, rw same at what, depth)
-  wanted-type s j less (of-item s′ m exists kind is what depth) = absurd (omega arith)
+  wanted-type s j less no-item (of-item s′ m exists kind is what depth) =
+      let same : s′ ≡ s = omega (arith, is) in
+      absurd (no-item (omega (arith, is)) m (rw same at kind))

@@ -1,4 +1,4 @@
-// The rows of a source type that is no list: one, or for a choice one for each member.
+// Rows of source types: what all of them share, and the row of a type that is a text, empty or a sequence.
 ghost use mathlib.Core.Path.{_≡_};
 ghost use Prim.Native.Nat.{ℕ, _+_, _≤_, _<_};
 ghost use lib.ListN.{length, getD};
@@ -8,6 +8,7 @@ ghost use Rattle.loaded_embedding.specs.Loaded.{startsOf, lengthsOf, edgePlaces
 ghost use Rattle.growing.specs.Growing.{push, Task, elementRow, stepBound};
 ghost use Rattle.filler_rows.specs.Storing.{Stored, RowMade};
 ghost use Rattle.own_rows.specs.Making.{EdgeSmall, EdgesFrom, OwnEdges, heldRow};
+ghost use Rattle.own_rows.specs.OnePath.{onePath};
 ghost use Rattle.own_rows.specs.Progress.{Progress, NextToMake};
 ghost use Rattle.rows.specs.Rows.{HasRow, IsWord, childSymbol, closingSymbol};
 ghost use Rattle.model.specs.Definitions.TableChecks.{maxMembers, maxTypes};
@@ -20,7 +21,6 @@ use growing::element;
 use growing::no_edges;
 use growing::pushed;
 use loaded_embedding::MAP;
-use loaded_table::CHOICE;
 use loaded_table::EMPTY;
 use loaded_table::TABLE;
 use loaded_table::TEXT;
@@ -39,7 +39,7 @@ fn with_edge(map: &[u16; MAP], e: Edges, edge: usize, hole: u8) -> Edges
 }
 
 // The paths of `count` edges from a place on, to the holes from a number on.
-fn edges(map: &[u16; MAP], first: usize, hole: u8, count: usize) -> Edges
+pub fn edges(map: &[u16; MAP], first: usize, hole: u8, count: usize) -> Edges
     requires { ⌜ (count ≤ maxMembers) × (first + count ≤ edgePlaces) × (hole + count ≤ closingSymbol) × (childSymbol ≤ hole) ⌝ }
     requires small { ⌜ ((i : ℕ) → EdgeSmall (now map) i) ⌝ }
     ensures { λ r. ⌜ EdgesFrom (now (map .entry)) first hole count r ⌝ }
@@ -51,6 +51,15 @@ fn edges(map: &[u16; MAP], first: usize, hole: u8, count: usize) -> Edges
         i += 1;
     }
     e
+}
+
+// The one path of some steps from an offset on, to a hole.
+pub fn one_path(next: usize, steps: usize, hole: u8) -> Edges
+    requires { ⌜ (next < 65536) × (steps < 256) ⌝ }
+    ensures { λ r. ⌜ r ≡ onePath next steps hole ⌝ }
+{
+    let none = no_edges();
+    pushed(none, next as u16, steps as u8, hole)
 }
 
 // Writes and places the row of what an element of type t holds, given the paths below it; where there is none, the row of its
@@ -100,8 +109,8 @@ fn own_edges(source: &[u16; TABLE], map: &[u16; MAP], s: usize) -> Edges
     edges(map, first, CHILD, count)
 }
 
-// Makes the rows of a source type that is a choice: one for each member.
-fn choice_rows(
+// Makes the row of a source type that is a text, empty or a sequence.
+pub fn one_row(
     source: &[u16; TABLE],
     target: &[u16; TABLE],
     map: &[u16; MAP],
@@ -112,49 +121,9 @@ fn choice_rows(
     at: usize,
 ) -> usize
     requires next { ⌜ NextToMake (now source) (now target) (now map) (now em) (now pool) (now places) s at ⌝ }
-    requires { ⌜ getD (kindsOf (now source)) s 0 ≡ 3 ⌝ }
+    requires { ⌜ getD (kindsOf (now source)) s 0 < 3 ⌝ }
     ensures { λ r. ⌜ Progress (now (source .entry)) (now (target .entry)) (now (map .entry)) (now (em .entry)) (now (pool .entry)) (now (places .entry)) (s + 1) (now (pool .exit)) (now (places .exit)) r ⌝ }
 {
-    let t = loaded_embedding::target(map, s);
-    let count = loaded_table::count(source, s);
-    let mut end = at;
-    let mut j = 0;
-    while j < count {
-        let e = edges(map, s * MAX_MEMBERS + j, CHILD, 1);
-        end = own_row(
-            target,
-            em,
-            e,
-            t,
-            pool,
-            places,
-            MAX_TYPES + (s * TYPE_ROWS + j),
-            end,
-        );
-        j += 1;
-    }
-    end
-}
-
-// Makes the rows of a source type that is no list.
-pub fn own_rows(
-    source: &[u16; TABLE],
-    target: &[u16; TABLE],
-    map: &[u16; MAP],
-    em: &[u8],
-    s: usize,
-    pool: &mut [u8],
-    places: &mut [u32],
-    at: usize,
-) -> usize
-    requires next { ⌜ NextToMake (now source) (now target) (now map) (now em) (now pool) (now places) s at ⌝ }
-    requires { ⌜ getD (kindsOf (now source)) s 0 < 4 ⌝ }
-    ensures { λ r. ⌜ Progress (now (source .entry)) (now (target .entry)) (now (map .entry)) (now (em .entry)) (now (pool .entry)) (now (places .entry)) (s + 1) (now (pool .exit)) (now (places .exit)) r ⌝ }
-{
-    let kind = loaded_table::kind(source, s);
-    if kind == CHOICE {
-        return choice_rows(source, target, map, em, s, pool, places, at);
-    }
     let e = own_edges(source, map, s);
     let t = loaded_embedding::target(map, s);
     own_row(

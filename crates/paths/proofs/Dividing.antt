@@ -39,7 +39,7 @@ unfolding divideAt stepsFrom
 cut-at em a n d text cut = cut-more em a n d cut
 cut-at em a n d empty cut = cut-more em a n d cut
 cut-at em a n d (sequence ms) cut = cut-more em a n d cut
-cut-at em a n d (choice ms) cut = cut-more em a n d cut
+cut-at em a n d (choice need ms) cut = cut-more em a n d cut
 cut-at em a n d (list m) cut =
     let place : a + 2 * 1 + 2 ≡ a + 2 + 2 = omega arith in
     let left : suc n - 1 ≡ n = omega arith in
@@ -66,13 +66,14 @@ record Same (d e : Divided) : Type 0 where
   pub longer : length (d .before) ≡ suc (length (e .before))
   pub item : d .item ≡ e .item
 
-divide-other : (code count : ℕ) (row : List ℕ) (p : ℕ) (ps : List ℕ) (d : Divided) → code < 4 → Same (divideAt (kindFrom code count row) p ps d) d
+divide-other : (code count : ℕ) (row : List ℕ) (p : ℕ) (ps : List ℕ) (d : Divided) → code < 5 → Same (divideAt (kindFrom code count row) p ps d) d
 unfolding divideAt
 divide-other zero count row p ps d h = record { longer = refl; item = refl }
 divide-other (suc zero) count row p ps d h = record { longer = refl; item = refl }
 divide-other (suc (suc zero)) count row p ps d h = record { longer = refl; item = refl }
 divide-other (suc (suc (suc zero))) count row p ps d h = record { longer = refl; item = refl }
-divide-other (suc (suc (suc (suc code)))) count row p ps d h = absurd (omega arith)
+divide-other (suc (suc (suc (suc zero)))) count row p ps d h = record { longer = refl; item = refl }
+divide-other (suc (suc (suc (suc (suc code))))) count row p ps d h = absurd (omega arith)
 
 -- ---- the loop
 
@@ -115,7 +116,7 @@ module _ {target em : List ℕ} {start steps t i τ : ℕ} (now : Divides target
     same-divide = ap (divide T τ) (steps-here (now .walk) less read)
 
     -- the step leaves a list
-    pub divides-list : 4 ≤ getD (kindsOf target) τ 0 → Cuts em start steps whole (record { depth = i; item = r })
+    pub divides-list : 5 ≤ getD (kindsOf target) τ 0 → Cuts em start steps whole (record { depth = i; item = r })
     divides-list is-list =
         let row : List ℕ = drop (τ * 16) (membersIn target) in
         let m : ℕ = getD row 0 0 in
@@ -128,7 +129,7 @@ module _ {target em : List ℕ} {start steps t i τ : ℕ} (now : Divides target
         (sym (next-here (now .walk) less read is) ∙ to-item ∙ sym (now .item ∙ ap (λ (d : Divided). d .item) divided))
 
     -- it doesn't
-    pub divides-on : getD (kindsOf target) τ 0 < 4 → Divides target em start steps t (i + 1) r
+    pub divides-on : getD (kindsOf target) τ 0 < 5 → Divides target em start steps t (i + 1) r
     unfolding divide
     divides-on other =
         let d : Divided = divide T (next T τ p) later in

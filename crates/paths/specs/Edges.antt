@@ -10,12 +10,13 @@ use lib.ListN.{length, take, drop, getD, length-take, length-drop}
 use lib.Seq.{getD-drop, length-take-le}
 use Rattle.model.specs.Definitions.Basics.{some-of}
 use Rattle.model.specs.Definitions.Table.{Kind, text, empty, sequence, choice, list, Table, kindOf, membersOf, edgesOf, isList}
-use Rattle.model.specs.Definitions.Embedding.{Edge, TypeMap, noMap, targetOf, pathsOf, next, leaves, Divided, divide, divideAt}
+use Rattle.model.specs.Definitions.Embedding.{Edge, TypeMap, noMap, targetOf, pathsOf, firstPath, next, leaves, Divided, divide, divideAt}
 use Rattle.model.specs.Definitions.Image.{Setting}
 use Rattle.model.specs.Theorems.Facts.{Walks, MemberPath, Along, along-none, along-both, All, all-none, all-more, ValidEdges, text-edge, no-edge, sequence-edges, choice-edges, list-edge, Valid}
 use Rattle.model.specs.Theorems.Tools.{true-false}
 use Rattle.model.specs.Theorems.ImageConforms.{list-left}
 use Rattle.loaded_table.specs.Loaded.{kindFrom, kindIn, typesIn, kindsOf, countsOf, membersIn, length-of, kind-of}
+use Rattle.loaded_table.specs.Kinds.{choiceCode, needFrom, choice-from, choice-range}
 use Rattle.loaded_embedding.specs.Loaded.{targetsOf, startsOf, lengthsOf, stepsFrom, edgesFrom, edgeIn, mapsFrom, embeddingIn}
 use Rattle.loaded_setting.specs.Ready.{settingIn, Ready}
 use Rattle.paths.specs.Following.{Followable, pathAt, pathsFrom}
@@ -48,7 +49,7 @@ edges-walk : (X : Setting) (τ : ℕ) {κ : Kind} {pss : List (List ℕ)} → Va
 edges-walk X τ (text-edge good ends) = all-more (good .walks) all-none
 edges-walk X τ no-edge = all-none
 edges-walk X τ (sequence-edges along pairs) = along-walk X τ _ along
-edges-walk X τ (choice-edges along pairs) = along-walk X τ _ along
+edges-walk X τ (choice-edges along pairs shared) = along-walk X τ _ along
 edges-walk X τ (list-edge path) = all-more (path .good .walks) all-none
 
 walk-at : (T : Table) (τ : ℕ) (em map : List ℕ) (a n i : ℕ) → All (Walks T τ) (pathsFrom em map a n) → i < n → Walks T τ (pathAt em map (a + i))
@@ -75,7 +76,7 @@ divide-less T τ (p ∷ ps) e = go (kindOf T τ) e (divide-less T (next T τ p) 
     go text f later = unfold divideAt isList in omega (arith, later f)
     go empty f later = unfold divideAt isList in omega (arith, later f)
     go (sequence ms) f later = unfold divideAt isList in omega (arith, later f)
-    go (choice ms) f later = unfold divideAt isList in omega (arith, later f)
+    go (choice need ms) f later = unfold divideAt isList in omega (arith, later f)
     go (list m) f later = unfold divideAt in omega arith
 
 only-path : {X : Setting} {τ m : ℕ} {ps : List ℕ} → ValidEdges X τ (list m) (ps ∷ []) → length (divide (X .target) τ ps .before) < length ps
@@ -96,13 +97,14 @@ in-row (m ∷ row) (suc n) zero less few = List·Memᴰ·head refl
 in-row (m ∷ row) (suc n) (suc i) less few = List·Memᴰ·tail (in-row row n i (omega arith) (omega arith))
 
 -- the members and edges of a sequence or a choice
-row-code : (code count : ℕ) (row : List ℕ) → 2 ≤ code → code < 4 → (edgesOf (kindFrom code count row) ≡ length (take count row)) × (membersOf (kindFrom code count row) ≡ take count row)
+row-code : (code count : ℕ) (row : List ℕ) → 2 ≤ code → code < 5 → (edgesOf (kindFrom code count row) ≡ length (take count row)) × (membersOf (kindFrom code count row) ≡ take count row)
 unfolding edgesOf membersOf
 row-code zero count row low high = absurd (omega arith)
 row-code (suc zero) count row low high = absurd (omega arith)
 row-code (suc (suc zero)) count row low high = (refl, refl)
 row-code (suc (suc (suc zero))) count row low high = (refl, refl)
-row-code (suc (suc (suc (suc code)))) count row low high = absurd (omega arith)
+row-code (suc (suc (suc (suc zero)))) count row low high = (refl, refl)
+row-code (suc (suc (suc (suc (suc code))))) count row low high = absurd (omega arith)
 
 module _ {source target map em : List ℕ} (ready : Ready source target map em) {σ : ℕ} (exists : σ < typesIn source) where
   abbrev X : Setting
@@ -169,11 +171,8 @@ module _ {source target map em : List ℕ} (ready : Ready source target map em) 
   pub is-sequence : getD (kindsOf source) σ 0 ≡ 2 → κ ≡ sequence row
   is-sequence code = kind-is ∙ rw code
 
-  pub is-choice : getD (kindsOf source) σ 0 ≡ 3 → κ ≡ choice row
-  is-choice code = kind-is ∙ rw code
-
   -- a sequence or a choice: its members are its row, and each has an edge
-  module _ (low : 2 ≤ getD (kindsOf source) σ 0) (high : getD (kindsOf source) σ 0 < 4) where
+  module _ (low : 2 ≤ getD (kindsOf source) σ 0) (high : getD (kindsOf source) σ 0 < 5) where
     with-row : (edgesOf κ ≡ length row) × (membersOf κ ≡ row)
     with-row = rw kind-is (row-code (getD (kindsOf source) σ 0) count (drop (σ * 16) (membersIn source)) low high)
 
@@ -189,8 +188,29 @@ module _ {source target map em : List ℕ} (ready : Ready source target map em) 
         let here : List·Memᴰ (getD (drop (σ * 16) (membersIn source)) i 0) (membersOf κ) = rw (with-row .1) (in-row (drop (σ * 16) (membersIn source)) count i less row-long) in
         omega (arith, getD-drop (σ * 16) (membersIn source) i 0, length-of source, ready .valid .source-sound .well-formed .members-exist σ _ here)
 
+  -- a choice of either kind
+  module _ (choosing : choiceCode (getD (kindsOf source) σ 0) ≡ true) where
+    pub is-choice : κ ≡ choice (needFrom (getD (kindsOf source) σ 0)) row
+    is-choice = kind-is ∙ choice-from (getD (kindsOf source) σ 0) count (drop (σ * 16) (membersIn source)) choosing
+
+    range : (2 ≤ getD (kindsOf source) σ 0) × (getD (kindsOf source) σ 0 < 5)
+    range = choice-range (getD (kindsOf source) σ 0) choosing
+
+    pub choice-members : 0 < count
+    choice-members = omega (arith, ready .valid .source-sound .well-formed .choices-choose σ _ row is-choice, row-length)
+
+    -- the path of its first member
+    pub first-follows : Followable target em (getD (startsOf map) (σ * 16) 0) (getD (lengthsOf map) (σ * 16) 0) (getD (targetsOf map) σ 0)
+    first-follows = rw (add-zero (σ * 16)) at (row-follows (range .0) (range .1) 0 choice-members)
+
+    pub first-path : firstPath (pathsOf (X .embedding) σ) ≡ pathAt em map (σ * 16)
+    unfolding pathsFrom firstPath
+    first-path =
+        let more : edgesOf κ ≡ suc (count - 1) = omega (arith, row-edges (range .0) (range .1), choice-members) in
+        ap firstPath (paths-are ∙ ap (pathsFrom em map (σ * 16)) more)
+
   -- a list
-  module _ (code : 4 ≤ getD (kindsOf source) σ 0) where
+  module _ (code : 5 ≤ getD (kindsOf source) σ 0) where
     pub is-list : κ ≡ list (getD (membersIn source) (σ * 16) 0)
     is-list =
         let row₀ : List ℕ = drop (σ * 16) (membersIn source) in

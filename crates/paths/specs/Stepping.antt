@@ -16,12 +16,13 @@ use Rattle.loaded_embedding.specs.Loaded.{stepsFrom}
 use Rattle.paths.specs.Following.{Followable, Taken}
 
 -- a code above the others is a list's
-pub list-code : (code count : ℕ) (row : List ℕ) → 4 ≤ code → kindFrom code count row ≡ list (getD row 0 0)
+pub list-code : (code count : ℕ) (row : List ℕ) → 5 ≤ code → kindFrom code count row ≡ list (getD row 0 0)
 list-code zero count row h = absurd (omega arith)
 list-code (suc zero) count row h = absurd (omega arith)
 list-code (suc (suc zero)) count row h = absurd (omega arith)
 list-code (suc (suc (suc zero))) count row h = absurd (omega arith)
-list-code (suc (suc (suc (suc code)))) count row h = refl
+list-code (suc (suc (suc (suc zero)))) count row h = absurd (omega arith)
+list-code (suc (suc (suc (suc (suc code))))) count row h = refl
 
 -- ---- a turn of a loop over the steps of a path: d steps are taken, which led to type t
 

@@ -1,33 +1,28 @@
--- The loop of `room`: what is added, with the room of the edges left, is the room of all.
-use mathlib.Core.Path.{_≡_, refl}
-use mathlib.Core.List.{List}
+-- Loops that add up rooms: what is added, with the room that is left, is the room of all.
+use mathlib.Core.Path.{_≡_}
 use Prim.Native.Nat.{ℕ, suc, _+_, _-_, _*_, _≤_, _<_}
 use native.Mathlib.Numerals.{add-one}
 use native.Mathlib.Omega.{arith}
-use lib.ListN.{getD}
-use Rattle.loaded_embedding.specs.Loaded.{lengthsOf}
-use Rattle.pools.specs.Room.{edgeRoom}
+use Rattle.pools.specs.Room.{mostOfEdge}
 
--- the edges before edge i of n are added; each added at most 1,200,000
-pub record EdgesAdded (map : List ℕ) (first n total i : ℕ) : Type 0 where
+-- of n rooms those before number i are added; `sum i k` is the room of k from number i on
+pub record Added (sum : ℕ → ℕ → ℕ) (n total i : ℕ) : Type 0 where
   pub high : i ≤ n
-  pub small : total ≤ first + i * 1200000
-  pub whole : total + edgeRoom map i (n - i) ≡ first + edgeRoom map 0 n
+  pub small : total ≤ i * mostOfEdge
+  pub whole : total + sum i (n - i) ≡ sum 0 n
 
-pub adds-none : (map : List ℕ) (first n : ℕ) → EdgesAdded map first n first 0
-adds-none map first n = let all : n - 0 ≡ n = omega arith in record { high = omega arith; small = omega arith; whole = rw all refl }
+pub added-none : (sum : ℕ → ℕ → ℕ) (n : ℕ) → Added sum n 0 0
+added-none sum n = let all : n - 0 ≡ n = omega arith in record { high = omega arith; small = omega arith; whole = rw all (omega arith) }
 
-pub adds-more : {map : List ℕ} {first n total i : ℕ} → EdgesAdded map first n total i → i < n → {steps : ℕ} → steps ≡ getD (lengthsOf map) i 0 → steps < 65536
-    → EdgesAdded map first n (total + (18 * steps + 4)) (i + 1)
-unfolding edgeRoom
-adds-more {map} {first} {n} {total} {i} now less {steps} is small =
+pub added-more : {sum : ℕ → ℕ → ℕ} {n total i : ℕ} → Added sum n total i → i < n → {one : ℕ} → one ≤ mostOfEdge → ((k : ℕ) → sum i (suc k) ≡ one + sum (suc i) k)
+    → Added sum n (total + one) (i + 1)
+added-more {sum} {n} {total} {i} now less {one} small step =
     let more : n - i ≡ suc (n - suc i) = omega arith in
-    let whole : total + (18 * getD (lengthsOf map) i 0 + 4 + edgeRoom map (suc i) (n - suc i)) ≡ first + edgeRoom map 0 n = rw more at (now .whole) in
-    record { high = omega arith; small = omega (arith, now .small); whole = rw (add-one i) (omega (arith, whole, is)) }
+    let whole : total + sum i (suc (n - suc i)) ≡ sum 0 n = rw more at (now .whole) in
+    record { high = omega arith; small = omega (arith, now .small); whole = rw (add-one i) (omega (arith, whole, step (n - suc i))) }
 
-pub adds-all : {map : List ℕ} {first n total i : ℕ} → EdgesAdded map first n total i → n ≤ i → total ≡ first + edgeRoom map 0 n
-unfolding edgeRoom
-adds-all {map} {first} {n} {total} {i} now over =
-    let none : n - i ≡ 0 = omega arith in
-    let whole : total + 0 ≡ first + edgeRoom map 0 n = rw none at (now .whole) in
-    omega (arith, whole)
+pub added-all : {sum : ℕ → ℕ → ℕ} {n total i : ℕ} → Added sum n total i → n ≤ i → ((j : ℕ) → sum j 0 ≡ 0) → (total ≡ sum 0 n) × (total ≤ n * mostOfEdge)
+added-all {sum} {n} {total} {i} now over none =
+    let zero-left : n - i ≡ 0 = omega arith in
+    let whole : total + sum i 0 ≡ sum 0 n = rw zero-left at (now .whole) in
+    (omega (arith, whole, none i), omega (arith, now .small, now .high))

@@ -21,7 +21,7 @@ HasRoom source target map pool = (roomOf source target map ≤ length pool) × I
 
 -- the symbols that the rows of any setting have at most
 abbrev pub largestPool : ℕ
-largestPool = 226304
+largestPool = 240384
 
 -- a setting has few source types, and short rows
 abbrev pub IsSmall : List ℕ → List ℕ → List ℕ → Type 0

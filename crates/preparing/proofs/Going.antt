@@ -1,6 +1,7 @@
 -- From the rows of filler to those of all source types.
-use mathlib.Core.Path.{_≡_, sym, _∙_, refl}
+use mathlib.Core.Path.{_≡_, sym, refl}
 use mathlib.Core.List.{List}
+use mathlib.Core.Option.{Option}
 use Prim.Native.Nat.{ℕ, _-_, _*_, _≤_, _<_}
 use native.Mathlib.Omega.{arith}
 use lib.ListN.{length}
@@ -13,6 +14,7 @@ use Rattle.row_sizes.specs.Sizes.{source-row-small}
 use Rattle.filler_rows.specs.Storing.{Sound, FillersStored, Stored, Whole}
 use Rattle.own_rows.specs.Wanted.{Wanted, of-filler, of-type, of-item, RowsDone}
 use Rattle.own_rows.specs.Progress.{Progress}
+use Rattle.own_rows.specs.Steps.{progress-from}
 use Rattle.pools.specs.Room.{roomOf}
 
 pub target-sound : {source target map em : List ℕ} → Ready source target map em → Sound target
@@ -48,26 +50,10 @@ done-all {source} {target} {map} {em} {pool₀} {places₀} {pool} {places} {at}
       item-depth = λ s m exists kind. done .stored _ _ _ (of-item s m exists kind refl refl refl) (omega (arith, exists, length-of source)) .depth;
     }
   where
-    own-small : (s t : ℕ) → s < length (tableBy source) → FirstChild t (kindOf (tableBy source) s) → sourceRow (tableBy source) s t < rowsBefore (typesIn source)
+    own-small : (s : ℕ) (t : Option ℕ) → s < length (tableBy source) → FirstChild t (kindOf (tableBy source) s) → sourceRow (tableBy source) s t < rowsBefore (typesIn source)
     own-small s t exists chosen = source-row-small (ready .source-bounded) s t (omega (arith, exists, length-of source)) chosen
 
 module _ {source target map em : List ℕ} where
-  -- of the pool and the places that there were, only the lengths matter
-  progress-from : {pool₀ places₀ pool₁ places₁ : List ℕ} {s : ℕ} {pool places : List ℕ} {at : ℕ} → length pool₀ ≡ length pool₁ → length places₀ ≡ length places₁
-      → Progress source target map em pool₀ places₀ s pool places at → Progress source target map em pool₁ places₁ s pool places at
-  progress-from same same′ now =
-      let whole = now .whole in
-      record {
-        whole = record {
-          pool-length = whole .pool-length ∙ same;
-          places-length = whole .places-length ∙ same′;
-          fits = omega (arith, whole .fits, same);
-          within = λ r. omega (arith, whole .within r, same);
-        };
-        done = now .done;
-        room = omega (arith, now .room, same);
-      }
-
   -- as seen from here
   pub progress-here : {pool₀ places₀ : List ℕ} {s : ℕ} {pool places : List ℕ} {at : ℕ} → Progress source target map em pool₀ places₀ s pool places at
       → Progress source target map em pool places s pool places at
@@ -84,7 +70,7 @@ module _ {source target map em : List ℕ} where
   unfolding roomOf
   progress-fillers ready room fillers =
       let none : rowsBefore 0 ≡ 64 = omega arith in
-      let all : (typesIn source - 0) * 16 ≡ typesIn source * 16 = omega arith in
+      let all : typesIn source - 0 ≡ typesIn source = omega arith in
       let first : 0 * 16 ≡ 0 = omega arith in
       record { whole = fillers .whole; done = rw none (done-fillers ready fillers); room = rw (first, all) (omega (arith, room, fillers .few)) }
 

@@ -4,12 +4,14 @@ ghost use Rattle.loaded_setting.specs.Ready.{settingIn, Ready};
 ghost use Rattle.rows.specs.Rows.{Rows};
 ghost use Rattle.pools.specs.Pools.{Arrays};
 ghost use Rattle.own_rows.specs.Progress.{Progress, NextToMake};
+use choice_rows::choice_rows;
 use filler_rows::filler_rows;
 use list_rows::list_rows;
 use loaded_embedding::MAP;
+use loaded_table::CHOICE;
 use loaded_table::LIST;
 use loaded_table::TABLE;
-use own_rows::own_rows;
+use own_rows::one_row;
 
 // Makes the rows of a source type.
 fn type_rows(
@@ -26,8 +28,11 @@ fn type_rows(
     ensures { λ r. ⌜ Progress (now (source .entry)) (now (target .entry)) (now (map .entry)) (now (em .entry)) (now (pool .entry)) (now (places .entry)) (s + 1) (now (pool .exit)) (now (places .exit)) r ⌝ }
 {
     let kind = loaded_table::kind(source, s);
+    if kind < CHOICE {
+        return one_row(source, target, map, em, s, pool, places, at);
+    }
     if kind < LIST {
-        return own_rows(source, target, map, em, s, pool, places, at);
+        return choice_rows(source, target, map, em, s, pool, places, at);
     }
     list_rows(source, target, map, em, s, pool, places, at)
 }

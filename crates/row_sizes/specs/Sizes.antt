@@ -1,10 +1,12 @@
 -- Sizes from the numbers that the loaded target table keeps are those of the model, held at 60,001.
 use mathlib.Core.Path.{_≡_, refl, ap, _∙_}
 use mathlib.Core.List.{List, [], _∷_}
+use mathlib.Core.Option.{Option}
 use Prim.Native.Nat.{ℕ, zero, suc, _+_, _-_, _*_, _≤_, _<_, min, max}
 use native.Mathlib.Omega.{arith}
 use lib.ListN.{length, drop, getD, length-take}
-use Rattle.model.specs.Definitions.Table.{Table, kindOf}
+use Rattle.model.specs.Definitions.Commands.{Need, needed}
+use Rattle.model.specs.Definitions.Table.{choice, Table, kindOf}
 use Rattle.model.specs.Definitions.Image.{Setting}
 use Rattle.model.specs.Definitions.Heights.{heightOf}
 use Rattle.model.specs.Definitions.Filler.{fillerLength}
@@ -13,7 +15,7 @@ use Rattle.model.specs.Theorems.Facts.{All, all-none, all-more}
 use Rattle.model.specs.Theorems.Templates.{TypeBelow, template-types, item-types}
 use Rattle.loaded_table.specs.Loaded.{Bounded, Kept, kindFrom, tableBy, typesIn, kindsOf, countsOf, membersIn, length-of, kind-of}
 use Rattle.loaded_setting.specs.Ready.{settingIn, Ready}
-use Rattle.rows.specs.Rows.{rowIndex, sourceRow, itemRow, FirstChild, of-choice, Rows, SizeAt, Sizes, HasRows, rowsBefore}
+use Rattle.rows.specs.Rows.{memberIndex, rowIndex, sourceRow, itemRow, FirstChild, of-choice, of-nothing, Rows, SizeAt, Sizes, HasRows, rowsBefore}
 use Rattle.row_sizes.specs.Sizing.{heightAt, fillAt, TypeSized}
 
 module _ {target : List ℕ} {T : Table} (kept : Kept target T) where
@@ -55,25 +57,51 @@ module _ {target : List ℕ} {T : Table} (kept : Kept target T) where
         filler-is = at .filler-is ∙ filler-same row types;
       }
 
-index-below : (code count t n : ℕ) (row : List ℕ) → (code ≡ 3 → count ≤ n) → ((code ≡ 3 → ⊥) → 1 ≤ n) → FirstChild t (kindFrom code count row) → rowIndex (kindFrom code count row) t < n
+-- how many rows a source type has by the code of its kind, besides that of an item: a choice one for each member, an optional choice
+-- also that of nothing
+abbrev pub rowCount : ℕ → ℕ → ℕ
+rowCount zero count = 1
+rowCount (suc zero) count = 1
+rowCount (suc (suc zero)) count = 1
+rowCount (suc (suc (suc zero))) count = count
+rowCount (suc (suc (suc (suc zero)))) count = count + 1
+rowCount (suc (suc (suc (suc (suc code))))) count = 1
+
+pub row-count-small : (code count : ℕ) → count ≤ 16 → rowCount code count ≤ 17
+row-count-small zero count few = omega arith
+row-count-small (suc zero) count few = omega arith
+row-count-small (suc (suc zero)) count few = omega arith
+row-count-small (suc (suc (suc zero))) count few = omega arith
+row-count-small (suc (suc (suc (suc zero)))) count few = omega arith
+row-count-small (suc (suc (suc (suc (suc code))))) count few = omega arith
+
+-- the place of the first child of a choice
+choice-below : {t : Option ℕ} {need : Need} {ms : List ℕ} → FirstChild t (choice need ms) → (memberIndex t ms ≤ length ms) × (need ≡ needed → memberIndex t ms < length ms)
+unfolding memberIndex
+choice-below (of-choice h) = (omega arith, λ e. h)
+choice-below of-nothing = (omega arith, λ e. let z : _≡_ {A = ℕ} 0 1 = cc in absurd (omega arith))
+
+index-below : (code count : ℕ) {t : Option ℕ} (row : List ℕ) → FirstChild t (kindFrom code count row) → rowIndex (kindFrom code count row) t < rowCount code count
 unfolding rowIndex
-index-below zero count t n row few one chosen = one (λ e. omega arith)
-index-below (suc zero) count t n row few one chosen = one (λ e. omega arith)
-index-below (suc (suc zero)) count t n row few one chosen = one (λ e. omega arith)
-index-below (suc (suc (suc zero))) count t n row few one (of-choice h) = omega (arith, h, length-take count row, few refl)
-index-below (suc (suc (suc (suc code)))) count t n row few one chosen = one (λ e. omega arith)
+index-below zero count row chosen = omega arith
+index-below (suc zero) count row chosen = omega arith
+index-below (suc (suc zero)) count row chosen = omega arith
+index-below (suc (suc (suc zero))) count row chosen = omega (arith, choice-below chosen .1 refl, length-take count row)
+index-below (suc (suc (suc (suc zero)))) count row chosen = omega (arith, choice-below chosen .0, length-take count row)
+index-below (suc (suc (suc (suc (suc code))))) count row chosen = omega arith
 
--- which of its rows a source type takes: one of the first n, where a choice has no more members and another type has one row
-pub source-index-below : (source : List ℕ) (s t n : ℕ) → s < typesIn source → (getD (kindsOf source) s 0 ≡ 3 → getD (countsOf source) s 0 ≤ n) → ((getD (kindsOf source) s 0 ≡ 3 → ⊥) → 1 ≤ n)
-    → FirstChild t (kindOf (tableBy source) s) → rowIndex (kindOf (tableBy source) s) t < n
-source-index-below source s t n exists few one chosen =
-    rw (kind-of source s exists) (index-below (getD (kindsOf source) s 0) (getD (countsOf source) s 0) t n (drop (s * 16) (membersIn source)) few one (rw (kind-of source s exists) at chosen))
+-- which of its rows a source type takes
+pub source-index-below : (source : List ℕ) (s : ℕ) (t : Option ℕ) → s < typesIn source → FirstChild t (kindOf (tableBy source) s)
+    → rowIndex (kindOf (tableBy source) s) t < rowCount (getD (kindsOf source) s 0) (getD (countsOf source) s 0)
+source-index-below source s t exists chosen =
+    rw (kind-of source s exists) (index-below (getD (kindsOf source) s 0) (getD (countsOf source) s 0) (drop (s * 16) (membersIn source)) (rw (kind-of source s exists) at chosen))
 
-pub source-index-small : {source : List ℕ} → Bounded source → (s t : ℕ) → s < typesIn source → FirstChild t (kindOf (tableBy source) s) → rowIndex (kindOf (tableBy source) s) t < 16
-source-index-small {source} bounded s t exists chosen = source-index-below source s t 16 exists (λ e. bounded .few-members s) (λ e. omega arith) chosen
+pub source-index-small : {source : List ℕ} → Bounded source → (s : ℕ) (t : Option ℕ) → s < typesIn source → FirstChild t (kindOf (tableBy source) s) → rowIndex (kindOf (tableBy source) s) t < 17
+source-index-small {source} bounded s t exists chosen =
+    omega (arith, source-index-below source s t exists chosen, row-count-small (getD (kindsOf source) s 0) (getD (countsOf source) s 0) (bounded .few-members s))
 
 -- the row of a source type is one of the rows
-pub source-row-small : {source : List ℕ} → Bounded source → (s t : ℕ) → s < typesIn source → FirstChild t (kindOf (tableBy source) s)
+pub source-row-small : {source : List ℕ} → Bounded source → (s : ℕ) (t : Option ℕ) → s < typesIn source → FirstChild t (kindOf (tableBy source) s)
     → sourceRow (tableBy source) s t < rowsBefore (typesIn source)
 unfolding sourceRow
 source-row-small bounded s t exists chosen = omega (arith, source-index-small bounded s t exists chosen)

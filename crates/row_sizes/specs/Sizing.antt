@@ -1,6 +1,7 @@
 -- Sizes of rows from the numbers that a loaded target table keeps.
 use mathlib.Core.Path.{_≡_}
 use mathlib.Core.List.{List, [], _∷_}
+use mathlib.Core.Option.{Option}
 use Prim.Native.Nat.{ℕ, _+_, _≤_, _<_, min, max}
 use lib.ListN.{length, getD}
 use Rattle.model.specs.Definitions.Table.{kindOf}
@@ -49,5 +50,5 @@ pub record Keeps (target pool places before after : List ℕ) : Type 0 where
 
 -- the sizes of the rows of source type s are stored
 pub record TypeSized (source target pool places sizes : List ℕ) (s : ℕ) : Type 0 where
-  pub own : (t : ℕ) → FirstChild t (kindOf (tableBy source) s) → Sized target pool places sizes (sourceRow (tableBy source) s t)
+  pub own : (t : Option ℕ) → FirstChild t (kindOf (tableBy source) s) → Sized target pool places sizes (sourceRow (tableBy source) s t)
   pub item : Sized target pool places sizes (itemRow s)

@@ -1,18 +1,20 @@
 // The sizes of prepared rows: levels, bytes and bytes of filler, each held at 60,001, found by one loop along each row.
 ghost use mathlib.Core.Path.{_≡_};
 ghost use mathlib.Core.List.{List};
+ghost use mathlib.Core.Option.{Option};
 ghost use Prim.Native.Nat.{ℕ, _+_, _-_, _*_, _≤_, _<_, max};
 ghost use lib.ListN.{length};
 ghost use Rattle.model.specs.Definitions.Table.{kindOf};
 ghost use Rattle.loaded_table.specs.Loaded.{Bounded, typesIn, tableBy, heldLength};
 ghost use Rattle.loaded_setting.specs.Ready.{settingIn, Ready};
-ghost use Rattle.rows.specs.Rows.{toOf, rowIn, rowIndex, FirstChild, Rows, Sizes, HasRow, HasRows, IsWord};
+ghost use Rattle.rows.specs.Rows.{typeRows, toOf, rowIn, rowIndex, FirstChild, Rows, Sizes, HasRow, HasRows, IsWord};
 ghost use Rattle.row_sizes.specs.Sizing.{Small, AddsSymbol, Measures, Sized, Keeps, TypeSized};
 ghost use Rattle.model.specs.Definitions.TableChecks.{maxMembers};
 use codes::ELEMENT_BYTES;
 use codes::MAX_TYPES;
 use codes::OVER_BYTES;
 use loaded_table::CHOICE;
+use loaded_table::OPTIONAL;
 use loaded_table::TABLE;
 use rows::CHILD;
 use rows::FILLER;
@@ -171,16 +173,18 @@ fn size_type(
     size_row(target, pool, places, sizes, item_row(s));
 }
 
-// How many rows type s has, besides that of an item: a choice has one for each member.
+// How many rows type s has, besides that of an item: a choice has one for each member, an optional choice also that of nothing.
 fn rows_of(source: &[u16; TABLE], s: usize) -> usize
     requires { ⌜ s < typesIn (now source) ⌝ }
     requires bounded { ⌜ Bounded (now source) ⌝ }
-    ensures { λ r. ⌜ (r ≤ maxMembers) × ((t : ℕ) → FirstChild t (kindOf (tableBy (now (source .entry))) s) → rowIndex (kindOf (tableBy (now (source .entry))) s) t < r) ⌝ }
+    ensures { λ r. ⌜ (r ≤ typeRows) × ((t : Option ℕ) → FirstChild t (kindOf (tableBy (now (source .entry))) s) → rowIndex (kindOf (tableBy (now (source .entry))) s) t < r) ⌝ }
 {
-    if loaded_table::kind(source, s) == CHOICE {
-        return loaded_table::count(source, s);
+    let kind = loaded_table::kind(source, s);
+    match kind {
+        CHOICE => loaded_table::count(source, s),
+        OPTIONAL => loaded_table::count(source, s) + 1,
+        _ => 1,
     }
-    1
 }
 
 // Finds and stores the size of a row.

@@ -1,16 +1,19 @@
 -- Children of content by their number, and where they stand in a document.
 use mathlib.Core.Path.{_≡_, refl, sym, ap, _∙_, subst}
 use mathlib.Core.List.{List, [], List·Memᴰ, List·Memᴰ·head, List·Memᴰ·tail}
+use mathlib.Core.Option.{none, some}
 use Prim.Native.Nat.{ℕ, zero, suc, _+_, _-_, _<_}
 use native.Mathlib.Nat.{add-zero}
 use native.Mathlib.Omega.{arith}
 use lib.ListN.{length, getD, drop, take}
 use lib.Seq.{drop-drop}
 use borrow.Rule.Slice.PartAt.{part-to-end}
+use Rattle.model.specs.Definitions.Commands.{Need}
 use Rattle.model.specs.Definitions.Table.{Kind, text, sequence, choice, Table, kindOf}
 use Rattle.model.specs.Definitions.Content.{Content, end, char, elem, bytes}
-use Rattle.model.specs.Definitions.Conformance.{Holds, no-character, one-character, nothing, no-member, one-member, chosen, no-item, one-item}
+use Rattle.model.specs.Definitions.Conformance.{Holds, no-character, one-character, nothing, no-member, one-member, chosen, left-out, no-item, one-item}
 use Rattle.model.specs.Definitions.Templates.{firstIn, atChild}
+use Rattle.model.specs.Theorems.Tools.{some-none}
 use Rattle.rows.specs.Rows.{sourceRow}
 use Rattle.scanning.specs.Scanning.{ContentAt}
 use Rattle.scanning.specs.Spanning.{Spans, spans-part}
@@ -94,28 +97,29 @@ sequence-child (suc i) (one-member {m} {ms} {k} {r} h later) less =
       member = List·Memᴰ·tail (there .member);
     }
 
-pub choice-child : {S : Table} {ms : List ℕ} {k : Content} → Holds S (choice ms) k → SomeChild S ms k 0
-unfolding afterFirst
-choice-child (chosen {m} {ms} {k} mem h) = record { type = m; inside = k; child = record { rest = end; is = refl; holds = h }; member = mem }
+pub choice-child : {S : Table} {need : Need} {ms : List ℕ} {k : Content} {t : ℕ} → Holds S (choice need ms) k → firstIn k ≡ some t → SomeChild S ms k 0
+unfolding afterFirst firstIn
+choice-child (chosen {m = m} {k = k} mem h) e = record { type = m; inside = k; child = record { rest = end; is = refl; holds = h }; member = mem }
+choice-child left-out e = some-none e refl
 
 -- what a function makes of child i
-pub at-child : {A : Type 0} (none : A) (f : ℕ → Content → A) (i : ℕ) (k : Content) {t : ℕ} {l r : Content} → afterFirst i k ≡ elem t l r → atChild none f k i ≡ f t l
+pub at-child : {A : Type 0} (absent : A) (f : ℕ → Content → A) (i : ℕ) (k : Content) {t : ℕ} {l r : Content} → afterFirst i k ≡ elem t l r → atChild absent f k i ≡ f t l
 unfolding afterFirst atChild
-at-child none f zero end e = let z : _≡_ {A = ℕ} 0 1 = cc in absurd (omega arith)
-at-child none f zero (char c r) e = let z : _≡_ {A = ℕ} 0 1 = cc in absurd (omega arith)
-at-child none f zero (elem t l r) e = cc
-at-child none f (suc i) end e = let z : _≡_ {A = ℕ} 0 1 = cc in absurd (omega arith)
-at-child none f (suc i) (char c r) e = let z : _≡_ {A = ℕ} 0 1 = cc in absurd (omega arith)
-at-child none f (suc i) (elem t l r) e = at-child none f i r e
+at-child absent f zero end e = let z : _≡_ {A = ℕ} 0 1 = cc in absurd (omega arith)
+at-child absent f zero (char c r) e = let z : _≡_ {A = ℕ} 0 1 = cc in absurd (omega arith)
+at-child absent f zero (elem t l r) e = cc
+at-child absent f (suc i) end e = let z : _≡_ {A = ℕ} 0 1 = cc in absurd (omega arith)
+at-child absent f (suc i) (char c r) e = let z : _≡_ {A = ℕ} 0 1 = cc in absurd (omega arith)
+at-child absent f (suc i) (elem t l r) e = at-child absent f i r e
 
 -- a text has no child
-text-first : {S : Table} {k : Content} → Holds S text k → firstIn k ≡ 0
+text-first : {S : Table} {k : Content} → Holds S text k → firstIn k ≡ none
 unfolding firstIn
 text-first no-character = refl
 text-first (one-character ok later) = text-first later
 
 -- content whose first byte is not 30 has no child
-pub first-none : {S : Table} {κ : Kind} {tr : List ℕ} {o : ℕ} {k : Content} → Holds S κ k → ContentAt tr o k → (getD tr o 0 ≡ 0x30 → ⊥) → firstIn k ≡ 0
+pub first-none : {S : Table} {κ : Kind} {tr : List ℕ} {o : ℕ} {k : Content} → Holds S κ k → ContentAt tr o k → (getD tr o 0 ≡ 0x30 → ⊥) → firstIn k ≡ none
 unfolding firstIn
 first-none no-character a other = refl
 first-none (one-character ok later) a other = text-first later
@@ -123,13 +127,14 @@ first-none nothing a other = refl
 first-none no-member a other = refl
 first-none (one-member h later) a other = absurd (other (element-first a))
 first-none (chosen mem h) a other = absurd (other (element-first a))
+first-none left-out a other = refl
 first-none no-item a other = refl
 first-none (one-item h later) a other = absurd (other (element-first a))
 
 -- else its type is the next byte
-pub first-some : {tr : List ℕ} {o : ℕ} {k : Content} (a : ContentAt tr o k) → getD tr o 0 ≡ 0x30 → (o + 1 < length tr) × (getD tr (o + 1) 0 ≡ firstIn k)
+pub first-some : {tr : List ℕ} {o : ℕ} {k : Content} (a : ContentAt tr o k) → getD tr o 0 ≡ 0x30 → (o + 1 < length tr) × (some (getD tr (o + 1) 0) ≡ firstIn k)
 unfolding firstIn
-first-some {tr} {o} {k} a first = let w = opens k a first in (w .two, w .named ∙ sym (ap firstIn (w .is)))
+first-some {tr} {o} {k} a first = let w = opens k a first in (w .two, ap some (w .named) ∙ sym (ap firstIn (w .is)))
 
 -- ---- what the functions that find elements are asked
 

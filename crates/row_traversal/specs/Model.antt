@@ -1,6 +1,7 @@
 -- Facts of the model on the symbols of rows, in the form in which they are used here.
 use mathlib.Core.Path.{_≡_, refl, sym, subst}
 use mathlib.Core.List.{List, [], _∷_, map, List·Memᴰ, List·Memᴰ·head, List·Memᴰ·tail}
+use mathlib.Core.Option.{Option}
 use Prim.Native.Nat.{ℕ, _<_}
 use lib.ListN.{length}
 use Rattle.model.specs.Definitions.Table.{Kind, list, Table, kindOf}
@@ -31,11 +32,11 @@ all-both : {A : Type 0} {P Q R : A → Type 0} → ((a : A) → P a → Q a → 
 all-both f all-none all-none = all-none
 all-both f (all-more p ps) (all-more q qs) = all-more (f _ p q) (all-both f ps qs)
 
-own-allowed : (T : Table) (κ : Kind) (y : Symbol) → HoleOf κ y → TypeBelow (length T) y → Allowed T (HoleIn κ) y
-own-allowed T κ (opening t) h b = tt
-own-allowed T κ closing h b = tt
-own-allowed T κ (filler t) h b = b
-own-allowed T κ (hole i) h b = h
+own-allowed : (T : Table) (κ : Kind) (first : Option ℕ) (y : Symbol) → HoleOf κ first y → TypeBelow (length T) y → Allowed T (HoleIn κ first) y
+own-allowed T κ first (opening t) h b = tt
+own-allowed T κ first closing h b = tt
+own-allowed T κ first (filler t) h b = b
+own-allowed T κ first (hole i) h b = h
 
 item-allowed : (T : Table) (y : Symbol) → ItemHole y → TypeBelow (length T) y → Allowed T HoleOfItem y
 item-allowed T (opening t) h b = tt
@@ -44,9 +45,9 @@ item-allowed T (filler t) h b = b
 item-allowed T (hole i) h b = h
 
 -- the symbols of a template, and of an item's row
-pub template-symbols : (X : Setting) → Valid X → (s t : ℕ) → s < length (X .source) → All (Allowed (X .target) (HoleIn (kindOf (X .source) s))) (template X s t)
+pub template-symbols : (X : Setting) → Valid X → (s : ℕ) (t : Option ℕ) → s < length (X .source) → All (Allowed (X .target) (HoleIn (kindOf (X .source) s) t)) (template X s t)
 template-symbols X valid s t exists =
-    all-both (own-allowed (X .target) (kindOf (X .source) s)) (template-holes X valid s t exists) (template-types X valid s t exists)
+    all-both (own-allowed (X .target) (kindOf (X .source) s) t) (template-holes X valid s t exists) (template-types X valid s t exists)
 
 pub item-symbols : (X : Setting) → Valid X → (s m : ℕ) → s < length (X .source) → kindOf (X .source) s ≡ list m → All (Allowed (X .target) HoleOfItem) (itemTemplate X s)
 item-symbols X valid s m exists e = all-both (item-allowed (X .target)) (item-holes X valid s m exists e) (item-types X valid s m exists e)

@@ -2,28 +2,27 @@
 use mathlib.Core.Path.{_≡_, refl, sym, ap, _∙_}
 use mathlib.Core.Bool.{Bool, true, false}
 use mathlib.Core.List.{List, [], _∷_, List·Memᴰ, List·Memᴰ·head, List·Memᴰ·tail}
-use Prim.Native.Nat.{ℕ, zero, suc, _+_, _-_, _*_, _≤_, _<_, _%_}
+use mathlib.Core.Option.{Option}
+use Prim.Native.Nat.{ℕ, suc, _+_, _-_, _*_, _≤_, _<_, _%_}
 use native.Mathlib.Nat.{mul-add-mod-self-right, mod-eq-of-lt}
 use native.Mathlib.Omega.{arith}
-use lib.ListN.{length, take, drop, getD, length-take}
+use lib.ListN.{length, drop, getD, length-take}
 use lib.Dec.{eqb}
-use borrow.Author.Tests.{eq-eqb, ne-eqb}
+use borrow.Author.Tests.{eq-eqb}
 use Rattle.model.specs.Definitions.Basics.{pick}
+use Rattle.model.specs.Definitions.Commands.{Need}
 use Rattle.model.specs.Definitions.Table.{Kind, text, empty, sequence, choice, list, Table, kindOf}
 use Rattle.model.specs.Definitions.Content.{Content}
-use Rattle.model.specs.Definitions.Conformance.{Holds, no-character, one-character, nothing, no-member, one-member, chosen, no-item, one-item}
+use Rattle.model.specs.Definitions.Conformance.{Holds, no-character, one-character, nothing, no-member, one-member, chosen, left-out, no-item, one-item}
 use Rattle.model.specs.Definitions.Templates.{firstIn}
 use Rattle.loaded_table.specs.Loaded as loaded_table
 use Rattle.loaded_table.specs.Loaded.{tableBy, kindsOf, countsOf, membersIn, kindFrom, kind-of, length-of}
-use Rattle.rows.specs.Rows.{indexIn, rowIndex, itemRow, FirstChild, of-text, of-empty, of-sequence, of-choice, of-list}
+use Rattle.loaded_table.specs.Kinds.{code-choice}
+use Rattle.rows.specs.Rows.{indexIn, memberIndex, rowIndex, sourceRow, itemRow, FirstChild, of-text, of-empty, of-sequence, of-choice, of-nothing, of-list}
 
 -- a choice has at most 16 members
-few-members : (code count : ℕ) (row : List ℕ) (ms : List ℕ) → kindFrom code count row ≡ choice ms → count ≤ 16 → length ms ≤ 16
-few-members zero count row ms e few = let z : _≡_ {A = ℕ} 0 1 = cc in absurd (omega arith)
-few-members (suc zero) count row ms e few = let z : _≡_ {A = ℕ} 0 1 = cc in absurd (omega arith)
-few-members (suc (suc zero)) count row ms e few = let z : _≡_ {A = ℕ} 0 1 = cc in absurd (omega arith)
-few-members (suc (suc (suc zero))) count row ms e few = let same : take count row ≡ ms = cc in omega (arith, ap length same, length-take count row)
-few-members (suc (suc (suc (suc code)))) count row ms e few = let z : _≡_ {A = ℕ} 0 1 = cc in absurd (omega arith)
+few-members : (code count : ℕ) (row : List ℕ) {need : Need} {ms : List ℕ} → kindFrom code count row ≡ choice need ms → count ≤ 16 → length ms ≤ 16
+few-members code count row e few = omega (arith, ap length (code-choice code count row e .2), length-take count row)
 
 -- a member's index is below the number of members
 index-within : (t : ℕ) (ms : List ℕ) → List·Memᴰ t ms → indexIn t ms < length ms
@@ -43,21 +42,29 @@ first-chosen (one-character ok later) = of-text
 first-chosen nothing = of-empty
 first-chosen no-member = of-sequence
 first-chosen (one-member h later) = of-sequence
-first-chosen (chosen {m} {ms} mem h) = of-choice (index-within m ms mem)
+first-chosen (chosen {m = m} {ms = ms} mem h) = of-choice (index-within m ms mem)
+first-chosen left-out = of-nothing
 first-chosen no-item = of-list
 first-chosen (one-item h later) = of-list
 
--- so a row of an element is never the last of its type
-pub index-small : (source : List ℕ) → loaded_table.Bounded source → (s t : ℕ) → s < length (tableBy source) → (κ : Kind) → kindOf (tableBy source) s ≡ κ → FirstChild t κ → rowIndex κ t < 16
-unfolding rowIndex
-index-small source bounded s t exists text e of-text = omega arith
-index-small source bounded s t exists empty e of-empty = omega arith
-index-small source bounded s t exists (sequence ms) e of-sequence = omega arith
-index-small source bounded s t exists (choice ms) e (of-choice less) =
-    omega (arith, less, few-members (getD (kindsOf source) s 0) (getD (countsOf source) s 0) (drop (s * 16) (membersIn source)) ms (sym (kind-of source s (omega (arith, exists, length-of source))) ∙ e) (bounded .few-members s))
-index-small source bounded s t exists (list m) e of-list = omega arith
+-- the row of a choice is that of a member, or the one behind them
+choice-index : {t : Option ℕ} {need : Need} {ms : List ℕ} → FirstChild t (choice need ms) → memberIndex t ms ≤ length ms
+unfolding memberIndex
+choice-index (of-choice less) = omega arith
+choice-index of-nothing = omega arith
 
--- the order of calls in which a document does not become shorter: a row of an element, the items of a list, an item's row, a child
+-- so a row of an element is one of the 17 of its type
+pub index-small : (source : List ℕ) → loaded_table.Bounded source → (s : ℕ) (t : Option ℕ) → s < length (tableBy source) → (κ : Kind) → kindOf (tableBy source) s ≡ κ → FirstChild t κ → rowIndex κ t ≤ 16
+unfolding rowIndex
+index-small source bounded s t exists text e first = omega arith
+index-small source bounded s t exists empty e first = omega arith
+index-small source bounded s t exists (sequence ms) e first = omega arith
+index-small source bounded s t exists (choice need ms) e first =
+    omega (arith, choice-index first, few-members (getD (kindsOf source) s 0) (getD (countsOf source) s 0) (drop (s * 16) (membersIn source)) (sym (kind-of source s (omega (arith, exists, length-of source))) ∙ e) (bounded .few-members s))
+index-small source bounded s t exists (list m) e first = omega arith
+
+-- the order of calls in which a document does not become shorter: the row of a list, its items, an item's row, a child; the row of an
+-- optional choice of 16 members that holds nothing is numbered like an item's, and has no items
 unfoldable pub rank : ℕ → ℕ
 rank r = pick (eqb ((r - 64) % 17) 16) 1 3
 
@@ -81,9 +88,10 @@ pub item-rank : (s r : ℕ) → r ≡ itemRow s → rank r ≡ 1
 unfolding rank itemRow
 item-rank s r e = rw (remainder r s 16 e (omega arith)) (unfold pick in refl)
 
--- and 3 for a row of an element
-pub own-rank : (s i r : ℕ) → r ≡ 64 + (s * 17 + i) → i < 16 → rank r ≡ 3
-unfolding rank
-own-rank s i r e less =
-    let same : (r - 64) % 17 ≡ i = remainder r s i e (omega arith) in
-    rw (same, ne-eqb i 16 (λ z. omega arith)) (unfold pick in refl)
+-- and 3 for the row of a list
+pub list-rank : (S : Table) (s : ℕ) (t : Option ℕ) (m r : ℕ) → kindOf S s ≡ list m → r ≡ sourceRow S s t → rank r ≡ 3
+unfolding rank sourceRow
+list-rank S s t m r is-list e =
+    let none-before : rowIndex (kindOf S s) t ≡ 0 = rw is-list (unfold rowIndex in refl) in
+    let first : (r - 64) % 17 ≡ 0 = remainder r s 0 (e ∙ ap (λ (i : ℕ). 64 + (s * 17 + i)) none-before) (omega arith) in
+    rw first (unfold pick in refl)

@@ -1,15 +1,18 @@
 -- What a row that is asked for tells of its number and of its symbols.
 use mathlib.Core.Path.{_≡_, refl, sym, ap, _∙_, subst}
 use mathlib.Core.List.{List, [], _∷_, _++_, List·Memᴰ·head}
+use mathlib.Core.Option.{Option, none, some}
 use Prim.Native.Nat.{ℕ, _+_, _-_, _*_, _≤_, _<_}
 use native.Mathlib.Omega.{arith}
 use lib.ListN.{length, getD}
+use Rattle.model.specs.Definitions.Commands.{Need}
 use Rattle.model.specs.Definitions.Table.{Kind, text, empty, sequence, choice, list, Table, kindOf, membersOf}
 use Rattle.model.specs.Definitions.Content.{Content, bytes}
-use Rattle.model.specs.Definitions.Conformance.{Holds}
+use Rattle.model.specs.Definitions.Conformance.{Holds, chosen, left-out}
 use Rattle.model.specs.Definitions.Image.{Setting}
 use Rattle.model.specs.Definitions.Templates.{Hole, characters, child, items, Symbol, opening, closing, filler, hole, fillerBytes, filledRow, writes, firstIn, heldBy, charactersOf}
 use Rattle.model.specs.Theorems.Facts.{Valid, All, all-none, all-more}
+use Rattle.model.specs.Theorems.Tools.{some-none}
 use Rattle.loaded_table.specs.Loaded.{tableBy}
 use Rattle.rows.specs.Rows.{symbolOf, rowIn, rowAt, fromOf, toOf, rowIndex, sourceRow, itemRow}
 use Rattle.scanning.specs.Scanning.{ContentAt}
@@ -20,7 +23,7 @@ use Rattle.row_traversal.specs.Contents.{afterFirst, SomeChild, sequence
 use Rattle.row_traversal.specs.Asked.{preparedSetting, FillerAsked, PlainAsked, an-opening, a-filler, the-characters, a-closing, ChildAsked, ItemsAsked, RowOf, own-row, item-row, RowAsked}
 use Rattle.row_traversal.specs.Symbols.{Meaning, opens, fills, child-there, text-there, items-there, closes, meaning, filler-symbol, child-symbol, characters-symbol, items-symbol, symbolBytes, row-first, row-done, symbol-in, opening-bytes, filler-bytes, child-bytes, characters-bytes, items-bytes, closing-bytes}
 use Rattle.row_traversal.specs.FillerRows.{fillers-of}
-use Rattle.row_traversal.specs.RowNumbers.{first-chosen, index-small, rank, own-rank}
+use Rattle.row_traversal.specs.RowNumbers.{first-chosen, index-small, rank, list-rank}
 
 -- ---- the symbols of a row
 
@@ -34,33 +37,42 @@ filled-same held other same (all-more {a = closing} ok later) = ap (λ (bs : Lis
 filled-same {T} held other same (all-more {a = filler t} ok later) = ap (λ (bs : List ℕ). fillerBytes T t ++ bs) (filled-same held other same later)
 filled-same held other same (all-more {a = hole h} ok later) = rw (same h ok, filled-same held other same later)
 
--- characters are those of a text
-text-hole : {S : Table} (κ : Kind) {k : Content} → HoleIn κ characters → Holds S κ k → charactersOf k ≡ bytes k
-text-hole text ok h = text-characters h
-text-hole empty ok h = absurd ok
-text-hole (sequence ms) ok h = absurd ok
-text-hole (choice ms) ok h = absurd ok
-text-hole (list m) ok h = absurd ok
+-- a choice without a child holds no bytes
+nothing-characters : {S : Table} {need : Need} {ms : List ℕ} {k : Content} → firstIn k ≡ none → Holds S (choice need ms) k → charactersOf k ≡ bytes k
+unfolding firstIn charactersOf bytes
+nothing-characters e (chosen mem h) = some-none refl e
+nothing-characters e left-out = refl
+
+-- characters are those of a text, or the none of a choice that holds nothing
+characters-hole : {S : Table} (κ : Kind) (first : Option ℕ) {k : Content} → firstIn k ≡ first → HoleIn κ first characters → Holds S κ k → charactersOf k ≡ bytes k
+characters-hole text first e ok h = text-characters h
+characters-hole empty first e ok h = absurd ok
+characters-hole (sequence ms) first e ok h = absurd ok
+characters-hole (choice need ms) none e ok h = nothing-characters e h
+characters-hole (choice need ms) (some t) e ok h = absurd ok
+characters-hole (list m) first e ok h = absurd ok
 
 -- a child is one of a sequence or of a choice
-child-hole : {S : Table} (κ : Kind) {k : Content} (i : ℕ) → HoleIn κ (child i) → Holds S κ k → SomeChild S (membersOf κ) k i
+child-hole : {S : Table} (κ : Kind) (first : Option ℕ) {k : Content} (i : ℕ) → firstIn k ≡ first → HoleIn κ first (child i) → Holds S κ k → SomeChild S (membersOf κ) k i
 unfolding membersOf
-child-hole text i ok h = absurd ok
-child-hole empty i ok h = absurd ok
-child-hole (sequence ms) i ok h = sequence-child i h ok
-child-hole {S} (choice ms) {k} i ok h = subst (SomeChild S ms k) (sym ok) (choice-child h)
-child-hole (list m) i ok h = absurd ok
+child-hole text first i e ok h = absurd ok
+child-hole empty first i e ok h = absurd ok
+child-hole (sequence ms) first i e ok h = sequence-child i h ok
+child-hole (choice need ms) none i e ok h = absurd ok
+child-hole {S} (choice need ms) (some t) {k} i e ok h = subst (SomeChild S ms k) (sym ok) (choice-child h e)
+child-hole (list m) first i e ok h = absurd ok
 
 -- items are those of a list
-items-hole : (κ : Kind) → HoleIn κ items → (m : ℕ) × (κ ≡ list m)
-items-hole text ok = absurd ok
-items-hole empty ok = absurd ok
-items-hole (sequence ms) ok = absurd ok
-items-hole (choice ms) ok = absurd ok
-items-hole (list m) ok = (m, refl)
+items-hole : (κ : Kind) (first : Option ℕ) → HoleIn κ first items → (m : ℕ) × (κ ≡ list m)
+items-hole text first ok = absurd ok
+items-hole empty first ok = absurd ok
+items-hole (sequence ms) first ok = absurd ok
+items-hole (choice need ms) none ok = absurd ok
+items-hole (choice need ms) (some t) ok = absurd ok
+items-hole (list m) first ok = (m, refl)
 
 -- the row of a list's item
-list-row : (S : Table) (s t m : ℕ) → kindOf S s ≡ list m → sourceRow S s t + 16 ≡ itemRow s
+list-row : (S : Table) (s : ℕ) (t : Option ℕ) (m : ℕ) → kindOf S s ≡ list m → sourceRow S s t + 16 ≡ itemRow s
 unfolding sourceRow itemRow
 list-row S s t m e = rw e (unfold rowIndex in omega arith)
 
@@ -76,6 +88,10 @@ module _ {source pool places tr : List ℕ} {r : ℕ} {bs : List ℕ} (a : RowAs
 
   abbrev held : Hole → List ℕ
   held = heldBy X (a .type) (a .inside)
+
+  -- a hole of the element's row
+  abbrev OwnHole : Hole → Type 0
+  OwnHole = HoleIn (kindOf S (a .type)) (firstIn (a .inside))
 
   row-low : RowOf S (a .type) (a .inside) r → r ≤ itemRow (a .type)
   unfolding sourceRow itemRow
@@ -121,10 +137,10 @@ module _ {source pool places tr : List ℕ} {r : ℕ} {bs : List ℕ} (a : RowAs
 
     -- it is one that the row of an element may have
     own-symbol : (h : Holds S (kindOf S (a .type)) (a .inside)) → r ≡ sourceRow S (a .type) (firstIn (a .inside))
-        → Allowed (X .target) (HoleIn (kindOf S (a .type))) (symbolOf x′)
+        → Allowed (X .target) OwnHole (symbolOf x′)
     own-symbol h e =
         symbol-in pool (fromOf places r) (toOf places r) i
-        (subst (All (Allowed (X .target) (HoleIn (kindOf S (a .type)))))
+        (subst (All (Allowed (X .target) OwnHole))
         (sym (ap (rowAt pool places) e ∙ a .prepared .rows .template-at (a .type) (firstIn (a .inside)) (a .is-type) (first-chosen h)))
         (template-symbols X valid (a .type) (firstIn (a .inside)) (a .is-type))) low less row-within
 
@@ -135,6 +151,10 @@ module _ {source pool places tr : List ℕ} {r : ℕ} {bs : List ℕ} (a : RowAs
         (subst (All (Allowed (X .target) HoleOfItem)) (sym (ap (rowAt pool places) e ∙ a .prepared .rows .item-at (a .type) m (a .is-type) l))
         (item-symbols X valid (a .type) m (a .is-type) l)) low less row-within
 
+    -- an element whose row has the items is a list
+    own-list : x′ ≡ 145 → Holds S (kindOf S (a .type)) (a .inside) → r ≡ sourceRow S (a .type) (firstIn (a .inside)) → (m : ℕ) × (kindOf S (a .type) ≡ list m)
+    own-list is k e = items-hole (kindOf S (a .type)) (firstIn (a .inside)) (subst (Allowed (X .target) OwnHole) (items-symbol x′ is) (own-symbol k e))
+
     -- its bytes are asked for: where it is neither child nor items,
     pub row-plain : (128 ≤ x′ → x′ < 144 → ⊥) → (x′ ≡ 145 → ⊥) → PlainAsked pool places tr x′ rowSymbol
     unfolding rowSymbol fillers-of
@@ -144,7 +164,7 @@ module _ {source pool places tr : List ℕ} {r : ℕ} {bs : List ℕ} (a : RowAs
         go (opens h) w = an-opening h (opening-bytes (X .target) held x′ h)
         go (fills h g) (own-row k e) =
             a-filler h g
-            (record { fillers = fillers-of (a .prepared); is-type = subst (Allowed (X .target) (HoleIn (kindOf S (a .type)))) (filler-symbol x′ h g) (own-symbol k e); is = filler-bytes (X .target) held x′ h g })
+            (record { fillers = fillers-of (a .prepared); is-type = subst (Allowed (X .target) OwnHole) (filler-symbol x′ h g) (own-symbol k e); is = filler-bytes (X .target) held x′ h g })
         go (fills h g) (item-row l e k q) =
             a-filler h g
             (record { fillers = fillers-of (a .prepared); is-type = subst (Allowed (X .target) HoleOfItem) (filler-symbol x′ h g) (item-symbol l q); is = filler-bytes (X .target) held x′ h g })
@@ -152,7 +172,7 @@ module _ {source pool places tr : List ℕ} {r : ℕ} {bs : List ℕ} (a : RowAs
         go (text-there h) (own-row k e) =
             the-characters h (a .there)
             (characters-bytes (X .target) held x′ h
-            ∙ (unfold heldBy in text-hole (kindOf S (a .type)) (subst (Allowed (X .target) (HoleIn (kindOf S (a .type)))) (characters-symbol x′ h) (own-symbol k e)) k))
+            ∙ (unfold heldBy in characters-hole (kindOf S (a .type)) (firstIn (a .inside)) refl (subst (Allowed (X .target) OwnHole) (characters-symbol x′ h) (own-symbol k e)) k))
         go (text-there h) (item-row l e k q) = absurd (subst (Allowed (X .target) HoleOfItem) (characters-symbol x′ h) (item-symbol l q))
         go (items-there h) w = absurd (no-items h)
         go (closes h) w = a-closing h (closing-bytes (X .target) held x′ h)
@@ -177,7 +197,7 @@ module _ {source pool places tr : List ℕ} {r : ℕ} {bs : List ℕ} (a : RowAs
 
         go : RowOf S (a .type) (a .inside) r → ChildAsked source pool places tr (x′ - 128) (symbolBytes (X .target) held (symbolOf x′))
         go (own-row k e) =
-            let c = child-hole (kindOf S (a .type)) (x′ - 128) (subst (Allowed (X .target) (HoleIn (kindOf S (a .type)))) (child-symbol x′ h g) (own-symbol k e)) k in
+            let c = child-hole (kindOf S (a .type)) (firstIn (a .inside)) (x′ - 128) refl (subst (Allowed (X .target) OwnHole) (child-symbol x′ h g) (own-symbol k e)) k in
             asked (membersOf (kindOf S (a .type))) c (valid .source-sound .well-formed .members-exist (a .type) (c .type) (c .member))
         go (item-row {m} {l} {rest} is e k q) =
             let none : x′ - 128 ≡ 0 = subst (Allowed (X .target) HoleOfItem) (child-symbol x′ h g) (item-symbol is q) in
@@ -192,7 +212,7 @@ module _ {source pool places tr : List ℕ} {r : ℕ} {bs : List ℕ} (a : RowAs
       where
         go : RowOf S (a .type) (a .inside) r → ItemsAsked source pool places tr (r + 16) (symbolBytes (X .target) held (symbolOf x′))
         go (own-row k e) =
-            let l = items-hole (kindOf S (a .type)) (subst (Allowed (X .target) (HoleIn (kindOf S (a .type)))) (items-symbol x′ h) (own-symbol k e)) in
+            let l = own-list h k e in
             record {
               listed = record { prepared = a .prepared; type = a .type; item = l .0; is-type = a .is-type; is-list = l .1; is-row = ap (λ (n : ℕ). n + 16) e ∙ list-row S (a .type) (firstIn (a .inside)) (l .0) (l .1) };
               inside = a .inside;
@@ -202,13 +222,12 @@ module _ {source pool places tr : List ℕ} {r : ℕ} {bs : List ℕ} (a : RowAs
             }
         go (item-row l e k q) = absurd (subst (Allowed (X .target) HoleOfItem) (items-symbol x′ h) (item-symbol l q))
 
-    -- only a row of an element has items
+    -- only the row of a list has items
     pub items-rank : x′ ≡ 145 → rank r ≡ 3
     items-rank h = go (a .row-of)
       where
         go : RowOf S (a .type) (a .inside) r → rank r ≡ 3
-        go (own-row k e) = own-rank (a .type) (rowIndex (kindOf S (a .type)) (firstIn (a .inside))) r (unfold sourceRow in e)
-            (index-small source (a .prepared .ready .source-bounded) (a .type) (firstIn (a .inside)) (a .is-type) (kindOf S (a .type)) refl (first-chosen k))
+        go (own-row k e) = let l = own-list h k e in list-rank S (a .type) (firstIn (a .inside)) (l .0) r (l .1) e
         go (item-row l e k q) = absurd (subst (Allowed (X .target) HoleOfItem) (items-symbol x′ h) (item-symbol l q))
 
 -- ---- symbols other than a child or items, by their numbers

@@ -4,7 +4,7 @@ ghost use Prim.Native.Nat.{_-_, _≤_, _<_};
 ghost use Rattle.model.specs.Definitions.Templates.{firstIn};
 ghost use Rattle.model.specs.Definitions.TableChecks.{maxMembers};
 ghost use Rattle.loaded_table.specs.Loaded.{Bounded, tableBy};
-ghost use Rattle.rows.specs.Rows.{childSymbol, charactersSymbol};
+ghost use Rattle.rows.specs.Rows.{firstFrom, childSymbol, charactersSymbol};
 ghost use Rattle.scanning.specs.Spanning.{Spans};
 ghost use Rattle.row_traversal.specs.Contents.{ChildThere, Behind, Conforms, FirstThere, RowIs};
 use codes::MAX_MEMBERS;
@@ -43,16 +43,16 @@ pub fn element_from<'a>(tr: &'a [u8], sp: &'a [u16], i: usize, seen: usize, near
     o
 }
 
-// The type of the first child of the content at offset o; 0 where it has none.
+// The type of the first child of the content at offset o; NO_CHILD where it has none.
 fn first_type(tr: &[u8], o: usize) -> usize
     requires { ⌜ Conforms (now tr) o ⌝ }
-    ensures { λ r. ⌜ ((c : Conforms (now (tr .entry)) o) → r ≡ firstIn (c .inside)) ⌝ }
+    ensures { λ r. ⌜ ((c : Conforms (now (tr .entry)) o) → firstFrom r ≡ firstIn (c .inside)) ⌝ }
 {
     if tr[o] == OPENS {
         let second = o + 1;
         return wide(tr[second]);
     }
-    0
+    rows::NO_CHILD
 }
 
 // The row of the source element that opens at offset o.

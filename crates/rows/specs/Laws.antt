@@ -1,16 +1,19 @@
 -- Laws of rows by number, of kinds by their codes, and of the three numbers that are stored for a row.
 use mathlib.Core.Path.{_≡_, refl, sym, ap, _∙_}
 use mathlib.Core.List.{List, [], _∷_}
-use mathlib.Core.Option.{some}
+use mathlib.Core.Option.{Option, none, some}
+use mathlib.Core.Bool.{true, false}
 use Prim.Native.Nat.{ℕ, zero, suc, _+_, _-_, _*_, _≤_, _<_, min}
 use native.Mathlib.Omega.{arith}
 use lib.ListN.{length, take, drop, getD, set, length-set}
 use lib.Seq.{drop-cons, getD-set-same, getD-set-other}
 use borrow.Author.Tests.{eq-eqb, ne-eqb}
 use Rattle.model.specs.Definitions.Basics.{pick, entry}
-use Rattle.model.specs.Definitions.Table.{sequence, choice, list}
+use Rattle.model.specs.Definitions.Table.{sequence, list}
+use Rattle.model.specs.Theorems.Tools.{true-false}
 use Rattle.loaded_table.specs.Loaded.{kindFrom}
-use Rattle.rows.specs.Rows.{indexIn, rowIndex, SizeAt, HasRow, setRow}
+use Rattle.loaded_table.specs.Kinds.{choiceCode, choice-from}
+use Rattle.rows.specs.Rows.{indexIn, memberIndex, firstFrom, rowIndex, SizeAt, HasRow, setRow}
 
 -- the place of t in a part of a list: none are left; it stands first; another does
 pub index-none : (t n o : ℕ) (l : List ℕ) → n ≡ 0 → indexIn t (take n (drop o l)) ≡ 0
@@ -34,17 +37,27 @@ unfolding indexIn pick
 index-later t n o l more within other = rw (part-first n o l more within, ne-eqb t (getD l o 0) (λ e. other (sym e))) refl
 
 -- a kind's row by the code of the kind: for a choice the place of t among its members, else the first
-pub row-of-choice : (t code count : ℕ) (row : List ℕ) → code ≡ 3 → rowIndex (kindFrom code count row) t ≡ indexIn t (take count row)
+pub row-of-choice : (t : Option ℕ) (code count : ℕ) (row : List ℕ) → choiceCode code ≡ true → rowIndex (kindFrom code count row) t ≡ memberIndex t (take count row)
 unfolding rowIndex
-row-of-choice t code count row e = rw e refl
+row-of-choice t code count row e = rw (choice-from code count row e) refl
 
-pub row-of-other : (t code count : ℕ) (row : List ℕ) → (code ≡ 3 → ⊥) → rowIndex (kindFrom code count row) t ≡ 0
+pub row-of-other : (t : Option ℕ) (code count : ℕ) (row : List ℕ) → choiceCode code ≡ false → rowIndex (kindFrom code count row) t ≡ 0
 unfolding rowIndex
 row-of-other t zero count row e = refl
 row-of-other t (suc zero) count row e = refl
 row-of-other t (suc (suc zero)) count row e = refl
-row-of-other t (suc (suc (suc zero))) count row e = absurd (e refl)
-row-of-other t (suc (suc (suc (suc code)))) count row e = refl
+row-of-other t (suc (suc (suc zero))) count row e = true-false refl e
+row-of-other t (suc (suc (suc (suc zero)))) count row e = true-false refl e
+row-of-other t (suc (suc (suc (suc (suc code))))) count row e = refl
+
+-- the type of the first child, as the code holds it
+pub first-none : (n : ℕ) → n ≡ 256 → firstFrom n ≡ none
+unfolding firstFrom pick
+first-none n e = rw (eq-eqb n 256 e) refl
+
+pub first-some : (n : ℕ) → (n ≡ 256 → ⊥) → firstFrom n ≡ some n
+unfolding firstFrom pick
+first-some n e = rw (ne-eqb n 256 e) refl
 
 -- ---- kinds by their codes
 
@@ -53,21 +66,16 @@ code-sequence zero count row ms e = let z : _≡_ {A = ℕ} 0 1 = cc in absurd (
 code-sequence (suc zero) count row ms e = let z : _≡_ {A = ℕ} 0 1 = cc in absurd (omega arith)
 code-sequence (suc (suc zero)) count row ms e = (refl, cc)
 code-sequence (suc (suc (suc zero))) count row ms e = let z : _≡_ {A = ℕ} 0 1 = cc in absurd (omega arith)
-code-sequence (suc (suc (suc (suc code)))) count row ms e = let z : _≡_ {A = ℕ} 0 1 = cc in absurd (omega arith)
+code-sequence (suc (suc (suc (suc zero)))) count row ms e = let z : _≡_ {A = ℕ} 0 1 = cc in absurd (omega arith)
+code-sequence (suc (suc (suc (suc (suc code))))) count row ms e = let z : _≡_ {A = ℕ} 0 1 = cc in absurd (omega arith)
 
-pub code-choice : (code count : ℕ) (row ms : List ℕ) → kindFrom code count row ≡ choice ms → (code ≡ 3) × (take count row ≡ ms)
-code-choice zero count row ms e = let z : _≡_ {A = ℕ} 0 1 = cc in absurd (omega arith)
-code-choice (suc zero) count row ms e = let z : _≡_ {A = ℕ} 0 1 = cc in absurd (omega arith)
-code-choice (suc (suc zero)) count row ms e = let z : _≡_ {A = ℕ} 0 1 = cc in absurd (omega arith)
-code-choice (suc (suc (suc zero))) count row ms e = (refl, cc)
-code-choice (suc (suc (suc (suc code)))) count row ms e = let z : _≡_ {A = ℕ} 0 1 = cc in absurd (omega arith)
-
-pub code-list : (code count : ℕ) (row : List ℕ) (m : ℕ) → kindFrom code count row ≡ list m → (4 ≤ code) × (getD row 0 0 ≡ m)
+pub code-list : (code count : ℕ) (row : List ℕ) (m : ℕ) → kindFrom code count row ≡ list m → (5 ≤ code) × (getD row 0 0 ≡ m)
 code-list zero count row m e = let z : _≡_ {A = ℕ} 0 1 = cc in absurd (omega arith)
 code-list (suc zero) count row m e = let z : _≡_ {A = ℕ} 0 1 = cc in absurd (omega arith)
 code-list (suc (suc zero)) count row m e = let z : _≡_ {A = ℕ} 0 1 = cc in absurd (omega arith)
 code-list (suc (suc (suc zero))) count row m e = let z : _≡_ {A = ℕ} 0 1 = cc in absurd (omega arith)
-code-list (suc (suc (suc (suc code)))) count row m e = (omega arith, cc)
+code-list (suc (suc (suc (suc zero)))) count row m e = let z : _≡_ {A = ℕ} 0 1 = cc in absurd (omega arith)
+code-list (suc (suc (suc (suc (suc code))))) count row m e = (omega arith, cc)
 
 -- what stands at a place of a list is the entry of the next number
 pub entry-there : (ms : List ℕ) (j : ℕ) → j < length ms → entry (suc j) ms ≡ some (getD ms j 0)

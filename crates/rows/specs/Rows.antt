@@ -1,10 +1,12 @@
 -- Prepared templates as arrays: a pool of symbols, places that say where each row stands in it, and the sizes of rows.
 use mathlib.Core.Path.{_≡_}
 use mathlib.Core.List.{List, [], _∷_, map}
+use mathlib.Core.Option.{Option, none, some}
 use Prim.Native.Nat.{ℕ, suc, _+_, _-_, _*_, _≤_, _<_, min}
 use lib.ListN.{length, take, drop, getD, set}
 use lib.Dec.{eqb, ltb}
 use Rattle.model.specs.Definitions.Basics.{pick}
+use Rattle.model.specs.Definitions.Commands.{Need, optional}
 use Rattle.model.specs.Definitions.Table.{Table, Kind, text, empty, sequence, choice, list, kindOf}
 use Rattle.model.specs.Definitions.Image.{Setting}
 use Rattle.model.specs.Definitions.Templates.{Hole, Symbol, opening, closing, filler, hole, characters, child, items, template, itemTemplate, fillerRow, dividedOf, ownLength, ownFiller, ownLevels, itemLength, itemFiller, itemLevels}
@@ -76,13 +78,27 @@ unfoldable pub indexIn : ℕ → List ℕ → ℕ
 indexIn t [] = 0
 indexIn t (m ∷ ms) = pick (eqb t m) 0 (suc (indexIn t ms))
 
--- which row of its type an element whose first child has type t takes: a choice has one for each member
-unfoldable pub rowIndex : Kind → ℕ → ℕ
+-- the type of the first child of an element, as the code holds it: 256 where it has none
+unfoldable pub firstFrom : ℕ → Option ℕ
+firstFrom n = pick (eqb n 256) none (some n)
+
+-- the place of a choice's member among them; where there is none, the place behind them
+unfoldable pub memberIndex : Option ℕ → List ℕ → ℕ
+memberIndex none ms = length ms
+memberIndex (some t) ms = indexIn t ms
+
+-- which row of its type an element takes whose first child, if it has one, has type t: a choice has one for each member, and behind
+-- them one for nothing
+unfoldable pub rowIndex : Kind → Option ℕ → ℕ
 rowIndex text t = 0
 rowIndex empty t = 0
 rowIndex (sequence ms) t = 0
-rowIndex (choice ms) t = indexIn t ms
+rowIndex (choice need ms) t = memberIndex t ms
 rowIndex (list m) t = 0
+
+-- rows of a source type
+abbrev pub typeRows : ℕ
+typeRows = 17
 
 -- row τ is what filler of target type τ holds; 17 rows for each source type follow: row j of type s, and how many are before type s
 abbrev pub typeRow : ℕ → ℕ → ℕ
@@ -91,10 +107,10 @@ typeRow s j = 64 + (s * 17 + j)
 abbrev pub rowsBefore : ℕ → ℕ
 rowsBefore s = 64 + s * 17
 
-unfoldable pub sourceRow : Table → ℕ → ℕ → ℕ
+unfoldable pub sourceRow : Table → ℕ → Option ℕ → ℕ
 sourceRow S s t = typeRow s (rowIndex (kindOf S s) t)
 
--- the last of them is what stands around an item of a list
+-- the last of a list's is what stands around an item
 unfoldable pub itemRow : ℕ → ℕ
 itemRow s = typeRow s 16
 
@@ -105,22 +121,23 @@ HasRow l r = 3 * r + 2 < length l
 abbrev pub HasRows : List ℕ → ℕ → Type 0
 HasRows l types = 3 * rowsBefore types ≤ length l
 
--- t can be the type of the first child of an element of this kind: for a choice it is a member
-pub data FirstChild (t : ℕ) : Kind → Type 0 where
-  of-text : FirstChild t text
-  of-empty : FirstChild t empty
-  of-sequence : {ms : List ℕ} → FirstChild t (sequence ms)
-  of-choice : {ms : List ℕ} → indexIn t ms < length ms → FirstChild t (choice ms)
-  of-list : {m : ℕ} → FirstChild t (list m)
+-- t can be the type of the first child of an element of this kind: for a choice it is a member, or none where none is needed
+pub data FirstChild : Option ℕ → Kind → Type 0 where
+  of-text : {t : Option ℕ} → FirstChild t text
+  of-empty : {t : Option ℕ} → FirstChild t empty
+  of-sequence : {t : Option ℕ} {ms : List ℕ} → FirstChild t (sequence ms)
+  of-choice : {t : ℕ} {need : Need} {ms : List ℕ} → indexIn t ms < length ms → FirstChild (some t) (choice need ms)
+  of-nothing : {ms : List ℕ} → FirstChild none (choice optional ms)
+  of-list : {t : Option ℕ} {m : ℕ} → FirstChild t (list m)
 
 -- the pool and the places hold the templates of a setting
 pub record Rows (X : Setting) (pool places : List ℕ) : Type 0 where
   pub long : HasRows places (length (X .source))
   pub within : (r : ℕ) → toOf places r ≤ length pool
   pub filler-at : (τ : ℕ) → τ < length (X .target) → rowAt pool places τ ≡ fillerRow (X .target) τ
-  pub template-at : (s t : ℕ) → s < length (X .source) → FirstChild t (kindOf (X .source) s) → rowAt pool places (sourceRow (X .source) s t) ≡ template X s t
+  pub template-at : (s : ℕ) (t : Option ℕ) → s < length (X .source) → FirstChild t (kindOf (X .source) s) → rowAt pool places (sourceRow (X .source) s t) ≡ template X s t
   pub item-at : (s m : ℕ) → s < length (X .source) → kindOf (X .source) s ≡ list m → rowAt pool places (itemRow s) ≡ itemTemplate X s
-  pub own-depth : (s t : ℕ) → s < length (X .source) → FirstChild t (kindOf (X .source) s) → depthIn places (sourceRow (X .source) s t) ≡ 0
+  pub own-depth : (s : ℕ) (t : Option ℕ) → s < length (X .source) → FirstChild t (kindOf (X .source) s) → depthIn places (sourceRow (X .source) s t) ≡ 0
   pub item-depth : (s m : ℕ) → s < length (X .source) → kindOf (X .source) s ≡ list m → depthIn places (itemRow s) ≡ length (dividedOf X s .before)
 
 -- ---- sizes of rows: three numbers each, levels, bytes and bytes of filler, held at 60,001
@@ -143,6 +160,6 @@ pub record SizeAt (sizes : List ℕ) (r levels bytes fill : ℕ) : Type 0 where
 -- the sizes of the templates of a setting
 pub record Sizes (X : Setting) (sizes : List ℕ) : Type 0 where
   pub long : HasRows sizes (length (X .source))
-  pub own-size : (s t : ℕ) → s < length (X .source) → FirstChild t (kindOf (X .source) s)
+  pub own-size : (s : ℕ) (t : Option ℕ) → s < length (X .source) → FirstChild t (kindOf (X .source) s)
       → SizeAt sizes (sourceRow (X .source) s t) (ownLevels X s t) (ownLength X s t) (ownFiller X s t)
   pub item-size : (s m : ℕ) → s < length (X .source) → kindOf (X .source) s ≡ list m → SizeAt sizes (itemRow s) (itemLevels X s) (itemLength X s) (itemFiller X s)

@@ -4,11 +4,10 @@ ghost use mathlib.Core.Path.{_≡_};
 ghost use Prim.Native.Nat.{_+_, _*_, _≤_, _<_};
 ghost use lib.ListN.{take, drop};
 ghost use Rattle.loaded_table.specs.Loaded.{Bounded, tableBy, typesIn, membersIn};
-ghost use Rattle.rows.specs.Rows.{fromOf, toOf, depthIn, levelsIn, bytesIn, fillerIn, indexIn, sourceRow, itemRow, HasRow, setRow};
+ghost use Rattle.rows.specs.Rows.{fromOf, toOf, depthIn, levelsIn, bytesIn, fillerIn, indexIn, memberIndex, firstFrom, sourceRow, itemRow, HasRow, setRow};
 ghost use Rattle.model.specs.Definitions.TableChecks.{maxMembers, maxTypes};
 use codes::MAX_MEMBERS;
 use codes::MAX_TYPES;
-use loaded_table::CHOICE;
 use loaded_table::TABLE;
 
 // The symbols of a row as numbers: with the type's number added, an element that opens and a filler element; with a child's
@@ -28,7 +27,11 @@ pub const CLOSING: u8 = 146;
 // Numbers of a row among places and among sizes.
 pub const NUMBERS: usize = 3;
 
-// Rows of a source type: one, or one for each member of a choice; the last is that of an item of a list.
+// What stands for the type of the first child of an element that has none: no byte is as large.
+pub const NO_CHILD: usize = 256;
+
+// Rows of a source type: one, or one for each member of a choice, and behind them that of an optional choice that holds nothing; the
+// last is that of an item of a list.
 pub const TYPE_ROWS: usize = 17;
 
 // A number at full width.
@@ -78,16 +81,28 @@ fn index_of(source: &[u16; TABLE], s: usize, count: usize, t: usize) -> usize
     i
 }
 
-// The row of an element of source type s whose first child has type t.
+// Which of the rows of the choice s with `count` members is that of a member of type t; for NO_CHILD the one behind them.
+fn choice_index(source: &[u16; TABLE], s: usize, count: usize, t: usize) -> usize
+    requires { ⌜ (s < maxTypes) × (count ≤ maxMembers) ⌝ }
+    requires bounded { ⌜ Bounded (now source) ⌝ }
+    ensures { λ r. ⌜ (r ≡ memberIndex (firstFrom t) (take count (drop (s * maxMembers) (membersIn (now (source .entry)))))) × (r ≤ maxMembers) ⌝ }
+{
+    if t == NO_CHILD {
+        return count;
+    }
+    index_of(source, s, count, t)
+}
+
+// The row of an element of source type s whose first child has type t; NO_CHILD where it has none.
 pub fn source_row(source: &[u16; TABLE], s: usize, t: usize) -> usize
     requires bounded { ⌜ Bounded (now source) ⌝ }
     requires { ⌜ s < typesIn (now source) ⌝ }
-    ensures { λ r. ⌜ (r ≡ sourceRow (tableBy (now (source .entry))) s t) × (r ≤ itemRow s) ⌝ }
+    ensures { λ r. ⌜ (r ≡ sourceRow (tableBy (now (source .entry))) s (firstFrom t)) × (r ≤ itemRow s) ⌝ }
 {
     let base = MAX_TYPES + s * TYPE_ROWS;
-    if loaded_table::kind(source, s) == CHOICE {
+    if loaded_table::is_choice(loaded_table::kind(source, s)) {
         let count = loaded_table::count(source, s);
-        return base + index_of(source, s, count, t);
+        return base + choice_index(source, s, count, t);
     }
     base
 }

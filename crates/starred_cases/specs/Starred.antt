@@ -83,3 +83,36 @@ pub starred-cases : StarredCases
 unfolding definitions sourceTable targetTable embeddingWith embedding tree imageWith junk refusal answer
 starred-cases =
     record { carried = refl; carried-bytes = refl; brought-back = refl; brought-back-bytes = refl; into-21 = refl; into-21-bytes = refl; into-20 = refl; into-20-bytes = refl; altered = refl; altered-bytes = refl; no-bytes = refl; bare-root = refl; endless = refl; list-of-itself = refl; same-paths = refl; same-ends = refl; part-at-sequence = refl }
+
+-- ---- 02, N3: settings that may be absent
+
+-- a choice of a text or an empty type, begun by 13 or 17
+unfoldable pub choiceOfTwo : ℕ → List ℕ
+choiceOfTwo byte = byte ∷ 0x15 ∷ 0x01 ∷ 0x15 ∷ 0x02 ∷ 0x10 ∷ 0x11 ∷ 0x1F ∷ []
+
+-- a sequence of two optional choices of these
+unfoldable pub twoOptional : List ℕ
+twoOptional = 0x12 ∷ 0x15 ∷ 0x03 ∷ 0x15 ∷ 0x03 ∷ 0x10 ∷ 0x11 ∷ 0x17 ∷ 0x15 ∷ 0x01 ∷ 0x15 ∷ 0x02 ∷ 0x1F ∷ []
+
+-- the choice goes to the second of them, its first member by way of step p
+unfoldable pub intoSecond : ℕ → List ℕ
+intoSecond p =
+    0x20 ∷ 0x00 ∷ 0x21 ∷ 0x22 ∷ p ∷ 0x22 ∷ 0x01 ∷ 0x21 ∷ 0x22 ∷ 0x02 ∷ 0x22 ∷ 0x02 ∷ 0x20 ∷ 0x01 ∷ 0x21 ∷ 0x20 ∷ 0x02 ∷ 0x2F ∷ []
+
+-- a root that holds nothing
+unfoldable pub bareRoot : List ℕ
+bareRoot = 0x30 ∷ 0x00 ∷ 0x32 ∷ 0x3F ∷ []
+
+pub record OptionalCases : Type 0 where
+  -- the paths of an optional choice part at a sequence before their first choice step: 9; of a choice: 10
+  pub part-early : answerOf (judgeEmbedding (choiceOfTwo 0x17) twoOptional (intoSecond 0x01)) ≡ refusal 9 3 7
+  pub needed-parts : answerOf (judgeEmbedding (choiceOfTwo 0x13) twoOptional (intoSecond 0x01)) ≡ refusal 10 3 7
+  -- what holds nothing is carried by the path up to the second, which is left empty; the first is filler
+  pub nothing-carried : answerOf (carry (choiceOfTwo 0x17) twoOptional (intoSecond 0x02) bareRoot (junk 10) .result) ≡ answer 10 1
+  pub nothing-bytes :
+      carry (choiceOfTwo 0x17) twoOptional (intoSecond 0x02) bareRoot (junk 10) .output
+      ≡ 0x30 ∷ 0x00 ∷ 0x30 ∷ 0x03 ∷ 0x32 ∷ 0x30 ∷ 0x03 ∷ 0x32 ∷ 0x32 ∷ 0x3F ∷ []
+
+pub optional-cases : OptionalCases
+unfolding definitions choiceOfTwo twoOptional intoSecond bareRoot junk refusal answer
+optional-cases = record { part-early = refl; needed-parts = refl; nothing-carried = refl; nothing-bytes = refl }

@@ -11,6 +11,7 @@ use lib.Seq.{getD-set-same, getD-set-other}
 use lib.Dec.{eqb}
 use borrow.Author.Tests.{eqb-true, eqb-false}
 use Rattle.loaded_table.specs.Loaded.{heightsOf, fillOf, tableBy}
+use Rattle.model.specs.Definitions.Commands.{needed, optional}
 use Rattle.model.specs.Definitions.Table.{Kind, text, empty, sequence, choice, list, Table, kindOf}
 use Rattle.model.specs.Definitions.Heights.{heightIn, heights, heightOf}
 use Rattle.model.specs.Definitions.Filler.{lengthOf, fillMembers, fillers, fillerLength}
@@ -27,7 +28,8 @@ unfolding filled heightIn
 filled-same T hs held text = refl
 filled-same T hs held empty = refl
 filled-same T hs held (sequence ms) = refl
-filled-same T hs held (choice ms) = ap (λ (m : ℕ). m ∷ []) (least-same hs (heights T) ms (λ m here. held .height-at m))
+filled-same T hs held (choice needed ms) = ap (λ (m : ℕ). m ∷ []) (least-same hs (heights T) ms (λ m here. held .height-at m))
+filled-same T hs held (choice optional ms) = refl
 filled-same T hs held (list m) = refl
 
 -- so the next lengths by a loaded table whose filler lengths alone may have changed are those by the heights

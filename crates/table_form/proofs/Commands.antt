@@ -31,12 +31,12 @@ cut-at bs at b h o none = let next : ltb (suc at) (length bs) ≡ false = le-ltb
 -- a byte that is none of a table's commands, whether it takes an operand elsewhere or not
 pub other-at : (bs : List ℕ) (at : ℕ)
     → let isnt : ℕ → Type 0 = λ k. getD bs at 0 ≡ k → ⊥ in
-    ((((((Unit {0} × isnt 0x10) × isnt 0x11) × isnt 0x12) × isnt 0x13) × isnt 0x14) × isnt 0x15) × isnt 0x1F
+    (((((((Unit {0} × isnt 0x10) × isnt 0x11) × isnt 0x12) × isnt 0x13) × isnt 0x17) × isnt 0x14) × isnt 0x15) × isnt 0x1F
     → alien ≡ tableCommand (rawAt bs at)
 unfolding rawAt rawWith tableCommand pick
-other-at bs at (((((((_, n10), n11), n12), n13), n14), n15), n1F) = go (takesOperand (getD bs at 0)) (ltb (suc at) (length bs))
+other-at bs at ((((((((_, n10), n11), n12), n13), n17), n14), n15), n1F) = go (takesOperand (getD bs at 0)) (ltb (suc at) (length bs))
   where
     go : (operand more : Bool) → alien ≡ tableCommand (rawWith operand more (getD bs at 0) (getD bs (suc at) 0))
-    go false more = rw (ne-eqb _ 0x10 n10, ne-eqb _ 0x11 n11, ne-eqb _ 0x12 n12, ne-eqb _ 0x13 n13, ne-eqb _ 0x1F n1F)
+    go false more = rw (ne-eqb _ 0x10 n10, ne-eqb _ 0x11 n11, ne-eqb _ 0x12 n12, ne-eqb _ 0x13 n13, ne-eqb _ 0x17 n17, ne-eqb _ 0x1F n1F)
     go true true = rw (ne-eqb _ 0x14 n14, ne-eqb _ 0x15 n15)
     go true false = refl

@@ -15,7 +15,7 @@ unfolding tableWidth
 some-width textType e = omega arith
 some-width emptyType e = omega arith
 some-width sequenceType e = omega arith
-some-width choiceType e = omega arith
+some-width (choiceType need) e = omega arith
 some-width (listType t) e = omega arith
 some-width (member t) e = omega arith
 some-width tableEnd e = omega arith

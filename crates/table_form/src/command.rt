@@ -3,6 +3,7 @@ use codes::CHOICE_TYPE;
 use codes::EMPTY_TYPE;
 use codes::LIST_TYPE;
 use codes::MEMBER;
+use codes::OPTIONAL_TYPE;
 use codes::SEQUENCE_TYPE;
 use codes::TABLE_END;
 use codes::TEXT_TYPE;
@@ -19,6 +20,7 @@ pub enum TableCommand {
     Empty,
     Sequence,
     Choice,
+    Optional,
     List(u8),
     Member(u8),
     End,
@@ -36,6 +38,7 @@ pub fn command_at(t: &[u8], at: usize) -> TableCommand
         EMPTY_TYPE => TableCommand::Empty,
         SEQUENCE_TYPE => TableCommand::Sequence,
         CHOICE_TYPE => TableCommand::Choice,
+        OPTIONAL_TYPE => TableCommand::Optional,
         LIST_TYPE => {
             if at + 1 < t.len() {
                 TableCommand::List(t[at + 1])

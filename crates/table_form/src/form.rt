@@ -64,7 +64,7 @@ pub fn step(s: State, c: TableCommand) -> Next
     match c {
         TableCommand::Text | TableCommand::Empty => begin(s, State::Whole),
         TableCommand::List(_) => begin(s, State::Whole),
-        TableCommand::Sequence => begin(s, State::NeedsOne),
+        TableCommand::Sequence | TableCommand::Optional => begin(s, State::NeedsOne),
         TableCommand::Choice => begin(s, State::NeedsTwo),
         TableCommand::Member(_) => join(s),
         TableCommand::End => finish(s),

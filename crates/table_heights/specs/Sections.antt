@@ -4,9 +4,10 @@ use mathlib.Core.List.{List}
 use mathlib.Core.Logic.{_⊎_, inl, inr, ⊎-elim}
 use Prim.Native.Nat.{ℕ, zero, suc, _+_, _-_, _*_, _≤_, _<_, min}
 use native.Mathlib.Omega.{arith}
-use lib.ListN.{length, drop, getD, set, length-set, length-take, length-drop}
+use lib.ListN.{length, take, drop, getD, set, length-set, length-take, length-drop}
 use lib.Seq.{ext-getD, getD-set-other}
 use Rattle.loaded_table.specs.Loaded.{kindFrom, typesIn, section, kindsOf, countsOf, membersIn, tableBy, Bounded, in-section, section-long, kind-of}
+use Rattle.model.specs.Definitions.Commands.{needed, optional}
 use Rattle.model.specs.Definitions.Table.{Kind, text, empty, sequence, choice, list, kindOf}
 
 -- ---- the members of a type
@@ -34,12 +35,13 @@ module _ (rows : List ℕ) (t : ℕ) {code : ℕ} (exists : t < typesIn rows) (i
   pub kind-sequence : code ≡ 2 → kindOf (tableBy rows) t ≡ sequence (membersAt rows t)
   kind-sequence e = kind-by ∙ ap (λ k. kindFrom k (getD (countsOf rows) t 0) (drop (t * 16) (membersIn rows))) e
 
-  pub kind-choice : code ≡ 3 → kindOf (tableBy rows) t ≡ choice (membersAt rows t)
+  pub kind-choice : code ≡ 3 → kindOf (tableBy rows) t ≡ choice needed (membersAt rows t)
   kind-choice e = kind-by ∙ ap (λ k. kindFrom k (getD (countsOf rows) t 0) (drop (t * 16) (membersIn rows))) e
 
-  -- what holds of text, of empty types and of lists holds of every other code
-  pub kind-other : (P : Kind → Type 0) → (code ≡ 2 → ⊥) → (code ≡ 3 → ⊥) → P text → P empty → ((m : ℕ) → P (list m)) → P (kindOf (tableBy rows) t)
-  kind-other P no-sequence no-choice of-text of-empty of-list =
+  -- what holds of text, of empty types, of optional choices and of lists holds of every other code
+  pub kind-other : (P : Kind → Type 0) → (code ≡ 2 → ⊥) → (code ≡ 3 → ⊥) → P text → P empty → ((ms : List ℕ) → P (choice optional ms)) → ((m : ℕ) → P (list m))
+      → P (kindOf (tableBy rows) t)
+  kind-other P no-sequence no-choice of-text of-empty of-optional of-list =
       subst P (sym kind-by) (go code (getD (countsOf rows) t 0) (drop (t * 16) (membersIn rows)) no-sequence no-choice)
     where
       go : (k count : ℕ) (row : List ℕ) → (k ≡ 2 → ⊥) → (k ≡ 3 → ⊥) → P (kindFrom k count row)
@@ -47,7 +49,8 @@ module _ (rows : List ℕ) (t : ℕ) {code : ℕ} (exists : t < typesIn rows) (i
       go (suc zero) count row s c = of-empty
       go (suc (suc zero)) count row s c = absurd (s refl)
       go (suc (suc (suc zero))) count row s c = absurd (c refl)
-      go (suc (suc (suc (suc k)))) count row s c = of-list (getD row 0 0)
+      go (suc (suc (suc (suc zero)))) count row s c = of-optional (take count row)
+      go (suc (suc (suc (suc (suc k))))) count row s c = of-list (getD row 0 0)
 
 -- ---- the same but for a section
 

@@ -9,6 +9,7 @@ use native.Mathlib.Omega.{arith}
 use lib.ListN.{length, take, drop, getD, set, length-drop}
 use lib.Seq.{getD-set-same, getD-set-other, take-set-le, drop-set-add, take-suc-set}
 use Rattle.loaded_table.specs.Loaded.{kindFrom, kindIn, tableFrom}
+use Rattle.model.specs.Definitions.Commands.{needed, optional}
 use Rattle.model.specs.Definitions.Table.{Kind, text, empty, sequence, choice, list, Table, TableTail}
 
 -- a kind whose members go on
@@ -16,8 +17,9 @@ abbrev pub kindMore : ℕ → ℕ → List ℕ → List ℕ → Kind
 kindMore zero count row more = text
 kindMore (suc zero) count row more = empty
 kindMore (suc (suc zero)) count row more = sequence (take count row ++ more)
-kindMore (suc (suc (suc zero))) count row more = choice (take count row ++ more)
-kindMore (suc (suc (suc (suc code)))) count row more = list (getD row 0 0)
+kindMore (suc (suc (suc zero))) count row more = choice needed (take count row ++ more)
+kindMore (suc (suc (suc (suc zero)))) count row more = choice optional (take count row ++ more)
+kindMore (suc (suc (suc (suc (suc code))))) count row more = list (getD row 0 0)
 
 -- so many loaded types, continued by the members of the last one and the types after it
 unfoldable pub continued : ℕ → List ℕ → List ℕ → List ℕ → TableTail → Table
@@ -30,16 +32,18 @@ kind-more-none : (code count : ℕ) (row : List ℕ) → kindMore code count row
 kind-more-none zero count row = refl
 kind-more-none (suc zero) count row = refl
 kind-more-none (suc (suc zero)) count row = ap sequence (append-nil (take count row))
-kind-more-none (suc (suc (suc zero))) count row = ap choice (append-nil (take count row))
-kind-more-none (suc (suc (suc (suc code)))) count row = refl
+kind-more-none (suc (suc (suc zero))) count row = ap (choice needed) (append-nil (take count row))
+kind-more-none (suc (suc (suc (suc zero)))) count row = ap (choice optional) (append-nil (take count row))
+kind-more-none (suc (suc (suc (suc (suc code))))) count row = refl
 
 -- a kind is the same in rows with the same first entries
 kind-from-same : (code count : ℕ) (row other : List ℕ) → take count row ≡ take count other → getD row 0 0 ≡ getD other 0 0 → kindFrom code count row ≡ kindFrom code count other
 kind-from-same zero count row other p q = refl
 kind-from-same (suc zero) count row other p q = refl
 kind-from-same (suc (suc zero)) count row other p q = ap sequence p
-kind-from-same (suc (suc (suc zero))) count row other p q = ap choice p
-kind-from-same (suc (suc (suc (suc code)))) count row other p q = ap list q
+kind-from-same (suc (suc (suc zero))) count row other p q = ap (choice needed) p
+kind-from-same (suc (suc (suc (suc zero)))) count row other p q = ap (choice optional) p
+kind-from-same (suc (suc (suc (suc (suc code))))) count row other p q = ap list q
 
 module _ (kinds counts members : List ℕ) where
   -- one type more at the end
@@ -102,21 +106,26 @@ member-kept kinds counts members n count p y i h few =
     (take-set-le (getD counts i 0) (drop (i * 16) members) (n * 16 + p - i * 16) y (omega arith))
     (getD-set-other (drop (i * 16) members) (n * 16 + p - i * 16) 0 y 0 (λ e. absurd (omega arith))))
 
--- a sequence or choice with a member more in its row
-kind-joined : (code count : ℕ) (row : List ℕ) (y : ℕ) (more : List ℕ) → (code ≡ 2) ⊎ (code ≡ 3) → count < length row
+-- the codes of the types that members may join: a sequence, a choice, an optional choice
+abbrev pub TakesMembers : ℕ → Type 0
+TakesMembers code = (code ≡ 2) ⊎ ((code ≡ 3) ⊎ (code ≡ 4))
+
+-- such a type with a member more in its row
+kind-joined : (code count : ℕ) (row : List ℕ) (y : ℕ) (more : List ℕ) → TakesMembers code → count < length row
     → kindMore code (count + 1) (set row count y) more ≡ kindMore code count row (y ∷ more)
 kind-joined code count row y more which room = go which
   where
     longer : take (suc count) (set row count y) ++ more ≡ take count row ++ y ∷ more
     longer = ap (λ l. l ++ more) (take-suc-set row count y room) ∙ append-assoc (take count row) (y ∷ []) more
 
-    go : (code ≡ 2) ⊎ (code ≡ 3) → kindMore code (count + 1) (set row count y) more ≡ kindMore code count row (y ∷ more)
+    go : TakesMembers code → kindMore code (count + 1) (set row count y) more ≡ kindMore code count row (y ∷ more)
     go (inl e) = rw (e, add-one count) (ap sequence longer)
-    go (inr e) = rw (e, add-one count) (ap choice longer)
+    go (inr (inl e)) = rw (e, add-one count) (ap (choice needed) longer)
+    go (inr (inr e)) = rw (e, add-one count) (ap (choice optional) longer)
 
--- A member joins the last type, a sequence or choice: it is the first of the members with which that was continued.
+-- A member joins the last type, a sequence or choice of either kind: it is the first of the members with which that was continued.
 pub continued-joined : (kinds counts members : List ℕ) (n y : ℕ) (r : TableTail) → n < length counts → n * 16 + getD counts n 0 < length members
-    → (getD kinds n 0 ≡ 2) ⊎ (getD kinds n 0 ≡ 3) → ((i : ℕ) → getD counts i 0 ≤ 16)
+    → TakesMembers (getD kinds n 0) → ((i : ℕ) → getD counts i 0 ≤ 16)
     → continued (suc n) kinds (set counts n (getD counts n 0 + 1)) (set members (n * 16 + getD counts n 0) y) r
     ≡ continued (suc n) kinds counts members (record { members = y ∷ r .members; kinds = r .kinds })
 unfolding continued
@@ -132,14 +141,14 @@ continued-joined kinds counts members n y r known room which few =
 -- A list type begins after n others, and its item joins it.
 pub continued-list : (kinds counts members : List ℕ) (n y : ℕ) (r : TableTail) → n < length kinds → n < length counts → n * 16 < length members
     → getD counts n 0 ≡ 0 → ((i : ℕ) → getD counts i 0 ≤ 16)
-    → continued (suc n) (set kinds n 4) (set counts n (getD counts n 0 + 1)) (set members (n * 16 + getD counts n 0) y) r
+    → continued (suc n) (set kinds n 5) (set counts n (getD counts n 0 + 1)) (set members (n * 16 + getD counts n 0) y) r
     ≡ tableFrom kinds counts members 0 n ++ list y ∷ r .kinds
 unfolding continued
 continued-list kinds counts members n y r known counted room fresh few =
     let count = getD counts n 0 in
-    let earlier = from-same (set kinds n 4) (set counts n (count + 1)) (set members (n * 16 + count) y) kinds counts members 0 n
-    (λ i h. kind-kept kinds (set counts n (count + 1)) (set members (n * 16 + count) y) n 4 i (omega arith)
+    let earlier = from-same (set kinds n 5) (set counts n (count + 1)) (set members (n * 16 + count) y) kinds counts members 0 n
+    (λ i h. kind-kept kinds (set counts n (count + 1)) (set members (n * 16 + count) y) n 5 i (omega arith)
     ∙ member-kept kinds counts members n (count + 1) count y i (omega arith) (few i)) in
     let item : getD (set (drop (n * 16) members) count y) 0 0 ≡ y = rw fresh (getD-set-same (drop (n * 16) members) 0 y 0 (rw (length-drop (n * 16) members) (omega arith))) in
-    rw (earlier, getD-set-same kinds n 4 0 known, drop-set-add (n * 16) members count y)
+    rw (earlier, getD-set-same kinds n 5 0 known, drop-set-add (n * 16) members count y)
     (ap (λ m. tableFrom kinds counts members 0 n ++ list m ∷ r .kinds) item)

@@ -64,9 +64,9 @@ begun-joins a kind h =
     record { some = omega arith; few = omega arith; room = omega arith }
 
 -- a list that was just begun has room for its item
-pub list-room : (rows : List ℕ) (types : ℕ) {mid : List ℕ} → TypeMayBegin (loadedIn types rows) → mid ≡ set rows types 4 → (types < 64) × (getD (countsOf mid) types 0 < 16)
+pub list-room : (rows : List ℕ) (types : ℕ) {mid : List ℕ} → TypeMayBegin (loadedIn types rows) → mid ≡ set rows types 5 → (types < 64) × (getD (countsOf mid) types 0 < 16)
 list-room rows types {mid} h e =
-    let kept : countsOf mid ≡ countsOf rows = ap countsOf e ∙ section-kept 64 64 rows types 4 (inl (omega (arith, h .room))) in
+    let kept : countsOf mid ≡ countsOf rows = ap countsOf e ∙ section-kept 64 64 rows types 5 (inl (omega (arith, h .room))) in
     (h .room, rw kept (omega (arith, h .fresh)))
 
 -- ---- commands put
@@ -87,18 +87,18 @@ stored-size rows t m =
 
 -- a list and its item
 pub list-put : (rows : List ℕ) (types m : ℕ) {more : ℕ} {mid after : List ℕ} → TypeMayBegin (loadedIn types rows)
-    → (more ≡ types + 1) × (mid ≡ set rows types 4) → after ≡ memberStored mid types m → TablePut types rows (listType m) more after
+    → (more ≡ types + 1) × (mid ≡ set rows types 5) → after ≡ memberStored mid types m → TablePut types rows (listType m) more after
 unfolding puts
 list-put rows types m {more} {mid} {after} h (p, q) e =
     let room = list-room rows types h q in
     let last : types + 1 - 1 ≡ types = omega arith in
     record {
-      same-size = ap length e ∙ stored-size mid types m ∙ ap length q ∙ length-set rows types 4;
+      same-size = ap length e ∙ stored-size mid types m ∙ ap length q ∙ length-set rows types 5;
       does =
           rw (e, p)
           (joined-in mid (types + 1) types m last (room .0) (room .1)
           ∙ ap (λ (l : List ℕ). joined (loadedIn (types + 1) l) m) q
-          ∙ ap (λ (a : TableArrays). joined a m) (begun-in rows types 4 (room .0)));
+          ∙ ap (λ (a : TableArrays). joined a m) (begun-in rows types 5 (room .0)));
     }
 
 -- a member

@@ -3,7 +3,7 @@
 use mathlib.Core.Path.{_≡_, refl, sym, ap, _∙_, subst}
 use mathlib.Core.Bool.{Bool, true}
 use mathlib.Core.List.{List, [], _∷_, _++_, append-nil}
-use mathlib.Core.Logic.{_⊎_, inl, inr}
+use mathlib.Core.Logic.{inl, inr}
 use Prim.Native.Nat.{ℕ, zero, suc, _+_, _-_, _*_, _≤_, _<_}
 use native.Mathlib.Numerals.{add-one}
 use native.Mathlib.Omega.{arith}
@@ -13,14 +13,14 @@ use lib.Dec.{ltb}
 use borrow.Author.Tests.{ltb-true}
 use Rattle.loaded_table.specs.Loaded.{tableFrom, tableIn, typesIn, kindsOf, countsOf, membersIn, section-kept}
 use Rattle.model.specs.Definitions.Basics.{passes, Next, goes, stops, run, goesIf}
-use Rattle.model.specs.Definitions.Commands.{TableCommand, textType, emptyType, sequenceType, choiceType, listType, member, tableEnd, alien, tableCommand, tableCommands, tableWidth}
+use Rattle.model.specs.Definitions.Commands.{needed, optional, TableCommand, textType, emptyType, sequenceType, choiceType, listType, member, tableEnd, alien, tableCommand, tableCommands, tableWidth}
 use Rattle.model.specs.Definitions.Table.{Kind, text, empty, sequence, choice, list, Table, TableTail, withCommand, tableTail, tableOf}
 use Rattle.model.specs.Definitions.TableChecks.{TableState, noType, whole, members, tableEnded, begins, joins, finishes, tableRole, tableMove, tableStep, tableComplete, tableForm, TableCount, maxMembers, oneTypeMore, limitStep, tableLimits}
 use Rattle.model.specs.Theorems.JudgedTables.{goes-if}
 use Rattle.model.specs.Theorems.Runs.{passes-fails, goes-stops}
 use Rattle.model.specs.Theorems.Reading.{rawAt, ReadsAt, left-stops, left-goes, table-reads, no-table-commands}
 use Rattle.table_load.specs.Loading.{TableArrays, loadedIn, CountsCleared, begun, joined, puts, TypeMayBegin, MemberMayJoin, TableRoom, TablePut, TableLoaded}
-use Rattle.table_load.proofs.Continuation.{kindMore, continued, continued-types, continued-begun, continued-joined, continued-list}
+use Rattle.table_load.proofs.Continuation.{kindMore, TakesMembers, continued, continued-types, continued-begun, continued-joined, continued-list}
 use Rattle.table_load.proofs.Shapes.{TableShaped, shaped-cleared, shaped-begun, shaped-joined}
 use Rattle.table_load.proofs.Rooms.{begun-joins}
 
@@ -60,12 +60,12 @@ module _
 
 -- ---- what is loaded at a place
 
--- the last type is a sequence or choice with so many members
+-- the last type is a sequence or choice of either kind with so many members
 record TypesGrow (a : TableArrays) (count : ℕ) : Type 0 where
   last : ℕ
   is-last : a .types ≡ suc last
   so-many : getD (a .counts) last 0 ≡ count
-  takes-members : (getD (a .kinds) last 0 ≡ 2) ⊎ (getD (a .kinds) last 0 ≡ 3)
+  takes-members : TakesMembers (getD (a .kinds) last 0)
 
 -- what a state of the form's machine says of the last type
 abbrev InTableState : TableState → TableArrays → ℕ → Type 0
@@ -110,7 +110,7 @@ begins-state (members (suc k)) first then e = goes-stops e refl
 begins-state tableEnded first then e = goes-stops e refl
 
 -- a sequence or choice that begins has no members
-grows-begun : (a : TableArrays) (code : ℕ) → (code ≡ 2) ⊎ (code ≡ 3) → TableShaped a → TypeMayBegin a → TypesGrow (begun a code) 0
+grows-begun : (a : TableArrays) (code : ℕ) → TakesMembers code → TableShaped a → TypeMayBegin a → TypesGrow (begun a code) 0
 unfolding begun
 grows-begun a code which shaped room =
     let kind-there : getD (set (a .kinds) (a .types) code) (a .types) 0 ≡ code
@@ -160,7 +160,7 @@ joined-is a m l e = let before : suc l - 1 ≡ l = omega arith in rw (e, before)
 loaded-list : {s then : TableState} {n later : TableCount} {a : TableArrays} {r : TableTail} {T : Table} (m : ℕ)
     → tableMove s (begins whole) ≡ goes then → oneTypeMore n ≡ goes later
     → TableSoFar s n a (record { members = []; kinds = list m ∷ r .kinds }) T
-    → TypeMayBegin a × TableSoFar then later (joined (begun a 4) m) r T
+    → TypeMayBegin a × TableSoFar then later (joined (begun a 5) m) r T
 unfolding begun
 loaded-list {s} {then} {n} {later} {a} {r} {T} m e f h =
     let facts = begins-there f h in
@@ -168,13 +168,13 @@ loaded-list {s} {then} {n} {later} {a} {r} {T} m e f h =
     let same-state : whole ≡ then = begins-state s whole then e in
     (room, loaded-at same-state (sym (facts .1)) (now-loaded room))
   where
-    now-loaded : TypeMayBegin a → TableSoFar whole (record { types = suc (n .types); members = 0 }) (joined (begun a 4) m) r T
+    now-loaded : TypeMayBegin a → TableSoFar whole (record { types = suc (n .types); members = 0 }) (joined (begun a 5) m) r T
     now-loaded room =
         let shaped = h .shaped in
         let few = room .room in
-        let is = joined-is (begun a 4) m (a .types) (add-one (a .types)) in
+        let is = joined-is (begun a 5) m (a .types) (add-one (a .types)) in
         record {
-          shaped = shaped-joined (begun a 4) m (begun-joins a 4 room) (shaped-begun a 4 few shaped);
+          shaped = shaped-joined (begun a 5) m (begun-joins a 5 room) (shaped-begun a 5 few shaped);
           same-types = ap (λ b. b .types) is ∙ ap suc (h .same-types);
           in-state = tt;
           whole-table =
@@ -251,7 +251,8 @@ unfolding tableStep tableRole limitStep withCommand puts
 put-loaded textType e f h = loaded-begun 0 text whole refl (λ shaped room. tt) e f h
 put-loaded emptyType e f h = loaded-begun 1 empty whole refl (λ shaped room. tt) e f h
 put-loaded sequenceType {a = a} {r} e f h = loaded-begun 2 (sequence (r .members)) (members 1) refl (grows-begun a 2 (inl refl)) e f h
-put-loaded choiceType {a = a} {r} e f h = loaded-begun 3 (choice (r .members)) (members 2) refl (grows-begun a 3 (inr refl)) e f h
+put-loaded (choiceType needed) {a = a} {r} e f h = loaded-begun 3 (choice needed (r .members)) (members 2) refl (grows-begun a 3 (inr (inl refl))) e f h
+put-loaded (choiceType optional) {a = a} {r} e f h = loaded-begun 4 (choice optional (r .members)) (members 1) refl (grows-begun a 4 (inr (inr refl))) e f h
 put-loaded (listType m) e f h = loaded-list m e f h
 put-loaded (member m) e f h = loaded-joined m e f h
 put-loaded tableEnd {s} {then} {n} {later} {a} {r} {T} e f h =
@@ -300,7 +301,7 @@ unfolding tableWidth
 width-some textType = omega arith
 width-some emptyType = omega arith
 width-some sequenceType = omega arith
-width-some choiceType = omega arith
+width-some (choiceType need) = omega arith
 width-some (listType t) = omega arith
 width-some (member t) = omega arith
 width-some tableEnd = omega arith

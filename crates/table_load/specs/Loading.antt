@@ -5,7 +5,7 @@ use Prim.Native.Nat.{ℕ, _+_, _-_, _*_, _≤_, _<_}
 use lib.ListN.{length, getD, set}
 use Rattle.loaded_table.specs.Loaded as loaded_table
 use Rattle.loaded_table.specs.Loaded.{kindsOf, countsOf, membersIn, Bounded}
-use Rattle.model.specs.Definitions.Commands.{TableCommand, textType, emptyType, sequenceType, choiceType, listType, member, tableEnd, alien}
+use Rattle.model.specs.Definitions.Commands.{needed, optional, TableCommand, textType, emptyType, sequenceType, choiceType, listType, member, tableEnd, alien}
 use Rattle.model.specs.Definitions.Table.{tableOf}
 
 -- ---- what is loaded so far
@@ -45,8 +45,9 @@ unfoldable pub puts : TableArrays → TableCommand → TableArrays
 puts a textType = begun a 0
 puts a emptyType = begun a 1
 puts a sequenceType = begun a 2
-puts a choiceType = begun a 3
-puts a (listType t) = joined (begun a 4) t
+puts a (choiceType needed) = begun a 3
+puts a (choiceType optional) = begun a 4
+puts a (listType t) = joined (begun a 5) t
 puts a (member t) = joined a t
 puts a tableEnd = a
 puts a alien = a
@@ -68,7 +69,7 @@ abbrev pub TableRoom : TableArrays → TableCommand → Type 0
 TableRoom a textType = TypeMayBegin a
 TableRoom a emptyType = TypeMayBegin a
 TableRoom a sequenceType = TypeMayBegin a
-TableRoom a choiceType = TypeMayBegin a
+TableRoom a (choiceType need) = TypeMayBegin a
 TableRoom a (listType t) = TypeMayBegin a
 TableRoom a (member t) = MemberMayJoin a
 TableRoom a tableEnd = Unit {0}

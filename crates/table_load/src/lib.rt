@@ -4,6 +4,7 @@ use codes::MAX_TYPES;
 use loaded_table::CHOICE;
 use loaded_table::EMPTY;
 use loaded_table::LIST;
+use loaded_table::OPTIONAL;
 use loaded_table::SEQUENCE;
 use loaded_table::TABLE;
 use loaded_table::TEXT;
@@ -38,7 +39,7 @@ fn clear_counts(table: &mut [u16; TABLE])
 
 // One type more, of a kind, behind so many: how many types there are then.
 fn begin(table: &mut [u16; TABLE], types: usize, kind: usize) -> usize
-    requires { ⌜ (types < maxTypes) × (kind ≤ 4) ⌝ }
+    requires { ⌜ (types < maxTypes) × (kind ≤ 5) ⌝ }
     ensures { λ r. ⌜ (r ≡ types + 1) × (now (table .exit) ≡ set (now (table .entry)) types kind) ⌝ }
 {
     set_kind(table, types, kind as u16);
@@ -65,6 +66,7 @@ fn put(table: &mut [u16; TABLE], types: usize, c: TableCommand) -> usize
         TableCommand::Empty => begin(table, types, EMPTY),
         TableCommand::Sequence => begin(table, types, SEQUENCE),
         TableCommand::Choice => begin(table, types, CHOICE),
+        TableCommand::Optional => begin(table, types, OPTIONAL),
         TableCommand::List(m) => {
             let more = begin(table, types, LIST);
             join(table, types, m);

@@ -1,4 +1,4 @@
-// Check 5, repeats: a choice names a type twice.
+// Check 5, repeats: a choice of either kind names a type twice.
 use answers::Verdict;
 use table_form::command::TableCommand;
 use table_form::command::command_at;
@@ -24,7 +24,7 @@ fn role_of(c: TableCommand) -> Role
     ensures { λ r. ⌜ ((s : Chosen) → does s r ≡ repeatStep s (command c)) ⌝ }
 {
     match c {
-        TableCommand::Choice => Role::Opens,
+        TableCommand::Choice | TableCommand::Optional => Role::Opens,
         TableCommand::Member(m) => Role::Joins(m),
         TableCommand::End => Role::Keeps,
         TableCommand::Alien => Role::Stops,

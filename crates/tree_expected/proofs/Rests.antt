@@ -12,10 +12,12 @@ use lib.Seq.{drop-cons, getD-take, getD-drop}
 use lib.Dec.{eqb, leb, leb·zero, leb·suc-zero, leb·suc-suc, eqb·suc-zero}
 use borrow.Author.Tests.{eq-eqb, ne-eqb}
 use Rattle.model.specs.Definitions.Basics.{memberOf}
+use Rattle.model.specs.Definitions.Commands.{Need, needed, optional}
 use Rattle.model.specs.Definitions.Table.{empty, sequence, list, isText}
 use Rattle.model.specs.Definitions.Conformance.{admits, after, complete}
+use Rattle.loaded_table.specs.Kinds.{needFrom}
 use Rattle.loaded_table.specs.Loaded.{kindFrom, kindsOf, countsOf, membersIn}
-use Rattle.tree_expected.specs.Expected.{restFrom, restOf, TypeReadable, Opening}
+use Rattle.tree_expected.specs.Expected.{restOfChoice, restFrom, restOf, TypeReadable, Opening}
 
 -- ---- a type that can be read
 
@@ -40,7 +42,8 @@ rest-none zero count row = refl
 rest-none (suc zero) count row = refl
 rest-none (suc (suc zero)) count row = refl
 rest-none (suc (suc (suc zero))) count row = refl
-rest-none (suc (suc (suc (suc code)))) count row = refl
+rest-none (suc (suc (suc (suc zero)))) count row = refl
+rest-none (suc (suc (suc (suc (suc code))))) count row = refl
 
 -- the members of a sequence behind one more of them
 sequence-suc : (l : List ℕ) (had : ℕ) → sequence (drop (suc had) l) ≡ after (sequence (drop had l))
@@ -50,18 +53,35 @@ sequence-suc [] (suc had) = refl
 sequence-suc (x ∷ l) zero = refl
 sequence-suc (x ∷ l) (suc had) = sequence-suc l had
 
--- after a choice's member nothing may follow
-rest-chosen : (count : ℕ) (row : List ℕ) (had : ℕ) → (had ≡ 0 → ⊥) → restFrom 3 count row had ≡ empty
-rest-chosen count row zero h = absurd (h refl)
-rest-chosen count row (suc had) h = refl
+-- text and empty types admit no element
+none-admits : (c n : ℕ) (l : List ℕ) (h x : ℕ) → c < 2 → false ≡ admits (restFrom c n l h) x
+unfolding admits
+none-admits zero n l h x low = refl
+none-admits (suc zero) n l h x low = refl
+none-admits (suc (suc c)) n l h x low = absurd (omega arith)
+
+-- a choice of either kind
+choice-rest : (c n : ℕ) (l : List ℕ) (h : ℕ) → 3 ≤ c → c < 5 → restFrom c n l h ≡ restOfChoice (needFrom c) (take n l) h
+choice-rest zero n l h low high = absurd (omega arith)
+choice-rest (suc zero) n l h low high = absurd (omega arith)
+choice-rest (suc (suc zero)) n l h low high = absurd (omega arith)
+choice-rest (suc (suc (suc zero))) n l h low high = refl
+choice-rest (suc (suc (suc (suc zero)))) n l h low high = refl
+choice-rest (suc (suc (suc (suc (suc c))))) n l h low high = absurd (omega arith)
+
+-- after its member nothing may follow
+rest-chosen : (need : Need) (ms : List ℕ) (had : ℕ) → (had ≡ 0 → ⊥) → restOfChoice need ms had ≡ empty
+rest-chosen need ms zero h = absurd (h refl)
+rest-chosen need ms (suc had) h = refl
 
 -- a list stays what it is
-list-rest : (c n : ℕ) (l : List ℕ) (h : ℕ) → (c ≡ 0 → ⊥) → (c ≡ 1 → ⊥) → (c ≡ 2 → ⊥) → (c ≡ 3 → ⊥) → restFrom c n l h ≡ list (getD l 0 0)
-list-rest zero n l h p q r s = absurd (p refl)
-list-rest (suc zero) n l h p q r s = absurd (q refl)
-list-rest (suc (suc zero)) n l h p q r s = absurd (r refl)
-list-rest (suc (suc (suc zero))) n l h p q r s = absurd (s refl)
-list-rest (suc (suc (suc (suc c)))) n l h p q r s = refl
+list-rest : (c n : ℕ) (l : List ℕ) (h : ℕ) → 5 ≤ c → restFrom c n l h ≡ list (getD l 0 0)
+list-rest zero n l h high = absurd (omega arith)
+list-rest (suc zero) n l h high = absurd (omega arith)
+list-rest (suc (suc zero)) n l h high = absurd (omega arith)
+list-rest (suc (suc (suc zero))) n l h high = absurd (omega arith)
+list-rest (suc (suc (suc (suc zero)))) n l h high = absurd (omega arith)
+list-rest (suc (suc (suc (suc (suc c))))) n l h high = refl
 
 -- ---- what the answer to an opening says, by the kind of the type
 
@@ -86,15 +106,10 @@ module _ (rows : List ℕ) (m h x : ℕ) where
   row : List ℕ
   row = drop (m * 16) (membersIn rows)
 
-  -- text admits no element
-  pub opening-text : getD (kindsOf rows) m 0 ≡ 0 → Opening rows m h x 0
-  unfolding admits
-  opening-text e = opening-none rows m h x (rw e)
-
-  -- nor does an empty type
-  pub opening-empty : getD (kindsOf rows) m 0 ≡ 1 → Opening rows m h x 0
-  unfolding admits
-  opening-empty e = opening-none rows m h x (rw e)
+  -- a text or an empty type admits no element
+  pub opening-nothing : getD (kindsOf rows) m 0 < 2 → Opening rows m h x 0
+  unfolding code count row
+  opening-nothing low = opening-none rows m h x (none-admits code count row h x low)
 
   -- a sequence admits nothing behind its last member
   pub opening-past : getD (kindsOf rows) m 0 ≡ 2 → getD (countsOf rows) m 0 ≤ h → Opening rows m h x 0
@@ -123,28 +138,32 @@ module _ (rows : List ℕ) (m h x : ℕ) where
   pub opening-other : TypeReadable rows m → getD (kindsOf rows) m 0 ≡ 2 → h < getD (countsOf rows) m 0 → (x ≡ getD (membersIn rows) (m * 16 + h) 0 → ⊥) → Opening rows m h x 0
   opening-other r e next other = opening-none rows m h x (sym (ne-eqb _ _ other) ∙ sequence-admits r e next)
 
-  -- a choice admits no second member
-  pub opening-second : getD (kindsOf rows) m 0 ≡ 3 → (h ≡ 0 → ⊥) → Opening rows m h x 0
-  unfolding admits count row
-  opening-second e some = opening-none rows m h x (rw (e, rest-chosen count row h some))
+  -- a choice of either kind admits no second member, and as the first one of its members
+  module _ (low : 3 ≤ getD (kindsOf rows) m 0) (high : getD (kindsOf rows) m 0 < 5) where
+    choice-here : (n : ℕ) → restOf rows m n ≡ restOfChoice (needFrom (getD (kindsOf rows) m 0)) (take (getD (countsOf rows) m 0) (drop (m * 16) (membersIn rows))) n
+    unfolding code count row
+    choice-here n = choice-rest code count row n low high
 
-  -- and as the first one of its members
-  choice-admits : {b : Bool} → getD (kindsOf rows) m 0 ≡ 3 → h ≡ 0 → b ≡ memberOf x (take (getD (countsOf rows) m 0) (drop (m * 16) (membersIn rows))) → b ≡ admits (restOf rows m h) x
-  unfolding admits
-  choice-admits e none found = rw (e, none) found
+    pub opening-second : (h ≡ 0 → ⊥) → Opening rows m h x 0
+    unfolding admits
+    opening-second some = opening-none rows m h x (rw (choice-here h ∙ rest-chosen _ _ h some))
 
-  pub opening-member : {b : Bool} → getD (kindsOf rows) m 0 ≡ 3 → h ≡ 0 → b ≡ memberOf x (take (getD (countsOf rows) m 0) (drop (m * 16) (membersIn rows))) → b ≡ true → Opening rows m h x 1
-  unfolding after
-  opening-member e none found yes-it-is = opening-some rows m h x 1 (omega arith) (sym yes-it-is ∙ choice-admits e none found) (rw (e, none))
+    choice-admits : {b : Bool} → h ≡ 0 → b ≡ memberOf x (take (getD (countsOf rows) m 0) (drop (m * 16) (membersIn rows))) → b ≡ admits (restOf rows m h) x
+    unfolding admits
+    choice-admits none found = rw (choice-here h, none) found
 
-  pub opening-no-member : {b : Bool} → getD (kindsOf rows) m 0 ≡ 3 → h ≡ 0 → b ≡ memberOf x (take (getD (countsOf rows) m 0) (drop (m * 16) (membersIn rows))) → b ≡ false → Opening rows m h x 0
-  opening-no-member e none found no-way = opening-none rows m h x (sym no-way ∙ choice-admits e none found)
+    pub opening-member : {b : Bool} → h ≡ 0 → b ≡ memberOf x (take (getD (countsOf rows) m 0) (drop (m * 16) (membersIn rows))) → b ≡ true → Opening rows m h x 1
+    unfolding after
+    opening-member none found yes-it-is = opening-some rows m h x 1 (omega arith) (sym yes-it-is ∙ choice-admits none found) (rw (choice-here 1, choice-here h, none))
+
+    pub opening-no-member : {b : Bool} → h ≡ 0 → b ≡ memberOf x (take (getD (countsOf rows) m 0) (drop (m * 16) (membersIn rows))) → b ≡ false → Opening rows m h x 0
+    opening-no-member none found no-way = opening-none rows m h x (sym no-way ∙ choice-admits none found)
 
   -- a list admits its item type
-  module _ (p : getD (kindsOf rows) m 0 ≡ 0 → ⊥) (q : getD (kindsOf rows) m 0 ≡ 1 → ⊥) (r : getD (kindsOf rows) m 0 ≡ 2 → ⊥) (s : getD (kindsOf rows) m 0 ≡ 3 → ⊥) where
+  module _ (high : 5 ≤ getD (kindsOf rows) m 0) where
     list-here : (n : ℕ) → restOf rows m n ≡ list (getD (membersIn rows) (m * 16 + 0) 0)
     unfolding code count row
-    list-here n = list-rest code count row n p q r s ∙ ap list (getD-drop (m * 16) (membersIn rows) 0 0)
+    list-here n = list-rest code count row n high ∙ ap list (getD-drop (m * 16) (membersIn rows) 0 0)
 
     pub opening-item : x ≡ getD (membersIn rows) (m * 16 + 0) 0 → Opening rows m h x 1
     unfolding admits after
@@ -172,11 +191,17 @@ complete-sequence rows m h r e =
     let all : length l ≡ getD (countsOf rows) m 0 = simp length-take (omega arith) in
     rw e (ap (λ (n : ℕ). leb n h) (sym all) ∙ sequence-complete l h)
 
--- a choice where it has had its member
+-- a choice that needs its member where it has had it
 pub complete-choice : (rows : List ℕ) (m h : ℕ) → getD (kindsOf rows) m 0 ≡ 3 → not (eqb h 0) ≡ complete (restOf rows m h)
 unfolding complete
 complete-choice rows m zero e = rw e
 complete-choice rows m (suc h) e = rw e (ap not (eqb·suc-zero h))
+
+-- an optional choice may in any case
+complete-optional : (ms : List ℕ) (h : ℕ) → true ≡ complete (restOfChoice optional ms h)
+unfolding complete
+complete-optional ms zero = refl
+complete-optional ms (suc h) = refl
 
 -- anything else may
 pub complete-other : (rows : List ℕ) (m h : ℕ) → (getD (kindsOf rows) m 0 ≡ 2 → ⊥) → (getD (kindsOf rows) m 0 ≡ 3 → ⊥) → true ≡ complete (restOf rows m h)
@@ -188,7 +213,14 @@ complete-other rows m h p q = go (getD (kindsOf rows) m 0) p q
     go (suc zero) p q = refl
     go (suc (suc zero)) p q = absurd (p refl)
     go (suc (suc (suc zero))) p q = absurd (q refl)
-    go (suc (suc (suc (suc c)))) p q = refl
+    go (suc (suc (suc (suc zero)))) p q = complete-optional (take (getD (countsOf rows) m 0) (drop (m * 16) (membersIn rows))) h
+    go (suc (suc (suc (suc (suc c))))) p q = refl
+
+-- a choice is no text
+choice-text : (need : Need) (ms : List ℕ) (had : ℕ) → false ≡ isText (restOfChoice need ms had)
+unfolding isText
+choice-text need ms zero = refl
+choice-text need ms (suc had) = refl
 
 -- only the code 0 is text
 rest-text : (code count : ℕ) (row : List ℕ) (had : ℕ) → eqb code 0 ≡ isText (restFrom code count row had)
@@ -196,9 +228,9 @@ unfolding isText
 rest-text zero count row had = refl
 rest-text (suc zero) count row had = refl
 rest-text (suc (suc zero)) count row had = refl
-rest-text (suc (suc (suc zero))) count row zero = refl
-rest-text (suc (suc (suc zero))) count row (suc had) = refl
-rest-text (suc (suc (suc (suc code)))) count row had = eqb·suc-zero (suc (suc (suc code)))
+rest-text (suc (suc (suc zero))) count row had = choice-text needed (take count row) had
+rest-text (suc (suc (suc (suc zero)))) count row had = choice-text optional (take count row) had
+rest-text (suc (suc (suc (suc (suc code))))) count row had = eqb·suc-zero (suc (suc (suc (suc code))))
 
 -- so it says whether an element of a type holds text
 pub text-here : (rows : List ℕ) (m h : ℕ) → eqb (getD (kindsOf rows) m 0) 0 ≡ isText (restOf rows m h)

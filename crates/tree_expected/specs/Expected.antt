@@ -6,7 +6,7 @@ use mathlib.Core.List.{List, [], _∷_}
 use Prim.Native.Nat.{ℕ, zero, suc, _+_, _*_, _<_}
 use lib.ListN.{length, take, drop, getD}
 use Rattle.model.specs.Definitions.Basics.{Verdict, passes, run}
-use Rattle.model.specs.Definitions.Commands.{TreeCommand, opens, character, closes, treeEnd, alienT, treeCommands, treeWidth}
+use Rattle.model.specs.Definitions.Commands.{Need, needed, optional, TreeCommand, opens, character, closes, treeEnd, alienT, treeCommands, treeWidth}
 use Rattle.model.specs.Definitions.Conformance.{admits, after, complete}
 use Rattle.model.specs.Definitions.Table.{Kind, text, empty, sequence, choice, list, Table, isText}
 use Rattle.model.specs.Definitions.TreeChecks.{treeForm, treeLevels, treeOperands, expectStep, treeExpected}
@@ -20,14 +20,19 @@ use Rattle.tree_expected.specs.declared.Turn.the-variants.{Opened, Chara
 
 -- ---- what may still follow
 
+-- in a choice: one of its members, or behind one nothing
+abbrev pub restOfChoice : Need → List ℕ → ℕ → Kind
+restOfChoice need ms zero = choice need ms
+restOfChoice need ms (suc had) = empty
+
 -- by a kind's code, its number of members, the row that begins with them, and the number of elements that were
 abbrev pub restFrom : ℕ → ℕ → List ℕ → ℕ → Kind
 restFrom zero count row had = text
 restFrom (suc zero) count row had = empty
 restFrom (suc (suc zero)) count row had = sequence (drop had (take count row))
-restFrom (suc (suc (suc zero))) count row zero = choice (take count row)
-restFrom (suc (suc (suc zero))) count row (suc had) = empty
-restFrom (suc (suc (suc (suc code)))) count row had = list (getD row 0 0)
+restFrom (suc (suc (suc zero))) count row had = restOfChoice needed (take count row) had
+restFrom (suc (suc (suc (suc zero)))) count row had = restOfChoice optional (take count row) had
+restFrom (suc (suc (suc (suc (suc code))))) count row had = list (getD row 0 0)
 
 -- in an element of type t
 abbrev pub restOf : List ℕ → ℕ → ℕ → Kind

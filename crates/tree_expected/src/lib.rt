@@ -4,6 +4,7 @@ use answers::Verdict;
 use codes::MAX_LEVELS;
 use loaded_table::CHOICE;
 use loaded_table::EMPTY;
+use loaded_table::OPTIONAL;
 use loaded_table::SEQUENCE;
 use loaded_table::TABLE;
 use loaded_table::TEXT;
@@ -137,15 +138,14 @@ pub fn opening(table: &[u16; TABLE], m: usize, h: usize, x: usize) -> usize
 {
     let k = kind(table, m);
     match k {
-        TEXT => 0,
-        EMPTY => 0,
+        TEXT | EMPTY => 0,
         SEQUENCE => {
             if count(table, m) <= h {
                 return 0;
             }
             if x == member(table, m, h) { h + 1 } else { 0 }
         }
-        CHOICE => {
+        CHOICE | OPTIONAL => {
             if h != 0 {
                 return 0;
             }

@@ -1,7 +1,7 @@
 -- `before_path` meets its contract.
 use mathlib.Core.Path.{ap, _∙_}
 use Prim.Native.Nat.{ℕ, _+_}
-use Rattle.list_rows.specs.Lists.{onePath}
+use Rattle.own_rows.specs.OnePath.{onePath}
 use borrow.Author.Needs.{needs}
 use Rattle.list_rows.proofs.before_path.Statement.{statement}
 use Rattle.list_rows.proofs.before_path.Tie as tie

@@ -56,7 +56,7 @@ loop-again t c = turn-letter (c .before .before .before .before .before .loop .i
 
 -- an element opens
 element-ahead : (t : ℕ) (c : element-lts.After-wide (claims t) (element-at t) element.Post element-Inv-loop element-μ-loop) → let start = c .before .before .before .before .before .before .before .before .before .before .before .before .before .args in let l = c .before .before .before .before .before .before .loop in Ahead (start .source .now) (start .map .now) (start .sizes .now) (start .tr .now) (start .s) (l .o) (l .i) (c .wide .result)
-element-ahead t c = turn-ahead (c .before .before .before .before .before .before .loop .inv) (c .before .before .before .before .before .before .before .before .before .before .before .before .before .pre .1) (c .before .before .if2 .left) (c .before .before .before .before .if1 .taken) (c .wide .result) (c .wide .ensures)
+element-ahead t c = turn-ahead (c .before .before .before .before .before .before .loop .inv) (c .before .before .before .before .before .before .before .before .before .before .before .before .before .pre .1) (c .before .before .if2 .left) (c .before .before .before .before .if1 .taken) (c .wide .result) (c .wide .ensures .0)
 
 -- it was measured
 abbrev element-turned : (t : ℕ) → element-lts.After-element (claims t) (element-at t) element.Post element-Inv-loop element-μ-loop → Type 0
@@ -72,7 +72,7 @@ element-turn : (t : ℕ) (c : element-lts.After-element (claims t) (element-at t
 element-turn t c =
     let earlier = c .before .before .before .before .before .before in
     let about = earlier .before .before .before .before .before .item-size .ensures in
-    turn-child (earlier .before .before .loop .inv) (earlier .before .before .before .before .before .before .before .before .before .pre .1) (c .before .before .before .before .if2 .left) (earlier .if1 .taken) (c .before .before .wide .result) (c .before .before .wide .ensures) (about .0) (about .1 .0) (about .1 .1) (c .before .child-depth .ensures .0) (c .element .ensures)
+    turn-child (earlier .before .before .loop .inv) (earlier .before .before .before .before .before .before .before .before .before .pre .1) (c .before .before .before .before .if2 .left) (earlier .if1 .taken) (c .before .before .wide .result) (c .before .before .wide .ensures .0) (about .0) (about .1 .0) (about .1 .1) (c .before .child-depth .ensures .0) (c .element .ensures)
 
 loop-again-2 : (t : ℕ) → element-lts.Need-loop-again-2 (claims t) (element-at t) element.Post element-Inv-loop element-μ-loop
 loop-again-2 t c = let size = c .before .with-child .ensures in element-turn t (c .before .before .before) .joined (size .0) (size .1 .0) (size .1 .1)
@@ -97,7 +97,7 @@ pub +element-spec : {M : Type 1} → statement M
     (λ c. omega (arith, turn-opens (c .before .before .before .before .loop .inv) (c .before .before .before .before .before .before .before .before .before .before .before .pre .1) (c .if2 .left) (c .before .before .if1 .taken)))
     (λ c. turn-opens (c .before .before .before .before .before .loop .inv) (c .before .before .before .before .before .before .before .before .before .before .before .before .pre .1) (c .before .if2 .left) (c .before .before .before .if1 .taken))
     (λ c κs. search needs)
-    (λ c κs. let g = c .before .before .before .before .before .before .before .before .before .before .before .before .before .pre .1 in (g .bounded, (g .exists, element-ahead t c .few)))
+    (λ c κs. let g = c .before .before .before .before .before .before .before .before .before .before .before .before .before .pre .1 in (g .bounded, (g .exists, c .wide .ensures .1, element-ahead t c .few)))
     (λ c. omega (arith, element-ahead t (c .before) .two))
     (λ c κs. let ahead = element-ahead t (c .before) in (omega (arith, c .before .before .before .before .before .before .before .before .before .before .before .before .before .before .pre .0, c .before .before .before .before .before .before .before .loop .inv .far, ahead .two), ahead .given))
     (λ c κs. let turn = element-turn t (c .before) in (c .before .before .before .before .before .before .before .before .before .loop .inv .held, turn .about-held, turn .inner-held, c .before .before .child-depth .ensures .1))

@@ -13,15 +13,15 @@ use Rattle.measuring.proofs.Edges.{around-list, around-other}
 use Rattle.measuring.proofs.item_size.Statement.{statement}
 use Rattle.measuring.proofs.item_size.Tie as tie
 
--- what stands around items of a type whose kind has a code below 4, and of any other
+-- what stands around items of a type whose kind has a code below 5, and of any other
 module _ (source : List ℕ) (s code : ℕ) (exists : s < typesIn source) (is-code : code ≡ getD (kindsOf source) s 0) where
-  none-around : code < 4 → (n : ℕ) → 0 ≡ around (kindOf (tableBy source) s) n
+  none-around : code < 5 → (n : ℕ) → 0 ≡ around (kindOf (tableBy source) s) n
   none-around small n =
       sym
       (ap (λ (κ : Kind). around κ n) (kind-of source s exists)
       ∙ around-other (getD (kindsOf source) s 0) (getD (countsOf source) s 0) (drop (s * 16) (membersIn source)) n (omega (arith, is-code, small)))
 
-  all-around : 4 ≤ code → (m n : ℕ) → m ≡ n → m ≡ around (kindOf (tableBy source) s) n
+  all-around : 5 ≤ code → (m n : ℕ) → m ≡ n → m ≡ around (kindOf (tableBy source) s) n
   all-around large m n same =
       same
       ∙ sym

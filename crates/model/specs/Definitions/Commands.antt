@@ -38,8 +38,13 @@ commands (b ∷ t ∷ rest) =
 
 -- ---- a table's commands
 
+-- whether a choice needs a member: 13 begins one that does, 17 one that may hold nothing (02, N3)
+pub data Need : Type 0 where
+  needed optional : Need
+
 pub data TableCommand : Type 0 where
-  textType emptyType sequenceType choiceType : TableCommand
+  textType emptyType sequenceType : TableCommand
+  choiceType : Need → TableCommand
   listType : ℕ → TableCommand
   member : ℕ → TableCommand
   tableEnd : TableCommand
@@ -50,9 +55,10 @@ tableCommand (bare b) =
     pick (eqb b 0x10) textType
     (pick (eqb b 0x11) emptyType
     (pick (eqb b 0x12) sequenceType
-    (pick (eqb b 0x13) choiceType
+    (pick (eqb b 0x13) (choiceType needed)
+    (pick (eqb b 0x17) (choiceType optional)
     (pick (eqb b 0x1F) tableEnd
-    alien))))
+    alien)))))
 tableCommand (paired b t) = pick (eqb b 0x14) (listType t) (pick (eqb b 0x15) (member t) alien)
 tableCommand (cut b) = alien
 
@@ -64,7 +70,7 @@ unfoldable pub tableWidth : TableCommand → ℕ
 tableWidth textType = 1
 tableWidth emptyType = 1
 tableWidth sequenceType = 1
-tableWidth choiceType = 1
+tableWidth (choiceType need) = 1
 tableWidth (listType t) = 2
 tableWidth (member t) = 2
 tableWidth tableEnd = 1

@@ -6,6 +6,7 @@ use mathlib.Core.List.{List, [], _∷_, _++_, List·Memᴰ}
 use Prim.Native.Nat.{ℕ}
 use lib.Dec.{T, eqb, leb}
 use Rattle.model.specs.Definitions.Basics.{memberOf}
+use Rattle.model.specs.Definitions.Commands.{Need, needed, optional}
 use Rattle.model.specs.Definitions.Table.{Kind, text, empty, sequence, choice, list, Table, kindOf, isText}
 use Rattle.model.specs.Definitions.Content.{Content, end, char, elem, document}
 
@@ -27,7 +28,9 @@ pub data Holds (S : Table) : Kind → Content → Type 0 where
   one-member : {m : ℕ} {ms : List ℕ} {k r : Content}
       → Holds S (kindOf S m) k → Holds S (sequence ms) r → Holds S (sequence (m ∷ ms)) (elem m k r)
   -- choice: exactly one member
-  chosen : {m : ℕ} {ms : List ℕ} {k : Content} → List·Memᴰ m ms → Holds S (kindOf S m) k → Holds S (choice ms) (elem m k end)
+  chosen : {need : Need} {m : ℕ} {ms : List ℕ} {k : Content} → List·Memᴰ m ms → Holds S (kindOf S m) k → Holds S (choice need ms) (elem m k end)
+  -- optional choice: one member, or nothing
+  left-out : {ms : List ℕ} → Holds S (choice optional ms) end
   -- list: zero or more items of its type
   no-item : {m : ℕ} → Holds S (list m) end
   one-item : {m : ℕ} {k r : Content} → Holds S (kindOf S m) k → Holds S (list m) r → Holds S (list m) (elem m k r)
@@ -55,7 +58,7 @@ admits text t = false
 admits empty t = false
 admits (sequence []) t = false
 admits (sequence (m ∷ ms)) t = eqb t m
-admits (choice ms) t = memberOf t ms
+admits (choice need ms) t = memberOf t ms
 admits (list m) t = eqb t m
 
 -- what may follow that element
@@ -64,7 +67,7 @@ after text = text
 after empty = empty
 after (sequence []) = sequence []
 after (sequence (m ∷ ms)) = sequence ms
-after (choice ms) = empty
+after (choice need ms) = empty
 after (list m) = list m
 
 -- whether the element may be closed
@@ -73,7 +76,8 @@ complete text = true
 complete empty = true
 complete (sequence []) = true
 complete (sequence (m ∷ ms)) = false
-complete (choice ms) = false
+complete (choice needed ms) = false
+complete (choice optional ms) = true
 complete (list m) = true
 
 -- whether k is what an element of kind κ holds

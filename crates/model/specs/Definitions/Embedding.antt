@@ -1,5 +1,6 @@
 -- 01 "Three kinds of document", Embedding; 000 section 4.1: a schema embedding, the map of element types and a path for
 -- each edge, and what a path does in the target table.
+use mathlib.Core.Bool.{Bool, true, false, _&&_}
 use mathlib.Core.List.{List, [], _∷_, map}
 use mathlib.Core.Option.{Option, none, some}
 use Prim.Native.Nat.{ℕ, _+_}
@@ -7,7 +8,7 @@ use lib.ListN.{getD}
 use lib.Dec.{eqb}
 use Rattle.model.specs.Definitions.Basics.{pick}
 use Rattle.model.specs.Definitions.Commands.{EmbeddingCommand, mapsTo, path, step, embeddingEnd, alienE, embeddingCommands, embeddingWidth}
-use Rattle.model.specs.Definitions.Table.{Kind, text, empty, sequence, choice, list, Table, kindOf, stepFrom}
+use Rattle.model.specs.Definitions.Table.{Kind, text, empty, sequence, choice, list, Table, kindOf, stepFrom, isChoice}
 
 -- an edge's path: its steps, and the offset of its 21 in the document, for marks
 pub record Edge : Type 0 where
@@ -32,6 +33,11 @@ targetOf E s = getD E s noMap .target
 -- the paths of source type s
 unfoldable pub pathsOf : Embedding → ℕ → List (List ℕ)
 pathsOf E s = map (λ (e : Edge). e .steps) (getD E s noMap .edges)
+
+-- the one path of a text or a list type, the first of the others
+unfoldable pub firstPath : List (List ℕ) → List ℕ
+firstPath [] = []
+firstPath (p ∷ ps) = p
 
 -- ---- the embedding that commands write
 
@@ -99,9 +105,21 @@ unfoldable pub divideAt : Kind → ℕ → List ℕ → Divided → Divided
 divideAt text p ps d = record { before = p ∷ d .before; item = d .item; rest = d .rest }
 divideAt empty p ps d = record { before = p ∷ d .before; item = d .item; rest = d .rest }
 divideAt (sequence ms) p ps d = record { before = p ∷ d .before; item = d .item; rest = d .rest }
-divideAt (choice ms) p ps d = record { before = p ∷ d .before; item = d .item; rest = d .rest }
+divideAt (choice need ms) p ps d = record { before = p ∷ d .before; item = d .item; rest = d .rest }
 divideAt (list m) p ps d = record { before = []; item = m; rest = ps }
 
 unfoldable pub divide : Table → ℕ → List ℕ → Divided
 divide T τ [] = record { before = []; item = 0; rest = [] }
 divide T τ (p ∷ ps) = divideAt (kindOf T τ) p ps (divide T (next T τ p) ps)
+
+-- the steps of a path before the first that leaves a choice
+unfoldable pub beforeChoice : Table → ℕ → List ℕ → List ℕ
+beforeChoice T τ [] = []
+beforeChoice T τ (p ∷ ps) = pick (isChoice (kindOf T τ)) [] (p ∷ beforeChoice T (next T τ p) ps)
+
+-- whether two rows of steps are the same
+unfoldable pub sameSteps : List ℕ → List ℕ → Bool
+sameSteps [] [] = true
+sameSteps [] (q ∷ qs) = false
+sameSteps (p ∷ ps) [] = false
+sameSteps (p ∷ ps) (q ∷ qs) = eqb p q && sameSteps ps qs

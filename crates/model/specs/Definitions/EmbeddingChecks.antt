@@ -7,9 +7,9 @@ use Prim.Native.Nat.{ℕ, zero, suc}
 use lib.ListN.{length}
 use lib.Dec.{ltb, eqb}
 use Rattle.model.specs.Definitions.Basics.{Verdict, passes, fails, Next, goes, stops, goesIf, run, pick, orElse, some-of}
-use Rattle.model.specs.Definitions.Commands.{EmbeddingCommand, mapsTo, path, step, embeddingEnd, alienE, embeddingCommands, embeddingWidth}
-use Rattle.model.specs.Definitions.Table.{Kind, text, empty, sequence, choice, list, Table, kindOf, edgesOf, stepFrom, isText, isSequence, isChoice, isList}
-use Rattle.model.specs.Definitions.Embedding.{Edge, TypeMap, Embedding, targetOf, endOf, leaves, Parting, beginning, apart, parting}
+use Rattle.model.specs.Definitions.Commands.{needed, optional, EmbeddingCommand, mapsTo, path, step, embeddingEnd, alienE, embeddingCommands, embeddingWidth}
+use Rattle.model.specs.Definitions.Table.{Kind, text, empty, sequence, choice, list, Table, kindOf, edgesOf, stepFrom, isText, isSequence, isChoice, isOptional, isList}
+use Rattle.model.specs.Definitions.Embedding.{Edge, TypeMap, Embedding, targetOf, endOf, leaves, Parting, beginning, apart, parting, beforeChoice, sameSteps, firstPath}
 
 -- ---- 2, form, with the count of types and of each type's edges
 
@@ -114,7 +114,7 @@ unfoldable pub endsOf : Embedding → Table → Kind → TypeMap → Verdict
 endsOf E T text f = firstEdge (endsAtText T (f .target)) (f .edges)
 endsOf E T empty f = passes
 endsOf E T (sequence ms) f = endsAt E T (f .target) ms (f .edges)
-endsOf E T (choice ms) f = endsAt E T (f .target) ms (f .edges)
+endsOf E T (choice need ms) f = endsAt E T (f .target) ms (f .edges)
 endsOf E T (list m) f = endsAt E T (f .target) (m ∷ []) (f .edges)
 
 unfoldable pub wrongEnd : Table → Table → Embedding → Verdict
@@ -131,33 +131,46 @@ sequenceOrList κ = isSequence κ || isList κ
 unfoldable pub sequenceOrChoice : Kind → Bool
 sequenceOrChoice κ = isSequence κ || isChoice κ
 
+-- whether some choice is left, and the first of them is an optional one
+unfoldable pub optionalFirst : List Kind → Bool
+optionalFirst [] = false
+optionalFirst (κ ∷ κs) = pick (isChoice κ) (isOptional κ) (optionalFirst κs)
+
 -- Which kinds the steps of a path leave, by the kind of the source type. From a sequence: one or more steps, each
--- leaving a sequence or a list; a character path: the same steps, or none; from a choice: sequences and choices, at
--- least one choice; from a list: sequences and lists, at least one list.
+-- leaving a sequence or a list; a character path: the same steps, or none; from a choice: sequences and choices of
+-- either kind, at least one choice; from an optional choice: the same, and the first choice left is an optional one; from a
+-- list: sequences and lists, at least one list.
 unfoldable pub rightSteps : Kind → List Kind → Bool
 rightSteps text κs = leavesOnly sequenceOrList κs
 rightSteps empty κs = true
 rightSteps (sequence ms) κs = leavesOnly sequenceOrList κs && some-of (λ κ. true) κs
-rightSteps (choice ms) κs = leavesOnly sequenceOrChoice κs && some-of isChoice κs
+rightSteps (choice needed ms) κs = leavesOnly sequenceOrChoice κs && some-of isChoice κs
+rightSteps (choice optional ms) κs = leavesOnly sequenceOrChoice κs && optionalFirst κs
 rightSteps (list m) κs = leavesOnly sequenceOrList κs && some-of isList κs
 
+-- From an optional choice, a path's steps before its first choice step are also those of the type's first path.
+unfoldable pub agrees : Table → Kind → ℕ → List ℕ → List ℕ → Bool
+agrees T κ τ first ps = not (isOptional κ) || sameSteps (beforeChoice T τ first) (beforeChoice T τ ps)
+
 unfoldable pub stepsOf : Table → Kind → TypeMap → Verdict
-stepsOf T κ f = firstEdge (λ e. rightSteps κ (leaves T (f .target) (e .steps))) (f .edges)
+stepsOf T κ f =
+    let first = firstPath (map (λ (e : Edge). e .steps) (f .edges)) in
+    firstEdge (λ e. rightSteps κ (leaves T (f .target) (e .steps)) && agrees T κ (f .target) first (e .steps)) (f .edges)
 
 unfoldable pub wrongSteps : Table → Table → Embedding → Verdict
 wrongSteps S T E = eachType (stepsOf T) S E
 
 -- ---- 10, clashes
 
--- Two members of a sequence: neither path is a beginning of the other, and they differ. Two members of a choice: the
--- same, and the first step where the paths differ leaves a choice.
+-- Two members of a sequence: neither path is a beginning of the other, and they differ. Two members of a choice of
+-- either kind: the same, and the first step where the paths differ leaves a choice of either kind.
 unfoldable pub clashing : Kind → Parting → Bool
 clashing text v = false
 clashing empty v = false
 clashing (sequence ms) beginning = true
 clashing (sequence ms) (apart κ) = false
-clashing (choice ms) beginning = true
-clashing (choice ms) (apart κ) = not (isChoice κ)
+clashing (choice need ms) beginning = true
+clashing (choice need ms) (apart κ) = not (isChoice κ)
 clashing (list m) v = false
 
 -- whether two paths from target type τ, of members of a source type of kind κ, clash

@@ -9,6 +9,7 @@ use mathlib.Core.List.{List, [], _∷_, map}
 use Prim.Native.Nat.{ℕ, zero, suc, _+_, max}
 use lib.ListN.{length, getD}
 use Rattle.model.specs.Definitions.Basics.{pick}
+use Rattle.model.specs.Definitions.Commands.{needed, optional}
 use Rattle.model.specs.Definitions.Table.{Kind, text, empty, sequence, choice, list, Table}
 use Rattle.model.specs.Definitions.Heights.{heights, leastMember}
 use Rattle.model.specs.Definitions.Content.{Content, end, char, elem}
@@ -47,13 +48,14 @@ unfoldable pub fillMembers : {A : Type 0} → Builder A → List A → List ℕ 
 fillMembers B fs [] = B .none
 fillMembers B fs (m ∷ ms) = B .element false m (known B fs m) (fillMembers B fs ms)
 
--- an empty text, an empty list, all members of a sequence, and of a choice the member of least height, the earliest of
--- equals; hs are the heights
+-- an empty text, an empty list, nothing of an optional choice, all members of a sequence, and of a choice the member of
+-- least height, the earliest of equals; hs are the heights
 unfoldable pub fillKind : {A : Type 0} → Builder A → List ℕ → List A → Kind → A
 fillKind B hs fs text = B .none
 fillKind B hs fs empty = B .none
 fillKind B hs fs (sequence ms) = fillMembers B fs ms
-fillKind B hs fs (choice ms) = fillMembers B fs (leastMember hs ms ∷ [])
+fillKind B hs fs (choice needed ms) = fillMembers B fs (leastMember hs ms ∷ [])
+fillKind B hs fs (choice optional ms) = B .none
 fillKind B hs fs (list m) = B .none
 
 -- the filler of all types by rounds: after n rounds that of each type whose height is at most n + 1

@@ -1,8 +1,8 @@
 -- 01 "The image and the filler": heights, and with them "each type must have a finite instance" of "Table".
 --
--- Heights are the least numbers such that text, empty and list types have 1, a sequence 1 more than its highest member, a
--- choice 1 more than its lowest. `heightsTo T n` are the heights held at n: a height above n counts as n. They come by
--- rounds, each from the round before, so they are there for every table. A type has a finite instance exactly where
+-- Heights are the least numbers such that text, empty, list and optional choice types have 1, a sequence 1 more than its
+-- highest member, a choice 1 more than its lowest. `heightsTo T n` are the heights held at n: a height above n counts as n.
+-- They come by rounds, each from the round before, so they are there for every table. A type has a finite instance exactly where
 -- its height is at most the number of types: a smallest instance has no type twice on the way down.
 use mathlib.Core.Bool.{Bool}
 use mathlib.Core.List.{List, [], _∷_, map}
@@ -10,6 +10,7 @@ use Prim.Native.Nat.{ℕ, zero, suc, max, min}
 use lib.ListN.{length, getD}
 use lib.Dec.{leb}
 use Rattle.model.specs.Definitions.Basics.{Verdict, passes, fails, pick}
+use Rattle.model.specs.Definitions.Commands.{needed, optional}
 use Rattle.model.specs.Definitions.Table.{Kind, text, empty, sequence, choice, list, Table}
 
 -- the height that a list of heights gives a type
@@ -30,7 +31,8 @@ unfoldable pub heightOfKind : List ℕ → Kind → ℕ
 heightOfKind hs text = 1
 heightOfKind hs empty = 1
 heightOfKind hs (sequence ms) = suc (highest hs ms)
-heightOfKind hs (choice ms) = suc (lowest hs ms)
+heightOfKind hs (choice needed ms) = suc (lowest hs ms)
+heightOfKind hs (choice optional ms) = 1
 heightOfKind hs (list m) = 1
 
 -- the heights of all types, held at n

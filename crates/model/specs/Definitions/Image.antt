@@ -7,7 +7,7 @@ use lib.Dec.{eqb}
 use Rattle.model.specs.Definitions.Basics.{pick}
 use Rattle.model.specs.Definitions.Table.{Kind, text, empty, sequence, choice, list, Table, kindOf}
 use Rattle.model.specs.Definitions.Content.{Content, end, char, elem}
-use Rattle.model.specs.Definitions.Embedding.{Embedding, targetOf, pathsOf, next, divide, Divided}
+use Rattle.model.specs.Definitions.Embedding.{Embedding, targetOf, pathsOf, firstPath, next, divide, Divided, beforeChoice}
 use Rattle.model.specs.Definitions.EmbeddingChecks.{maxSteps}
 use Rattle.model.specs.Definitions.Filler.{Builder, content, levelsOf, lengthOf, fillersOf, known, fillers}
 
@@ -49,7 +49,7 @@ unfoldable pub growKind : {A : Type 0} → Builder A → (ℕ → List (Placemen
 growKind B inside ps p τ text = B .none
 growKind B inside ps p τ empty = B .none
 growKind B inside ps p τ (sequence ms) = growMembers B inside ps 1 ms
-growKind B inside ps p τ (choice ms) = B .element true τ (inside τ (under p ps)) (B .none)
+growKind B inside ps p τ (choice need ms) = B .element true τ (inside τ (under p ps)) (B .none)
 growKind B inside ps p τ (list m) = B .element true m (inside m (under p ps)) (B .none)
 
 -- What a target element of type τ holds, given what is placed below it: what stands right at it; else by its kind; with
@@ -90,15 +90,12 @@ pathOfMember t [] ps = []
 pathOfMember t (m ∷ ms) [] = []
 pathOfMember t (m ∷ ms) (p ∷ ps) = pick (eqb t m) p (pathOfMember t ms ps)
 
-unfoldable pub alongChoice : {A : Type 0} → List ℕ → List (List ℕ) → List (Child A) → List (Placement A)
-alongChoice ms ps [] = []
-alongChoice ms ps (letter c ∷ ks) = []
-alongChoice ms ps (element t a ∷ ks) = placed (pathOfMember t ms ps) a ∷ []
-
--- the one path of a text or a list type
-unfoldable pub onlyPath : List (List ℕ) → List ℕ
-onlyPath [] = []
-onlyPath (p ∷ ps) = p
+-- The one member of a choice along its path. Where an optional choice holds nothing, the path is built up to the optional
+-- choice that all paths agree on, which stands at the end of `shared` and is left empty.
+unfoldable pub alongChoice : {A : Type 0} → Builder A → List ℕ → List ℕ → List (List ℕ) → List (Child A) → List (Placement A)
+alongChoice B shared ms ps [] = placed shared (B .none) ∷ []
+alongChoice B shared ms ps (letter c ∷ ks) = placed shared (B .none) ∷ []
+alongChoice B shared ms ps (element t a ∷ ks) = placed (pathOfMember t ms ps) a ∷ []
 
 -- one target item for each source item, in order, with the rest of the path built under each
 unfoldable pub itemsOf : {A : Type 0} → Builder A → (List (Placement A) → A) → Divided → List (Child A) → A
@@ -113,11 +110,11 @@ alongList B T fs d ks = placed (d .before) (itemsOf B (place B T fs (d .item)) d
 -- For a source list, the first list on its path receives the items, and the path is built up to it even for none;
 -- characters go to the end of their path, which is built even for none.
 unfoldable pub placements : {A : Type 0} → Builder A → Table → List A → Kind → ℕ → List (List ℕ) → List (Child A) → List (Placement A)
-placements B T fs text τ ps ks = placed (onlyPath ps) (lettersOf B ks) ∷ []
+placements B T fs text τ ps ks = placed (firstPath ps) (lettersOf B ks) ∷ []
 placements B T fs empty τ ps ks = []
 placements B T fs (sequence ms) τ ps ks = alongPaths ps ks
-placements B T fs (choice ms) τ ps ks = alongChoice ms ps ks
-placements B T fs (list m) τ ps ks = alongList B T fs (divide T τ (onlyPath ps)) ks
+placements B T fs (choice need ms) τ ps ks = alongChoice B (beforeChoice T τ (firstPath ps)) ms ps ks
+placements B T fs (list m) τ ps ks = alongList B T fs (divide T τ (firstPath ps)) ks
 
 -- what the image of a source element of type s holds
 unfoldable pub imageOfElement : {A : Type 0} → Builder A → Setting → List A → ℕ → List (Child A) → A

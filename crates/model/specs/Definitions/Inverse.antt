@@ -1,19 +1,21 @@
 -- 000 section 4.2 and 01 "Refusal answers", 15: reading a target document along the paths, and bringing back.
 --
 -- Reading follows only the paths. Where a path goes through a list that stands for one item, the first item is
--- followed; a choice reads as the first member whose path is there. So it also reads documents that are no images;
--- bringing back then asks that the given document is the image of what was read.
+-- followed; a choice reads as the first member whose path is there, and an optional choice as nothing where the optional
+-- choice that its paths agree on is there and empty. So it also reads documents that are no images; bringing back then
+-- asks that the given document is the image of what was read.
 use mathlib.Core.Bool.{_&&_}
 use mathlib.Core.List.{List, [], _∷_}
 use mathlib.Core.Option.{Option, none, some}
 use Prim.Native.Nat.{ℕ, zero, suc}
 use lib.Dec.{eqb}
 use Rattle.model.specs.Definitions.Basics.{pick, andThen}
+use Rattle.model.specs.Definitions.Commands.{needed, optional}
 use Rattle.model.specs.Definitions.Table.{Kind, text, empty, sequence, choice, list, Table, kindOf}
 use Rattle.model.specs.Definitions.Content.{Content, end, char, elem, levels, same}
 use Rattle.model.specs.Definitions.Conformance.{conforms}
-use Rattle.model.specs.Definitions.Embedding.{targetOf, pathsOf, next, divide, Divided}
-use Rattle.model.specs.Definitions.Image.{Setting, onlyPath, image}
+use Rattle.model.specs.Definitions.Embedding.{targetOf, pathsOf, firstPath, next, divide, Divided, beforeChoice}
+use Rattle.model.specs.Definitions.Image.{Setting, image}
 
 -- ---- one path
 
@@ -36,7 +38,7 @@ unfoldable pub enter : Kind → ℕ → ℕ → Content → Option Content
 enter text p τ k = none
 enter empty p τ k = none
 enter (sequence ms) p τ k = childAt k p
-enter (choice ms) p τ k = childOfType k τ
+enter (choice need ms) p τ k = childOfType k τ
 enter (list m) p τ k = childAt k 1
 
 -- what the element at the end of a path holds, from an element of type τ that holds k
@@ -67,6 +69,13 @@ readChoice read at (m ∷ ms) (p ∷ ps) =
     let later = readChoice read at ms ps in
     readIfThere read m (at p) later
 
+-- nothing where an empty element was found, else what the members give
+unfoldable pub unlessEmpty : Option Content → Option Content → Option Content
+unlessEmpty none member = member
+unlessEmpty (some end) member = some end
+unlessEmpty (some (char c r)) member = member
+unlessEmpty (some (elem t k r)) member = member
+
 -- an item for each item of the target list; `beyond` follows the rest of the path
 unfoldable pub readItems : (ℕ → Content → Option Content) → (Content → Option Content) → ℕ → Content → Option Content
 readItems read beyond m end = some end
@@ -77,11 +86,12 @@ unfoldable pub readList : (ℕ → Content → Option Content) → Table → ℕ
 readList read T τ d m k = andThen (follow T τ (d .before) k) (λ items. readItems read (follow T (d .item) (d .rest)) m items)
 
 unfoldable pub readKind : (ℕ → Content → Option Content) → Table → Kind → ℕ → List (List ℕ) → Content → Option Content
-readKind read T text τ ps k = follow T τ (onlyPath ps) k
+readKind read T text τ ps k = follow T τ (firstPath ps) k
 readKind read T empty τ ps k = some end
 readKind read T (sequence ms) τ ps k = readMembers read (λ p. follow T τ p k) ms ps
-readKind read T (choice ms) τ ps k = readChoice read (λ p. follow T τ p k) ms ps
-readKind read T (list m) τ ps k = readList read T τ (divide T τ (onlyPath ps)) m k
+readKind read T (choice needed ms) τ ps k = readChoice read (λ p. follow T τ p k) ms ps
+readKind read T (choice optional ms) τ ps k = unlessEmpty (follow T τ (beforeChoice T τ (firstPath ps)) k) (readChoice read (λ p. follow T τ p k) ms ps)
+readKind read T (list m) τ ps k = readList read T τ (divide T τ (firstPath ps)) m k
 
 -- what a source element of type s holds, read from k, which its image holds; n bounds the levels of k
 unfoldable pub readTo : Setting → ℕ → ℕ → Content → Option Content

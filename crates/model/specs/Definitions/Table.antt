@@ -5,14 +5,15 @@ use mathlib.Core.Option.{Option}
 use Prim.Native.Nat.{ℕ}
 use lib.ListN.{length, getD}
 use Rattle.model.specs.Definitions.Basics.{entry}
-use Rattle.model.specs.Definitions.Commands.{TableCommand, textType, emptyType, sequenceType, choiceType, listType, member, tableEnd, alien, tableCommands}
+use Rattle.model.specs.Definitions.Commands.{Need, needed, optional, TableCommand, textType, emptyType, sequenceType, choiceType, listType, member, tableEnd, alien, tableCommands}
 
--- what an element of a type holds: characters; nothing; all members, in order; exactly one member; items of one type
+-- what an element of a type holds: characters; nothing; all members, in order; exactly one member, or of an optional
+-- choice one or nothing; items of one type
 pub data Kind : Type 0 where
   text : Kind
   empty : Kind
   sequence : List ℕ → Kind
-  choice : List ℕ → Kind
+  choice : Need → List ℕ → Kind
   list : ℕ → Kind
 
 -- types are numbered from 0 in the order written
@@ -28,7 +29,7 @@ unfoldable pub membersOf : Kind → List ℕ
 membersOf text = []
 membersOf empty = []
 membersOf (sequence ms) = ms
-membersOf (choice ms) = ms
+membersOf (choice need ms) = ms
 membersOf (list m) = m ∷ []
 
 -- 01, Embedding: step p goes from a sequence or choice to its member p, counted from 1, and from a list only by 1;
@@ -41,7 +42,7 @@ unfoldable pub edgesOf : Kind → ℕ
 edgesOf text = 1
 edgesOf empty = 0
 edgesOf (sequence ms) = length ms
-edgesOf (choice ms) = length ms
+edgesOf (choice need ms) = length ms
 edgesOf (list m) = 1
 
 -- ---- tests of a kind
@@ -50,28 +51,37 @@ unfoldable pub isText : Kind → Bool
 isText text = true
 isText empty = false
 isText (sequence ms) = false
-isText (choice ms) = false
+isText (choice need ms) = false
 isText (list m) = false
 
 unfoldable pub isSequence : Kind → Bool
 isSequence text = false
 isSequence empty = false
 isSequence (sequence ms) = true
-isSequence (choice ms) = false
+isSequence (choice need ms) = false
 isSequence (list m) = false
 
+-- a choice of either kind
 unfoldable pub isChoice : Kind → Bool
 isChoice text = false
 isChoice empty = false
 isChoice (sequence ms) = false
-isChoice (choice ms) = true
+isChoice (choice need ms) = true
 isChoice (list m) = false
+
+unfoldable pub isOptional : Kind → Bool
+isOptional text = false
+isOptional empty = false
+isOptional (sequence ms) = false
+isOptional (choice needed ms) = false
+isOptional (choice optional ms) = true
+isOptional (list m) = false
 
 unfoldable pub isList : Kind → Bool
 isList text = false
 isList empty = false
 isList (sequence ms) = false
-isList (choice ms) = false
+isList (choice need ms) = false
 isList (list m) = true
 
 -- ---- the table that commands write
@@ -86,7 +96,7 @@ unfoldable pub withCommand : TableCommand → TableTail → TableTail
 withCommand textType r = record { members = []; kinds = text ∷ r .kinds }
 withCommand emptyType r = record { members = []; kinds = empty ∷ r .kinds }
 withCommand sequenceType r = record { members = []; kinds = sequence (r .members) ∷ r .kinds }
-withCommand choiceType r = record { members = []; kinds = choice (r .members) ∷ r .kinds }
+withCommand (choiceType need) r = record { members = []; kinds = choice need (r .members) ∷ r .kinds }
 withCommand (listType t) r = record { members = []; kinds = list t ∷ r .kinds }
 withCommand (member t) r = record { members = t ∷ r .members; kinds = r .kinds }
 withCommand tableEnd r = r

@@ -4,7 +4,7 @@ use mathlib.Core.List.{List, [], _∷_}
 use Prim.Native.Nat.{ℕ, zero, suc}
 use lib.Dec.{ltb}
 use Rattle.model.specs.Definitions.Basics.{Verdict, Next, goes, stops, goesIf, run, memberOf}
-use Rattle.model.specs.Definitions.Commands.{TableCommand, textType, emptyType, sequenceType, choiceType, listType, member, tableEnd, alien, tableCommands, tableWidth}
+use Rattle.model.specs.Definitions.Commands.{needed, optional, TableCommand, textType, emptyType, sequenceType, choiceType, listType, member, tableEnd, alien, tableCommands, tableWidth}
 
 -- ---- 2, form
 
@@ -26,7 +26,8 @@ unfoldable pub tableRole : TableCommand → TableRole
 tableRole textType = begins whole
 tableRole emptyType = begins whole
 tableRole sequenceType = begins (members 1)
-tableRole choiceType = begins (members 2)
+tableRole (choiceType needed) = begins (members 2)
+tableRole (choiceType optional) = begins (members 1)
 tableRole (listType t) = begins whole
 tableRole (member t) = joins
 tableRole tableEnd = finishes
@@ -86,7 +87,7 @@ unfoldable pub limitStep : TableCount → TableCommand → Next TableCount
 limitStep n textType = oneTypeMore n
 limitStep n emptyType = oneTypeMore n
 limitStep n sequenceType = oneTypeMore n
-limitStep n choiceType = oneTypeMore n
+limitStep n (choiceType need) = oneTypeMore n
 limitStep n (listType t) = oneTypeMore n
 limitStep n (member t) = goesIf (ltb (n .members) maxMembers) (record { types = n .types; members = suc (n .members) })
 limitStep n tableEnd = goes n
@@ -102,7 +103,7 @@ unfoldable pub namesType : ℕ → Unit {0} → TableCommand → Next (Unit {0})
 namesType types u textType = goes u
 namesType types u emptyType = goes u
 namesType types u sequenceType = goes u
-namesType types u choiceType = goes u
+namesType types u (choiceType need) = goes u
 namesType types u (listType t) = goesIf (ltb t types) u
 namesType types u (member t) = goesIf (ltb t types) u
 namesType types u tableEnd = goes u
@@ -127,7 +128,7 @@ unfoldable pub repeatStep : Chosen → TableCommand → Next Chosen
 repeatStep s textType = goes elsewhere
 repeatStep s emptyType = goes elsewhere
 repeatStep s sequenceType = goes elsewhere
-repeatStep s choiceType = goes (among [])
+repeatStep s (choiceType need) = goes (among [])
 repeatStep s (listType t) = goes elsewhere
 repeatStep s (member t) = chooses s t
 repeatStep s tableEnd = goes s

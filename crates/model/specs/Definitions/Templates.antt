@@ -4,18 +4,20 @@
 -- `Builder`.
 use mathlib.Core.Bool.{Bool, true, false}
 use mathlib.Core.List.{List, [], _∷_, _++_}
+use mathlib.Core.Option.{Option, none, some}
 use Prim.Native.Nat.{ℕ, zero, suc, _+_, _-_, max}
 use lib.ListN.{length, getD}
 use Rattle.model.specs.Definitions.Table.{Kind, text, empty, sequence, choice, list, Table, kindOf}
 use Rattle.model.specs.Definitions.Content.{Content, end, char, elem, bytes}
-use Rattle.model.specs.Definitions.Embedding.{targetOf, pathsOf, divide, Divided}
+use Rattle.model.specs.Definitions.Embedding.{targetOf, pathsOf, firstPath, divide, Divided, beforeChoice}
 use Rattle.model.specs.Definitions.Heights.{heightOf}
 use Rattle.model.specs.Definitions.Filler.{Builder, content, known, fillers, fillerLength}
-use Rattle.model.specs.Definitions.Image.{Setting, Placement, placed, place, Child, letter, element, lettersOf, pathOfMember, onlyPath}
+use Rattle.model.specs.Definitions.Image.{Setting, Placement, placed, place, Child, letter, element, lettersOf, pathOfMember}
 
 -- ---- the image of one element, from what stands in its holes
 
--- a hole: the characters of a text, the image of child number i, the items of a list
+-- a hole: the characters of a text (of an optional choice that holds nothing there are none), the image of child number i, the
+-- items of a list
 pub data Hole : Type 0 where
   characters : Hole
   child : ℕ → Hole
@@ -26,24 +28,30 @@ unfoldable pub holesAlong : {A : Type 0} → (ℕ → A) → List (List ℕ) →
 holesAlong held [] = []
 holesAlong held (p ∷ ps) = placed p (held 0) ∷ holesAlong (λ i. held (suc i)) ps
 
--- The holes of a source element of kind κ: the characters of a text, each member of a sequence, the one member of a choice,
--- which has type t, and the items of a list, in the first list on the path.
-unfoldable pub holesOf : {A : Type 0} → (Hole → A) → Table → Kind → ℕ → List (List ℕ) → ℕ → List (Placement A)
-holesOf held T text τ ps t = placed (onlyPath ps) (held characters) ∷ []
+-- The hole of a choice: its one member, of type t, at the end of that member's path; where it has none, the characters, of which
+-- there are none, at the end of the steps that all paths share.
+unfoldable pub choiceHole : {A : Type 0} → (Hole → A) → List ℕ → List ℕ → List (List ℕ) → Option ℕ → Placement A
+choiceHole held shared ms ps none = placed shared (held characters)
+choiceHole held shared ms ps (some t) = placed (pathOfMember t ms ps) (held (child 0))
+
+-- The holes of a source element of kind κ whose first child, if it has one, has type t: the characters of a text, each member of a
+-- sequence, the hole of a choice, and the items of a list, in the first list on the path.
+unfoldable pub holesOf : {A : Type 0} → (Hole → A) → Table → Kind → ℕ → List (List ℕ) → Option ℕ → List (Placement A)
+holesOf held T text τ ps t = placed (firstPath ps) (held characters) ∷ []
 holesOf held T empty τ ps t = []
 holesOf held T (sequence ms) τ ps t = holesAlong (λ i. held (child i)) ps
-holesOf held T (choice ms) τ ps t = placed (pathOfMember t ms ps) (held (child 0)) ∷ []
-holesOf held T (list m) τ ps t = placed (divide T τ (onlyPath ps) .before) (held items) ∷ []
+holesOf held T (choice need ms) τ ps t = choiceHole held (beforeChoice T τ (firstPath ps)) ms ps t ∷ []
+holesOf held T (list m) τ ps t = placed (divide T τ (firstPath ps) .before) (held items) ∷ []
 
--- what the image of a source element of type s holds, given what stands in its holes; t is the type of a choice's member
-unfoldable pub templateBy : {A : Type 0} → Builder A → (Hole → A) → Setting → ℕ → ℕ → A
+-- what the image of a source element of type s holds, given what stands in its holes; t is the type of its first child, if it has one
+unfoldable pub templateBy : {A : Type 0} → Builder A → (Hole → A) → Setting → ℕ → Option ℕ → A
 templateBy B held X s t =
     place B (X .target) (fillers B (X .target)) (targetOf (X .embedding) s)
     (holesOf held (X .target) (kindOf (X .source) s) (targetOf (X .embedding) s) (pathsOf (X .embedding) s) t)
 
 -- the path of a source list, divided at the first list on it
 unfoldable pub dividedOf : Setting → ℕ → Divided
-dividedOf X s = divide (X .target) (targetOf (X .embedding) s) (onlyPath (pathsOf (X .embedding) s))
+dividedOf X s = divide (X .target) (targetOf (X .embedding) s) (firstPath (pathsOf (X .embedding) s))
 
 -- one target item of a source list of type s, given what the image of the source item holds, and the items after it
 unfoldable pub itemBy : {A : Type 0} → Builder A → Setting → ℕ → A → A → A
@@ -60,11 +68,11 @@ heldByChild B (letter c ∷ ks) i = heldByChild B ks i
 heldByChild B (element t a ∷ ks) zero = a
 heldByChild B (element t a ∷ ks) (suc i) = heldByChild B ks i
 
--- the type of the first child: the member of a choice
-unfoldable pub firstType : {A : Type 0} → List (Child A) → ℕ
-firstType [] = 0
+-- the type of the first child, if there is one: the member of a choice
+unfoldable pub firstType : {A : Type 0} → List (Child A) → Option ℕ
+firstType [] = none
 firstType (letter c ∷ ks) = firstType ks
-firstType (element t a ∷ ks) = t
+firstType (element t a ∷ ks) = some t
 
 -- the items of a list, each by `item`
 unfoldable pub itemsBy : {A : Type 0} → Builder A → (A → A → A) → List (Child A) → A
@@ -104,8 +112,8 @@ rowOf (gap h) = hole h ∷ []
 rowOf (framed true t k r) = opening t ∷ (rowOf k ++ closing ∷ rowOf r)
 rowOf (framed false t k r) = filler t ∷ rowOf r
 
--- the template of source type s, and of its member of type t where s is a choice
-unfoldable pub template : Setting → ℕ → ℕ → List Symbol
+-- the template of source type s; where s is a choice, that of its member of type t, or of none
+unfoldable pub template : Setting → ℕ → Option ℕ → List Symbol
 template X s t = rowOf (templateBy shaped gap X s t)
 
 -- the template of an item of source list s: child 0 is the source item
@@ -179,33 +187,33 @@ rowFiller fill (hole h ∷ row) = rowFiller fill row
 
 -- ---- sums over a source document
 
--- the type of the first element of some content: the member of a choice
-unfoldable pub firstIn : Content → ℕ
-firstIn end = 0
+-- the type of the first element of some content, if there is one: the member of a choice
+unfoldable pub firstIn : Content → Option ℕ
+firstIn end = none
 firstIn (char c r) = firstIn r
-firstIn (elem t k r) = t
+firstIn (elem t k r) = some t
 
 -- the steps that lead to the image of child number i, of type t, of an element of kind κ whose edges have the paths ps
 unfoldable pub depthOf : Kind → List (List ℕ) → ℕ → ℕ → ℕ
 depthOf text ps i t = 0
 depthOf empty ps i t = 0
 depthOf (sequence ms) ps i t = length (getD ps i [])
-depthOf (choice ms) ps i t = length (pathOfMember t ms ps)
-depthOf (list m) ps i t = length (onlyPath ps)
+depthOf (choice need ms) ps i t = length (pathOfMember t ms ps)
+depthOf (list m) ps i t = length (firstPath ps)
 
 -- what stands around each item of a list; nothing where the kind is no list
 unfoldable pub around : Kind → ℕ → ℕ
 around text n = 0
 around empty n = 0
 around (sequence ms) n = 0
-around (choice ms) n = 0
+around (choice need ms) n = 0
 around (list m) n = n
 
--- the bytes of the row of an element of type s whose first child has type t, of its filler, and of an item's row
-unfoldable pub ownLength : Setting → ℕ → ℕ → ℕ
+-- the bytes of the row of an element of type s whose first child, if it has one, has type t, of its filler, and of an item's row
+unfoldable pub ownLength : Setting → ℕ → Option ℕ → ℕ
 ownLength X s t = rowLength (fillerLength (X .target)) (template X s t)
 
-unfoldable pub ownFiller : Setting → ℕ → ℕ → ℕ
+unfoldable pub ownFiller : Setting → ℕ → Option ℕ → ℕ
 ownFiller X s t = rowFiller (fillerLength (X .target)) (template X s t)
 
 unfoldable pub itemLength : Setting → ℕ → ℕ
@@ -215,7 +223,7 @@ unfoldable pub itemFiller : Setting → ℕ → ℕ
 itemFiller X s = rowFiller (fillerLength (X .target)) (itemTemplate X s)
 
 -- the levels of these rows; an item's row stands below the list
-unfoldable pub ownLevels : Setting → ℕ → ℕ → ℕ
+unfoldable pub ownLevels : Setting → ℕ → Option ℕ → ℕ
 ownLevels X s t = rowLevels (heightOf (X .target)) 0 (template X s t)
 
 unfoldable pub itemLevels : Setting → ℕ → ℕ
@@ -247,10 +255,10 @@ deepest X s i (elem t k r) =
 
 -- what a function makes of element number i of some content, from its type and what it holds
 unfoldable pub atChild : {A : Type 0} → A → (ℕ → Content → A) → Content → ℕ → A
-atChild none f end i = none
-atChild none f (char c r) i = atChild none f r i
-atChild none f (elem t k r) zero = f t k
-atChild none f (elem t k r) (suc i) = atChild none f r i
+atChild absent f end i = absent
+atChild absent f (char c r) i = atChild absent f r i
+atChild absent f (elem t k r) zero = f t k
+atChild absent f (elem t k r) (suc i) = atChild absent f r i
 
 -- what it makes of all of them, one after the other
 unfoldable pub overChildren : (ℕ → Content → List ℕ) → Content → List ℕ

@@ -6,7 +6,7 @@ use Prim.Native.Nat.{ℕ, _<_}
 use lib.ListN.{length}
 use Rattle.model.specs.Definitions.Table.{Kind, Table, kindOf, membersOf}
 use Rattle.model.specs.Definitions.Content.{Content, end, char, elem}
-use Rattle.model.specs.Definitions.Conformance.{Holds, no-character, one-character, nothing, no-member, one-member, chosen, no-item, one-item}
+use Rattle.model.specs.Definitions.Conformance.{Holds, no-character, one-character, nothing, no-member, one-member, chosen, left-out, no-item, one-item}
 use Rattle.model.specs.Theorems.Facts.{WellFormed}
 
 -- P of every element of a content, by its type and what it holds; not of the elements below those
@@ -30,6 +30,7 @@ module _
   each-of (one-member {m = m} {k = k} hk hr) f =
       each-elem (step m k (f m (List·Memᴰ·head refl)) hk (each-of hk (λ n. wf .members-exist m n))) (each-of hr (λ n e. f n (List·Memᴰ·tail e)))
   each-of (chosen {m = m} {k = k} e hk) f = each-elem (step m k (f m e) hk (each-of hk (λ n. wf .members-exist m n))) each-end
+  each-of left-out f = each-end
   each-of no-item f = each-end
   each-of (one-item {m = m} {k = k} hk hr) f =
       each-elem (step m k (f m (List·Memᴰ·head refl)) hk (each-of hk (λ n. wf .members-exist m n))) (each-of hr f)

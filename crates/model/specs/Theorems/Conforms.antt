@@ -6,9 +6,10 @@ use Prim.Native.Nat.{ℕ}
 use lib.Dec.{T, eqb}
 use borrow.Author.Tests.{eqb-true, eq-eqb}
 use Rattle.model.specs.Definitions.Basics.{memberOf}
+use Rattle.model.specs.Definitions.Commands.{needed, optional}
 use Rattle.model.specs.Definitions.Table.{Kind, text, empty, sequence, choice, list, Table, kindOf, isText}
 use Rattle.model.specs.Definitions.Content.{Content, end, char, elem}
-use Rattle.model.specs.Definitions.Conformance.{allowed, Holds, no-character, one-character, nothing, no-member, one-member, chosen, no-item, one-item, admits, after, complete, conforms}
+use Rattle.model.specs.Definitions.Conformance.{allowed, Holds, no-character, one-character, nothing, no-member, one-member, chosen, left-out, no-item, one-item, admits, after, complete, conforms}
 use Rattle.model.specs.Theorems.Tools.{true-false, and-left, and-right, and-both, member-sound}
 
 -- a test that is true, as a type
@@ -39,6 +40,7 @@ holds-conforms nothing = refl
 holds-conforms no-member = refl
 holds-conforms (one-member {m = m} h hs) = and-both (and-both (eq-eqb m m refl) (holds-conforms h)) (holds-conforms hs)
 holds-conforms (chosen m h) = and-both (and-both (member-complete m) (holds-conforms h)) refl
+holds-conforms left-out = refl
 holds-conforms no-item = refl
 holds-conforms (one-item {m = m} h hs) = and-both (and-both (eq-eqb m m refl) (holds-conforms h)) (holds-conforms hs)
 
@@ -67,12 +69,13 @@ conforms-holds S text end e = no-character
 conforms-holds S empty end e = nothing
 conforms-holds S (sequence []) end e = no-member
 conforms-holds S (sequence (m ∷ ms)) end e = true-false e refl
-conforms-holds S (choice ms) end e = true-false e refl
+conforms-holds S (choice needed ms) end e = true-false e refl
+conforms-holds S (choice optional ms) end e = left-out
 conforms-holds S (list m) end e = no-item
 conforms-holds S text (char c r) e = one-character (test-holds (allowed c) (and-left (allowed c) (conforms S text r) e)) (conforms-holds S text r (and-right (allowed c) (conforms S text r) e))
 conforms-holds S empty (char c r) e = true-false e refl
 conforms-holds S (sequence ms) (char c r) e = true-false e refl
-conforms-holds S (choice ms) (char c r) e = true-false e refl
+conforms-holds S (choice need ms) (char c r) e = true-false e refl
 conforms-holds S (list m) (char c r) e = true-false e refl
 conforms-holds S text (elem t k r) e = true-false e refl
 conforms-holds S empty (elem t k r) e = true-false e refl
@@ -81,8 +84,8 @@ conforms-holds S (sequence (m ∷ ms)) (elem t k r) e =
     let p : (eqb t m ≡ true) × (conforms S (kindOf S t) k ≡ true) × (conforms S (sequence ms) r ≡ true) = elem-parts S (sequence (m ∷ ms)) t k r e in
     let same : m ≡ t = sym (eqb-true t m (p .0)) in
     rw same (one-member (conforms-holds S (kindOf S t) k (p .1)) (conforms-holds S (sequence ms) r (p .2)))
-conforms-holds S (choice ms) (elem t k r) e =
-    let p : (memberOf t ms ≡ true) × (conforms S (kindOf S t) k ≡ true) × (conforms S empty r ≡ true) = elem-parts S (choice ms) t k r e in
+conforms-holds S (choice need ms) (elem t k r) e =
+    let p : (memberOf t ms ≡ true) × (conforms S (kindOf S t) k ≡ true) × (conforms S empty r ≡ true) = elem-parts S (choice need ms) t k r e in
     rw (empty-end S r (p .2)) (chosen (member-sound t ms (p .0)) (conforms-holds S (kindOf S t) k (p .1)))
 conforms-holds S (list m) (elem t k r) e =
     let p : (eqb t m ≡ true) × (conforms S (kindOf S t) k ≡ true) × (conforms S (list m) r ≡ true) = elem-parts S (list m) t k r e in

@@ -12,7 +12,7 @@ use Rattle.model.specs.Definitions.Basics.{passes, goes, goesIf}
 use Rattle.model.specs.Definitions.Commands.{TreeCommand, opens, character, closes, treeEnd, alienT, treeCommands, treeWidth}
 use Rattle.model.specs.Definitions.Content.{Content, end, char, elem, bytes, document, withTreeCommand, contents, topOf, insideOf, contentOf}
 use Rattle.model.specs.Definitions.Table.{Kind, empty, sequence, list, Table, kindOf, membersOf, isText}
-use Rattle.model.specs.Definitions.Conformance.{allowed, Holds, no-character, one-character, nothing, no-member, one-member, chosen, no-item, one-item, admits, after, complete, conforms, Conforming}
+use Rattle.model.specs.Definitions.Conformance.{allowed, Holds, no-character, one-character, nothing, no-member, one-member, chosen, left-out, no-item, one-item, admits, after, complete, conforms, Conforming}
 use Rattle.model.specs.Definitions.TreeChecks.{TreeState, noRoot, inside, rootClosed, treeEnded, closed, treeStep, treeComplete, treeForm, operandStep, treeOperands, expectStep, treeExpected}
 use Rattle.model.specs.Theorems.Facts.{WellFormed}
 use Rattle.model.specs.Theorems.Tools.{true-false, and-both}
@@ -203,6 +203,7 @@ holds-expected no-member around cs = refl
 holds-expected (one-member {m = m} {ms = ms} {r = r} h hs) around cs =
     rw (eq-eqb m m refl) (holds-expected h (sequence ms ∷ around) (commandsThen r (closes ∷ cs)) ∙ holds-expected hs around cs)
 holds-expected (chosen is-member h) around cs = rw (member-complete is-member) (holds-expected h (empty ∷ around) (closes ∷ cs))
+holds-expected left-out around cs = refl
 holds-expected no-item around cs = refl
 holds-expected (one-item {m = m} {r = r} h hs) around cs =
     rw (eq-eqb m m refl) (holds-expected h (list m ∷ around) (commandsThen r (closes ∷ cs)) ∙ holds-expected hs around cs)
@@ -220,6 +221,7 @@ holds-operands S wf (one-member {m = m} {r = r} h hs) exist cs =
     (holds-operands S wf h (wf .members-exist m) (closes ∷ commandsThen r cs) ∙ holds-operands S wf hs (λ n later. exist n (List·Memᴰ·tail later)) cs)
 holds-operands S wf (chosen {m = m} is-member h) exist cs =
     rw (lt-ltb m (length S) (exist m is-member)) (holds-operands S wf h (wf .members-exist m) (closes ∷ cs))
+holds-operands S wf left-out exist cs = refl
 holds-operands S wf no-item exist cs = refl
 holds-operands S wf (one-item {m = m} {r = r} h hs) exist cs =
     rw (lt-ltb m (length S) (exist m (List·Memᴰ·head refl)))

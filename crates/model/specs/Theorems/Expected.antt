@@ -12,7 +12,7 @@ use Rattle.model.specs.Definitions.Basics.{passes, fails, goes, stops, g
 use Rattle.model.specs.Definitions.Commands.{TreeCommand, opens, character, closes, treeEnd, alienT, treeCommands, treeWidth}
 use Rattle.model.specs.Definitions.Content.{Content, end}
 use Rattle.model.specs.Definitions.Table.{Kind, text, empty, sequence, choice, list, Table, kindOf, membersOf, isText}
-use Rattle.model.specs.Definitions.Conformance.{allowed, Holds, no-character, one-character, nothing, no-member, one-member, chosen, no-item, one-item, admits, after, complete, Conforming, Begins, Instance}
+use Rattle.model.specs.Definitions.Conformance.{allowed, Holds, no-character, one-character, nothing, no-member, one-member, chosen, left-out, no-item, one-item, admits, after, complete, Conforming, Begins, Instance}
 use Rattle.model.specs.Definitions.TreeChecks.{TreeState, noRoot, inside, rootClosed, treeEnded, closed, treeStep, treeForm, operandStep, treeOperands, expectStep, treeExpected, FirstUnexpected}
 use Rattle.model.specs.Theorems.Facts.{WellFormed, SoundTable}
 use Rattle.model.specs.Theorems.Runs.{goes-stops, followed, followed-if, reach, reach-append, reach-front, widthOf, width-append, Refused, run-fails}
@@ -36,6 +36,7 @@ after-held nothing = (end, nothing)
 after-held no-member = (end, no-member)
 after-held (one-member {r = r} h hs) = (r, hs)
 after-held (chosen is-member h) = (end, nothing)
+after-held left-out = (end, nothing)
 after-held no-item = (end, no-item)
 after-held (one-item h hs) = (end, no-item)
 
@@ -46,7 +47,7 @@ after-members text h = h
 after-members empty h = h
 after-members (sequence []) h = h
 after-members (sequence (m ∷ ms)) h = List·Memᴰ·tail h
-after-members (choice ms) h = absurd (List·Memᴰ·not-nil h)
+after-members (choice need ms) h = absurd (List·Memᴰ·not-nil h)
 after-members (list m) h = h
 
 after-completable : (S : Table) (κ : Kind) → Completable S κ → Completable S (after κ)

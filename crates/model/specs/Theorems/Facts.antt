@@ -8,9 +8,10 @@ use Prim.Native.Nat.{ℕ, suc, _≤_, _<_}
 use lib.ListN.{length}
 use lib.Dec.{T}
 use Rattle.model.specs.Definitions.Basics.{entry}
-use Rattle.model.specs.Definitions.Table.{Kind, text, empty, sequence, choice, list, Table, kindOf, membersOf, stepFrom, isText}
+use Rattle.model.specs.Definitions.Commands.{Need, optional}
+use Rattle.model.specs.Definitions.Table.{Kind, text, empty, sequence, choice, list, Table, kindOf, membersOf, stepFrom, isText, isOptional}
 use Rattle.model.specs.Definitions.Heights.{heightOf}
-use Rattle.model.specs.Definitions.Embedding.{targetOf, pathsOf, next, endOf, leaves}
+use Rattle.model.specs.Definitions.Embedding.{targetOf, pathsOf, firstPath, next, endOf, leaves, beforeChoice}
 use Rattle.model.specs.Definitions.EmbeddingChecks.{rightSteps, clash, maxSteps}
 use Rattle.model.specs.Definitions.Image.{Setting, Placement, placed, under}
 
@@ -20,8 +21,8 @@ use Rattle.model.specs.Definitions.Image.{Setting, Placement, placed, un
 pub record WellFormed (S : Table) : Type 0 where
   pub has-root : 0 < length S
   pub members-exist : (t m : ℕ) → List·Memᴰ m (membersOf (kindOf S t)) → m < length S
-  pub choices-choose : (t : ℕ) (ms : List ℕ) → kindOf S t ≡ choice ms → 0 < length ms
-  pub choices-distinct : (t : ℕ) (ms : List ℕ) → kindOf S t ≡ choice ms
+  pub choices-choose : (t : ℕ) (need : Need) (ms : List ℕ) → kindOf S t ≡ choice need ms → 0 < length ms
+  pub choices-distinct : (t : ℕ) (need : Need) (ms : List ℕ) → kindOf S t ≡ choice need ms
       → (p q m : ℕ) → entry p ms ≡ some m → entry q ms ≡ some m → p ≡ q
 
 -- a table that passes check 6 too
@@ -66,14 +67,18 @@ pub data Pairs {A : Type 0} (R : A → A → Type 0) : List A → Type 0 where
 abbrev pub Compatible : Setting → ℕ → Kind → List ℕ → List ℕ → Type 0
 Compatible X τ κ ps qs = clash (X .target) κ τ ps qs ≡ false
 
+-- the steps of the first path before its first choice step lead to an optional choice
+abbrev pub ToOptional : Setting → ℕ → List (List ℕ) → Type 0
+ToOptional X τ pss = isOptional (kindOf (X .target) (endOf (X .target) τ (beforeChoice (X .target) τ (firstPath pss)))) ≡ true
+
 -- the paths of a source type of a kind that is mapped to τ
 pub data ValidEdges (X : Setting) (τ : ℕ) : Kind → List (List ℕ) → Type 0 where
   text-edge : {ps : List ℕ} → GoodPath X τ text ps → isText (kindOf (X .target) (endOf (X .target) τ ps)) ≡ true → ValidEdges X τ text (ps ∷ [])
   no-edge : ValidEdges X τ empty []
   sequence-edges : {ms : List ℕ} {pss : List (List ℕ)}
       → Along (MemberPath X τ (sequence ms)) ms pss → Pairs (Compatible X τ (sequence ms)) pss → ValidEdges X τ (sequence ms) pss
-  choice-edges : {ms : List ℕ} {pss : List (List ℕ)}
-      → Along (MemberPath X τ (choice ms)) ms pss → Pairs (Compatible X τ (choice ms)) pss → ValidEdges X τ (choice ms) pss
+  choice-edges : {need : Need} {ms : List ℕ} {pss : List (List ℕ)}
+      → Along (MemberPath X τ (choice need ms)) ms pss → Pairs (Compatible X τ (choice need ms)) pss → (need ≡ optional → ToOptional X τ pss) → ValidEdges X τ (choice need ms) pss
   list-edge : {m : ℕ} {ps : List ℕ} → MemberPath X τ (list m) m ps → ValidEdges X τ (list m) (ps ∷ [])
 
 -- a valid embedding between sound tables
@@ -105,9 +110,9 @@ pub data Fits {A : Type 0} (T : Table) : ℕ → ℕ → List (Placement A) → 
       → Starts (Leads (sequence ms)) (placed (q ∷ path) a ∷ ps)
       → ((p m : ℕ) → entry p ms ≡ some m → Fits T n m (under p (placed (q ∷ path) a ∷ ps)))
       → Fits T (suc n) τ (placed (q ∷ path) a ∷ ps)
-  below-choice : {n τ q : ℕ} {path : List ℕ} {a : A} {ps : List (Placement A)} (ms : List ℕ)
-      → kindOf T τ ≡ choice ms
-      → stepFrom (choice ms) q ≡ some (next T τ q)
+  below-choice : {n τ q : ℕ} {path : List ℕ} {a : A} {ps : List (Placement A)} (need : Need) (ms : List ℕ)
+      → kindOf T τ ≡ choice need ms
+      → stepFrom (choice need ms) q ≡ some (next T τ q)
       → Starts (λ p. p ≡ q) (placed (q ∷ path) a ∷ ps)
       → Fits T n (next T τ q) (under q (placed (q ∷ path) a ∷ ps))
       → Fits T (suc n) τ (placed (q ∷ path) a ∷ ps)

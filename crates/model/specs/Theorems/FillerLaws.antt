@@ -8,10 +8,11 @@ use Prim.Native.Nat.{ℕ, zero, suc, _≤_, _<_, max}
 use native.Mathlib.Omega.{arith}
 use lib.ListN.{length}
 use borrow.Author.Tests.{leb-true}
+use Rattle.model.specs.Definitions.Commands.{Need, needed, optional}
 use Rattle.model.specs.Definitions.Table.{Kind, text, empty, sequence, choice, list, Table, kindOf, membersOf}
 use Rattle.model.specs.Definitions.Heights.{heightIn, highest, heightOfKind, heights, heightOf, hasInstance, leastMember}
 use Rattle.model.specs.Definitions.Content.{Content, levels}
-use Rattle.model.specs.Definitions.Conformance.{Holds, no-character, nothing, no-member, one-member, chosen, no-item, Instance}
+use Rattle.model.specs.Definitions.Conformance.{Holds, no-character, nothing, no-member, one-member, chosen, left-out, no-item, Instance}
 use Rattle.model.specs.Definitions.Filler.{Builder, content, known, fillMembers, fillKind, fillTo, fillers}
 use Rattle.model.specs.Theorems.Facts.{WellFormed, SoundTable}
 use Rattle.model.specs.Theorems.HeightLaws.{getD-of-map, finite-height, kind-positive, below-highest, least-member, least-height}
@@ -23,7 +24,8 @@ unfoldable pub filled : List ℕ → Kind → List ℕ
 filled hs text = []
 filled hs empty = []
 filled hs (sequence ms) = ms
-filled hs (choice ms) = leastMember hs ms ∷ []
+filled hs (choice needed ms) = leastMember hs ms ∷ []
+filled hs (choice optional ms) = []
 filled hs (list m) = []
 
 -- filler of a kind is filler of those members
@@ -32,12 +34,13 @@ unfolding fillKind filled fillMembers
 fill-filled B hs fs text = refl
 fill-filled B hs fs empty = refl
 fill-filled B hs fs (sequence ms) = refl
-fill-filled B hs fs (choice ms) = refl
+fill-filled B hs fs (choice needed ms) = refl
+fill-filled B hs fs (choice optional ms) = refl
 fill-filled B hs fs (list m) = refl
 
 -- a choice has a member to choose
 abbrev Chooses : Kind → Type 0
-Chooses κ = (ms : List ℕ) → κ ≡ choice ms → 0 < length ms
+Chooses κ = (need : Need) (ms : List ℕ) → κ ≡ choice need ms → 0 < length ms
 
 -- filler's members are members of the kind
 pub filled-members : (hs : List ℕ) (κ : Kind) → Chooses κ → (m : ℕ) → List·Memᴰ m (filled hs κ) → List·Memᴰ m (membersOf κ)
@@ -45,7 +48,8 @@ unfolding filled membersOf
 filled-members hs text chooses m here = here
 filled-members hs empty chooses m here = here
 filled-members hs (sequence ms) chooses m here = here
-filled-members hs (choice ms) chooses m here = Memᴰ·cast (List·Memᴰ·eq-of-singleton here) (least-member hs ms (chooses ms refl))
+filled-members hs (choice needed ms) chooses m here = Memᴰ·cast (List·Memᴰ·eq-of-singleton here) (least-member hs ms (chooses needed ms refl))
+filled-members hs (choice optional ms) chooses m here = absurd (List·Memᴰ·not-nil here)
 filled-members hs (list n) chooses m here = absurd (List·Memᴰ·not-nil here)
 
 -- and the kind is one higher than the highest of them
@@ -54,7 +58,8 @@ unfolding filled heightOfKind highest
 filled-height hs text chooses = refl
 filled-height hs empty chooses = refl
 filled-height hs (sequence ms) chooses = refl
-filled-height hs (choice ms) chooses = omega (arith, least-height hs ms (chooses ms refl))
+filled-height hs (choice needed ms) chooses = omega (arith, least-height hs ms (chooses needed ms refl))
+filled-height hs (choice optional ms) chooses = refl
 filled-height hs (list m) chooses = refl
 
 module _ (T : Table) (wf : WellFormed T) where
@@ -142,7 +147,8 @@ unfolding fillKind filled fillMembers content
 kind-holds T hs fs text chooses each = no-character
 kind-holds T hs fs empty chooses each = nothing
 kind-holds T hs fs (sequence ms) chooses each = members-hold T fs ms each
-kind-holds T hs fs (choice ms) chooses each = chosen (least-member hs ms (chooses ms refl)) (each (leastMember hs ms) (List·Memᴰ·head refl))
+kind-holds T hs fs (choice needed ms) chooses each = chosen (least-member hs ms (chooses needed ms refl)) (each (leastMember hs ms) (List·Memᴰ·head refl))
+kind-holds T hs fs (choice optional ms) chooses each = left-out
 kind-holds T hs fs (list m) chooses each = no-item
 
 -- filler of members has as many levels as the highest of them, where filler of each has the right number

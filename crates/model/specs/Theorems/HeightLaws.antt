@@ -12,10 +12,11 @@ use lib.Seq.{ext-getD}
 use lib.Dec.{leb, eqb}
 use borrow.Author.Tests.{leb-true, leb-false, le-leb, eqb-true, eqb-false}
 use Rattle.model.specs.Definitions.Basics.{pick, fails}
+use Rattle.model.specs.Definitions.Commands.{Need, needed, optional}
 use Rattle.model.specs.Definitions.Table.{Kind, text, empty, sequence, choice, list, Table, kindOf}
 use Rattle.model.specs.Definitions.Heights.{heightIn, highest, lowest, heightOfKind, heightsTo, heights, heightOf, hasInstance, firstEndless, endlessType, leastMember}
 use Rattle.model.specs.Definitions.Content.{Content, levels}
-use Rattle.model.specs.Definitions.Conformance.{Holds, no-character, one-character, nothing, no-member, one-member, chosen, no-item, one-item, Instance}
+use Rattle.model.specs.Definitions.Conformance.{Holds, no-character, one-character, nothing, no-member, one-member, chosen, left-out, no-item, one-item, Instance}
 use Rattle.model.specs.Theorems.Facts.{SoundTable}
 use Rattle.model.specs.Theorems.Tools.{pick-true, pick-false}
 
@@ -70,7 +71,8 @@ module _ (n : ℕ) (hs later : List ℕ) (held : (t : ℕ) → heightIn hs t ≡
   kind-held text = omega arith
   kind-held empty = omega arith
   kind-held (sequence ms) = omega (arith, highest-held ms)
-  kind-held (choice ms) = omega (arith, lowest-held ms)
+  kind-held (choice needed ms) = omega (arith, lowest-held ms)
+  kind-held (choice optional ms) = omega arith
   kind-held (list m) = omega arith
 
 -- the heights of a round are those of the next round, held at the round's number
@@ -111,7 +113,8 @@ unfolding heightOfKind
 kind-positive hs text = omega arith
 kind-positive hs empty = omega arith
 kind-positive hs (sequence ms) = omega arith
-kind-positive hs (choice ms) = omega arith
+kind-positive hs (choice needed ms) = omega arith
+kind-positive hs (choice optional ms) = omega arith
 kind-positive hs (list m) = omega arith
 
 -- no member is higher than the highest
@@ -189,7 +192,8 @@ module _ (hs gs : List ℕ) (lower : (t : ℕ) → heightIn hs t ≤ heightIn gs
   kind-lower text = omega arith
   kind-lower empty = omega arith
   kind-lower (sequence ms) = omega (arith, highest-lower ms)
-  kind-lower (choice ms) = omega (arith, lowest-lower ms)
+  kind-lower (choice needed ms) = omega (arith, lowest-lower ms)
+  kind-lower (choice optional ms) = omega arith
   kind-lower (list m) = omega arith
 
 -- by a solution a type has the height of its kind
@@ -224,6 +228,12 @@ type-bounded T m bound kinds (suc n) = go (leb (length T) m) refl
     go true e = omega (arith, height-beyond T (suc n) m (leb-true (length T) m e))
     go false e = omega (arith, height-round T n m (leb-false (length T) m e), kinds n)
 
+-- a choice of either kind is at most one higher than its lowest member
+choice-height : (hs : List ℕ) (need : Need) (ms : List ℕ) → heightOfKind hs (choice need ms) ≤ suc (lowest hs ms)
+unfolding heightOfKind
+choice-height hs needed ms = omega arith
+choice-height hs optional ms = omega arith
+
 -- an instance bounds the heights of all rounds
 instance-bounds : (T : Table) {κ : Kind} {k : Content} → Holds T κ k → (n : ℕ) → heightOfKind (heightsTo T n) κ ≤ suc (levels k)
 unfolding heightOfKind highest lowest levels
@@ -233,8 +243,10 @@ instance-bounds T nothing n = omega arith
 instance-bounds T no-member n = omega arith
 instance-bounds T (one-member {m} {ms} {k} {r} first others) n =
     omega (arith, type-bounded T m (suc (levels k)) (instance-bounds T first) n, instance-bounds T others n)
-instance-bounds T (chosen {m} {ms} {k} member held) n =
-    omega (arith, above-lowest (heightsTo T n) ms m member, type-bounded T m (suc (levels k)) (instance-bounds T held) n)
+instance-bounds T (chosen {need} {m} {ms} {k} member held) n =
+    omega
+    (arith, choice-height (heightsTo T n) need ms, above-lowest (heightsTo T n) ms m member, type-bounded T m (suc (levels k)) (instance-bounds T held) n)
+instance-bounds T left-out n = omega arith
 instance-bounds T no-item n = omega arith
 instance-bounds T (one-item first others) n = omega arith
 
@@ -265,7 +277,8 @@ unfolding heightOfKind
 one-lower hs text h e = absurd (omega arith)
 one-lower hs empty h e = absurd (omega arith)
 one-lower hs (sequence ms) h e = highest-reached hs ms h (omega arith)
-one-lower hs (choice ms) h e = lowest-reached hs ms h (omega arith)
+one-lower hs (choice needed ms) h e = lowest-reached hs ms h (omega arith)
+one-lower hs (choice optional ms) h e = absurd (omega arith)
 one-lower hs (list m) h e = absurd (omega arith)
 
 -- a type's height that is not 0 is in the list of heights

@@ -10,14 +10,15 @@ use lib.ListN.{length}
 use lib.Dec.{eqb}
 use borrow.Author.Tests.{eqb-true, eqb-false}
 use Rattle.model.specs.Definitions.Basics.{entry, some-of}
-use Rattle.model.specs.Definitions.Table.{Kind, text, empty, sequence, choice, list, Table, kindOf, membersOf, stepFrom, isText, isList}
-use Rattle.model.specs.Definitions.Content.{Content, char}
-use Rattle.model.specs.Definitions.Conformance.{Holds, no-character, one-character, no-member, one-member, chosen, no-item, one-item}
-use Rattle.model.specs.Definitions.Embedding.{targetOf, pathsOf, next, endOf, leaves, divide, Divided}
+use Rattle.model.specs.Definitions.Commands.{Need, needed, optional}
+use Rattle.model.specs.Definitions.Table.{Kind, text, empty, sequence, choice, list, Table, kindOf, membersOf, stepFrom, isText, isOptional, isList}
+use Rattle.model.specs.Definitions.Content.{Content, end, char}
+use Rattle.model.specs.Definitions.Conformance.{Holds, no-character, one-character, no-member, one-member, chosen, left-out, no-item, one-item}
+use Rattle.model.specs.Definitions.Embedding.{targetOf, pathsOf, firstPath, next, endOf, leaves, divide, Divided, beforeChoice}
 use Rattle.model.specs.Definitions.EmbeddingChecks.{maxSteps, rightSteps, leavesOnly, sequenceOrList}
 use Rattle.model.specs.Definitions.Filler.{content, known}
-use Rattle.model.specs.Definitions.Image.{Setting, Placement, placed, under, growMembers, growKind, grow, place, children, imageOfElement, placements, lettersOf, alongPaths, alongChoice, pathOfMember, onlyPath, itemsOf, alongList}
-use Rattle.model.specs.Theorems.Facts.{WellFormed, GoodPath, MemberPath, Along, along-none, along-both, ValidEdges, text-edge, no-edge, sequence-edges, choice-edges, list-edge, Valid, All, all-none, all-more, Fits, nothing-placed, right-here, below-sequence, below-choice, below-list}
+use Rattle.model.specs.Definitions.Image.{Setting, Placement, placed, under, growMembers, growKind, grow, place, children, imageOfElement, placements, lettersOf, alongPaths, alongChoice, pathOfMember, itemsOf, alongList}
+use Rattle.model.specs.Theorems.Facts.{WellFormed, GoodPath, MemberPath, Along, along-none, along-both, ValidEdges, text-edge, no-edge, sequence-edges, choice-edges, list-edge, Valid, All, all-none, all-more, ToOptional, Fits, nothing-placed, right-here, below-sequence, below-choice, below-list}
 use Rattle.model.specs.Theorems.Tools.{entry-member, true-false, pick-true, pick-false, and-right, one-plus}
 use Rattle.model.specs.Theorems.Placing.{entry-next, item-next, under-all, single-fits, placements-fit, GoodParts, divide-good, AtList, divide-at-list}
 use Rattle.model.specs.Theorems.ByElements.{Each, each-elem, by-elements}
@@ -58,7 +59,7 @@ module _ (T : Table) (wf : WellFormed T) (fs : List Content) (fill : (t : ℕ) �
       rw (one-plus j)
       (grow-conforms (sub (suc j) m g) (wf .members-exist τ m (rw e (entry-member (suc j) ms g)))
       (settled-under T τ (suc j) m (placed (q ∷ path) a ∷ ps) (entry-next T τ (suc j) m e g) al))))
-  grow-conforms (below-choice {τ = τ} {q = q} {path = path} {a = a} {ps = ps} ms e w st sub) h al =
+  grow-conforms (below-choice {τ = τ} {q = q} {path = path} {a = a} {ps = ps} need ms e w st sub) h al =
       rw e
       (chosen (entry-member q ms w)
       (grow-conforms sub (wf .members-exist τ (next T τ q) (rw e (entry-member q ms w))) (settled-under T τ q (next T τ q) (placed (q ∷ path) a ∷ ps) refl al)))
@@ -75,8 +76,18 @@ unfolding isText
 is-text text e = refl
 is-text empty e = true-false refl (sym e)
 is-text (sequence ms) e = true-false refl (sym e)
-is-text (choice ms) e = true-false refl (sym e)
+is-text (choice need ms) e = true-false refl (sym e)
 is-text (list m) e = true-false refl (sym e)
+
+-- an optional choice may hold nothing
+optional-nothing : (T : Table) (κ : Kind) → isOptional κ ≡ true → Holds T κ end
+unfolding isOptional
+optional-nothing T text e = true-false refl (sym e)
+optional-nothing T empty e = true-false refl (sym e)
+optional-nothing T (sequence ms) e = true-false refl (sym e)
+optional-nothing T (choice needed ms) e = true-false refl (sym e)
+optional-nothing T (choice optional ms) e = left-out
+optional-nothing T (list m) e = true-false refl (sym e)
 
 -- characters are characters under every table
 pub text-anywhere : {S : Table} (T : Table) {k : Content} → Holds S text k → Holds T text k
@@ -122,11 +133,15 @@ module _ (X : Setting) (fs : List Content) where
       let settled : Settled (X .target) τ (placed ps image) = subst (λ (t : ℕ). Holds (X .target) (kindOf (X .target) t) image) (sym (g .ends)) p in
       all-more settled (members-settled τ κ al hr ea)
 
-  -- the one member of a choice along its path
-  choice-settled : (τ : ℕ) (κ : Kind) {ms : List ℕ} {pss : List (List ℕ)} {k : Content} → Along (MemberPath X τ κ) ms pss
-      → Holds (X .source) (choice ms) k → Each ImageHolds k → All (Settled (X .target) τ) (alongChoice ms pss (children content X fs k))
-  unfolding alongChoice children
-  choice-settled τ κ {ms} {pss} al (chosen {m = m} {k = k} e hk) (each-elem p ea) =
+  -- the one member of a choice along its path, or nothing in the optional choice that the paths share
+  choice-settled : (τ : ℕ) (κ : Kind) (need : Need) {ms : List ℕ} {pss : List (List ℕ)} {k : Content} → Along (MemberPath X τ κ) ms pss
+      → (need ≡ optional → ToOptional X τ pss) → Holds (X .source) (choice need ms) k → Each ImageHolds k
+      → All (Settled (X .target) τ) (alongChoice content (beforeChoice (X .target) τ (firstPath pss)) ms pss (children content X fs k))
+  unfolding alongChoice children content
+  choice-settled τ κ need {ms} {pss} al sh left-out ea =
+      let settled : Settled (X .target) τ (placed (beforeChoice (X .target) τ (firstPath pss)) end) = optional-nothing (X .target) _ (sh refl) in
+      all-more settled all-none
+  choice-settled τ κ need {ms} {pss} al sh (chosen {m = m} {k = k} e hk) (each-elem p ea) =
       let image : Content = imageOfElement content X fs m (children content X fs k) in
       let settled : Settled (X .target) τ (placed (pathOfMember m ms pss) image) = subst (λ (t : ℕ). Holds (X .target) (kindOf (X .target) t) image) (sym (member-ends X τ m κ al e)) p in
       all-more settled all-none
@@ -162,14 +177,14 @@ module _ (X : Setting) (fs : List Content) where
     -- what is placed below the image of a source element is settled
     placements-settled : (τ : ℕ) {κ : Kind} {pss : List (List ℕ)} {k : Content} → ValidEdges X τ κ pss → Holds (X .source) κ k → Each ImageHolds k
         → All (Settled (X .target) τ) (placements content (X .target) fs κ τ pss (children content X fs k))
-    unfolding placements onlyPath
+    unfolding placements firstPath
     placements-settled τ {k = k} (text-edge {ps = ps} g e) h ea =
         let settled : Holds (X .target) (kindOf (X .target) (endOf (X .target) τ ps)) (lettersOf content (children content X fs k)) =
         rw (is-text (kindOf (X .target) (endOf (X .target) τ ps)) e, letters-back X fs h) (text-anywhere (X .target) h) in
         all-more settled all-none
     placements-settled τ no-edge h ea = all-none
     placements-settled τ (sequence-edges {ms = ms} al pr) h ea = members-settled τ (sequence ms) al h ea
-    placements-settled τ (choice-edges {ms = ms} al pr) h ea = choice-settled τ (choice ms) al h ea
+    placements-settled τ (choice-edges {need = need} {ms = ms} al pr sh) h ea = choice-settled τ (choice need ms) need al sh h ea
     placements-settled τ (list-edge {m = m} {ps = ps} g) h ea = list-settled τ m ps g h ea
 
 -- Images conform: the image of every element of a conforming source document, to the type that the element's is mapped to.

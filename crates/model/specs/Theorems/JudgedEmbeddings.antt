@@ -1,7 +1,7 @@
 -- An accepted embedding between accepted tables is valid (`embedding-valid`).
 -- As for tables, what a passing run of a machine says of the commands is proved by going back from their end.
-use mathlib.Core.Path.{_≡_, refl, ap}
-use mathlib.Core.Bool.{Bool, true, false}
+use mathlib.Core.Path.{_≡_, refl, sym, ap, _∙_, subst}
+use mathlib.Core.Bool.{Bool, true, false, _&&_}
 use mathlib.Core.List.{List, [], _∷_, map, List·Memᴰ, List·Memᴰ·head, List·Memᴰ·tail}
 use mathlib.Core.Option.{Option, none, some}
 use Prim.Native.Nat.{ℕ, zero, suc, _+_, _≤_, _<_}
@@ -10,15 +10,15 @@ use lib.ListN.{length, getD}
 use lib.Dec.{eqb, ltb}
 use borrow.Author.Tests.{ltb-true, eqb-true}
 use Rattle.model.specs.Definitions.Basics.{Verdict, passes, fails, goes, pick, orElse, some-of}
-use Rattle.model.specs.Definitions.Commands.{EmbeddingCommand, mapsTo, path, step, embeddingEnd, alienE, embeddingCommands, embeddingWidth}
-use Rattle.model.specs.Definitions.Table.{Kind, text, empty, sequence, choice, list, Table, kindOf, edgesOf, stepFrom, tableOf}
-use Rattle.model.specs.Definitions.Embedding.{Edge, TypeMap, Embedding, noMap, targetOf, pathsOf, EmbeddingTail, withEmbeddingCommand, embeddingTail, embeddingOf, orRoot, next, endOf, leaves}
-use Rattle.model.specs.Definitions.EmbeddingChecks.{EmbeddingState, due, embeddingEnded, embeddingStep, embeddingComplete, embeddingForm, maxSteps, stepCount, embeddingLimits, Reached, reaches, pathStep, embeddingOperands, rootToRoot, firstEdge, eachType, endsAt, endsAtText, endsOf, wrongEnd, rightSteps, stepsOf, wrongSteps, clash, firstClash, clashesOf, pathClash}
+use Rattle.model.specs.Definitions.Commands.{Need, optional, EmbeddingCommand, mapsTo, path, step, embeddingEnd, alienE, embeddingCommands, embeddingWidth}
+use Rattle.model.specs.Definitions.Table.{Kind, text, empty, sequence, choice, list, Table, kindOf, edgesOf, stepFrom, isChoice, isOptional, tableOf}
+use Rattle.model.specs.Definitions.Embedding.{Edge, TypeMap, Embedding, noMap, targetOf, pathsOf, EmbeddingTail, withEmbeddingCommand, embeddingTail, embeddingOf, orRoot, next, endOf, leaves, firstPath, beforeChoice}
+use Rattle.model.specs.Definitions.EmbeddingChecks.{EmbeddingState, due, embeddingEnded, embeddingStep, embeddingComplete, embeddingForm, maxSteps, stepCount, embeddingLimits, Reached, reaches, pathStep, embeddingOperands, rootToRoot, firstEdge, eachType, endsAt, endsAtText, endsOf, wrongEnd, leavesOnly, sequenceOrChoice, optionalFirst, rightSteps, agrees, stepsOf, wrongSteps, clash, firstClash, clashesOf, pathClash}
 use Rattle.model.specs.Definitions.Image.{Setting}
 use Rattle.model.specs.Definitions.Refusals.{sound, fits}
 use Rattle.model.specs.Definitions.Entries.{judgedTable, judgedEmbedding, settingOf}
-use Rattle.model.specs.Theorems.Facts.{SoundTable, Walks, arrived, onward, GoodPath, MemberPath, Along, along-none, along-both, All, all-none, all-more, Pairs, pairs-none, pairs-more, Compatible, ValidEdges, text-edge, no-edge, sequence-edges, choice-edges, list-edge, Valid}
-use Rattle.model.specs.Theorems.Tools.{true-false}
+use Rattle.model.specs.Theorems.Facts.{SoundTable, Walks, arrived, onward, GoodPath, MemberPath, Along, along-none, along-both, All, all-none, all-more, Pairs, pairs-none, pairs-more, Compatible, ToOptional, ValidEdges, text-edge, no-edge, sequence-edges, choice-edges, list-edge, Valid}
+use Rattle.model.specs.Theorems.Tools.{true-false, pick-true, pick-false, and-left, and-right}
 use Rattle.model.specs.Theorems.JudgedTables.{goes-if, pick-passes, run-holds, all-at, neither, no-fault-at, no-fault-unless, table-sound}
 use Rattle.model.specs.Theorems.Runs.{passes-fails, goes-stops}
 
@@ -229,13 +229,13 @@ module _ (X : Setting) (τ : ℕ) (κ : Kind) where
   abbrev GoodEdge : Edge → Type 0
   GoodEdge e = GoodPath X τ κ (e .steps)
 
-  good-edges : {es : List Edge} → All ShortEdge es → All (EdgeWalks (X .target) τ) es
-      → firstEdge (λ e. rightSteps κ (leaves (X .target) τ (e .steps))) es ≡ passes → All GoodEdge es
+  good-edges : (first : List ℕ) {es : List Edge} → All ShortEdge es → All (EdgeWalks (X .target) τ) es
+      → firstEdge (λ e. rightSteps κ (leaves (X .target) τ (e .steps)) && agrees (X .target) κ τ first (e .steps)) es ≡ passes → All GoodEdge es
   unfolding firstEdge
-  good-edges all-none all-none e = all-none
-  good-edges (all-more {a = d} {xs = es} s shorts) (all-more w walks) e =
-      let both = pick-passes (rightSteps κ (leaves (X .target) τ (d .steps))) _ (d .at) e in
-      all-more (record { walks = w; short = s; right = both .0 }) (good-edges shorts walks (both .1))
+  good-edges first all-none all-none e = all-none
+  good-edges first (all-more {a = d} {xs = es} s shorts) (all-more w walks) e =
+      let both = pick-passes (rightSteps κ (leaves (X .target) τ (d .steps)) && agrees (X .target) κ τ first (d .steps)) _ (d .at) e in
+      all-more (record { walks = w; short = s; right = and-left _ _ (both .0) }) (good-edges first shorts walks (both .1))
 
   member-edges : (ms : List ℕ) {es : List Edge} → length es ≡ length ms → All GoodEdge es → endsAt (X .embedding) (X .target) τ ms es ≡ passes
       → Along (MemberPath X τ κ) ms (pathsIn es)
@@ -264,6 +264,24 @@ module _ (X : Setting) (τ : ℕ) (κ : Kind) where
       let both = pick-fails-not _ (f .at) _ e in
       pairs-more (later-compatible (f ∷ earlier) es (both .1) f (List·Memᴰ·head refl)) (edges-compatible (f ∷ earlier) es (both .1))
 
+-- where the first choice that a path leaves is an optional one, the steps before it lead to an optional choice
+before-optional : (T : Table) (τ : ℕ) (ps : List ℕ) → optionalFirst (leaves T τ ps) ≡ true → isOptional (kindOf T (endOf T τ (beforeChoice T τ ps))) ≡ true
+unfolding optionalFirst leaves beforeChoice
+before-optional T τ [] e = true-false refl (sym e)
+before-optional T τ (p ∷ ps) e = go (isChoice (kindOf T τ)) refl (before-optional T (next T τ p) ps)
+  where
+    go : (b : Bool) → isChoice (kindOf T τ) ≡ b
+        → (optionalFirst (leaves T (next T τ p) ps) ≡ true → isOptional (kindOf T (endOf T (next T τ p) (beforeChoice T (next T τ p) ps))) ≡ true)
+        → isOptional (kindOf T (endOf T τ (pick (isChoice (kindOf T τ)) [] (p ∷ beforeChoice T (next T τ p) ps)))) ≡ true
+    go true q later = rw (pick-true (isChoice (kindOf T τ)) [] (p ∷ beforeChoice T (next T τ p) ps) q) (unfold endOf in (sym (pick-true (isChoice (kindOf T τ)) _ _ q) ∙ e))
+    go false q later = rw (pick-false (isChoice (kindOf T τ)) [] (p ∷ beforeChoice T (next T τ p) ps) q) (unfold endOf in later (sym (pick-false (isChoice (kindOf T τ)) _ _ q) ∙ e))
+
+-- so do those that the first path of an optional choice begins with
+to-optional : (X : Setting) (τ : ℕ) (ms : List ℕ) (es : List Edge) → 0 < length es → All (GoodEdge X τ (choice optional ms)) es → ToOptional X τ (pathsIn es)
+unfolding rightSteps firstPath
+to-optional X τ ms [] more good = absurd (omega arith)
+to-optional X τ ms (d ∷ es) more (all-more g good) = before-optional (X .target) τ (d .steps) (and-right (leavesOnly sequenceOrChoice (leaves (X .target) τ (d .steps))) _ (g .right))
+
 -- ---- the edges of a source type, by its kind
 
 along-first : {A B : Type 0} {R : A → B → Type 0} {a : A} {b : B} {xs : List A} {ys : List B} → Along R (a ∷ xs) (b ∷ ys) → R a b
@@ -288,16 +306,18 @@ module _ (X : Setting) (τ : ℕ) where
 
 -- the edges of a source type that passes the checks are valid
 valid-edges : (X : Setting) (κ : Kind) (f : TypeMap) → length (f .edges) ≡ edgesOf κ → All (GoodEdge X (f .target) κ) (f .edges)
+    → ((need : Need) (ms : List ℕ) → κ ≡ choice need ms → 0 < length ms)
     → endsOf (X .embedding) (X .target) κ f ≡ passes → clashesOf (X .target) κ f ≡ passes
     → ValidEdges X (f .target) κ (pathsIn (f .edges))
 unfolding edgesOf endsOf clashesOf
-valid-edges X text f n good ends apart = text-edges X (f .target) n good ends
-valid-edges X empty f n good ends apart = empty-edges X (f .target) (f .edges) n
-valid-edges X (sequence ms) f n good ends apart =
+valid-edges X text f n good chooses ends apart = text-edges X (f .target) n good ends
+valid-edges X empty f n good chooses ends apart = empty-edges X (f .target) (f .edges) n
+valid-edges X (sequence ms) f n good chooses ends apart =
     sequence-edges (member-edges X (f .target) (sequence ms) ms n good ends) (edges-compatible X (f .target) (sequence ms) [] (f .edges) apart)
-valid-edges X (choice ms) f n good ends apart =
-    choice-edges (member-edges X (f .target) (choice ms) ms n good ends) (edges-compatible X (f .target) (choice ms) [] (f .edges) apart)
-valid-edges X (list m) f n good ends apart =
+valid-edges X (choice need ms) f n good chooses ends apart =
+    choice-edges (member-edges X (f .target) (choice need ms) ms n good ends) (edges-compatible X (f .target) (choice need ms) [] (f .edges) apart)
+    (λ same. to-optional X (f .target) ms (f .edges) (omega (arith, chooses need ms refl)) (subst (λ (d : Need). All (GoodEdge X (f .target) (choice d ms)) (f .edges)) same good))
+valid-edges X (list m) f n good chooses ends apart =
     list-edges X (f .target) m (f .edges) n (member-edges X (f .target) (list m) (m ∷ []) n good ends)
 
 -- ---- all checks
@@ -372,9 +392,10 @@ embedding-valid s t e source-accepted target-accepted accepted =
     edges-at : (i : ℕ) → i < length S → ValidEdges (settingOf s t e) (targetOf E i) (kindOf S i) (pathsOf E i)
     edges-at i h =
         valid-edges (settingOf s t e) (getD S i empty) (getD E i noMap) (along-at empty noMap counts i h)
-        (good-edges (settingOf s t e) (targetOf E i) (kindOf S i)
+        (good-edges (settingOf s t e) (targetOf E i) (kindOf S i) _
         (all-at noMap all-none (limits-hold e (checks .limits)) i) (walks-at i .all-walk)
         (along-at empty noMap (each-type (stepsOf T) counts (checks .right-steps)) i h))
+        (table-sound s source-accepted .well-formed .choices-choose i)
         (along-at empty noMap (each-type (endsOf E T) counts (checks .right-ends)) i h)
         (along-at empty noMap (each-type (clashesOf T) counts (checks .no-clash)) i h)
 

@@ -12,7 +12,7 @@ use lib.ListN.{length, getD}
 use lib.Dec.{eqb, leb, ltb}
 use borrow.Author.Tests.{ltb-true, leb-true, not-true, eq-eqb}
 use Rattle.model.specs.Definitions.Basics.{Verdict, passes, fails, Next, goes, stops, proceed, run, pick, goesIf, memberOf, entry}
-use Rattle.model.specs.Definitions.Commands.{TableCommand, textType, emptyType, sequenceType, choiceType, listType, member, tableEnd, alien, tableCommands, tableWidth}
+use Rattle.model.specs.Definitions.Commands.{Need, needed, optional, TableCommand, textType, emptyType, sequenceType, choiceType, listType, member, tableEnd, alien, tableCommands, tableWidth}
 use Rattle.model.specs.Definitions.Table.{Kind, text, empty, sequence, choice, list, Table, kindOf, membersOf, TableTail, withCommand, tableTail, tableOf}
 use Rattle.model.specs.Definitions.Heights.{heightIn, heights, heightOf, firstEndless, endlessType}
 use Rattle.model.specs.Definitions.TableChecks.{TableState, noType, whole, members, tableEnded, begins, joins, finishes, unknown, tableRole, tableMove, tableStep, tableComplete, tableForm, tableLimits, namesType, tableOperands, Chosen, elsewhere, among, chooses, repeatStep, tableRepeats}
@@ -81,7 +81,7 @@ abbrev IfChoice : (List ℕ → Type 0) → Kind → Type 0
 IfChoice P text = Unit {0}
 IfChoice P empty = Unit {0}
 IfChoice P (sequence ms) = Unit {0}
-IfChoice P (choice ms) = P ms
+IfChoice P (choice need ms) = P ms
 IfChoice P (list m) = Unit {0}
 
 -- a kind that is a choice has a member
@@ -146,10 +146,14 @@ unfolding tableStep tableRole withCommand
 formed-step s then textType r e h = formed-begins s whole text r e tt (h .all-choose)
 formed-step s then emptyType r e h = formed-begins s whole empty r e tt (h .all-choose)
 formed-step s then sequenceType r e h = formed-begins s (members 1) (sequence (r .members)) r e tt (h .all-choose)
-formed-step s then choiceType r e h =
+formed-step s then (choiceType needed) r e h =
     let same = move-begins s (members 2) e .0 in
     let two : 2 ≤ length (r .members) = rw (← same) at (h .enough-members) in
-    formed-begins s (members 2) (choice (r .members)) r e (omega arith) (h .all-choose)
+    formed-begins s (members 2) (choice needed (r .members)) r e (omega arith) (h .all-choose)
+formed-step s then (choiceType optional) r e h =
+    let same = move-begins s (members 1) e .0 in
+    let one : 1 ≤ length (r .members) = rw (← same) at (h .enough-members) in
+    formed-begins s (members 1) (choice optional (r .members)) r e one (h .all-choose)
 formed-step s then (listType t) r e h = formed-begins s whole (list t) r e tt (h .all-choose)
 formed-step s then (member t) r e h =
     let facts = move-joins s e in
@@ -199,7 +203,7 @@ unfolding namesType withCommand membersOf
 names-step types u then textType r e h = record { members-known = none-known types; all-known = all-more (none-known types) (h .all-known) }
 names-step types u then emptyType r e h = record { members-known = none-known types; all-known = all-more (none-known types) (h .all-known) }
 names-step types u then sequenceType r e h = record { members-known = none-known types; all-known = all-more (h .members-known) (h .all-known) }
-names-step types u then choiceType r e h = record { members-known = none-known types; all-known = all-more (h .members-known) (h .all-known) }
+names-step types u then (choiceType need) r e h = record { members-known = none-known types; all-known = all-more (h .members-known) (h .all-known) }
 names-step types u then (listType t) r e h =
     let known = ltb-true t types (goes-if (ltb t types) u e .0) in
     record { members-known = none-known types; all-known = all-more (more-known types t [] known (none-known types)) (h .all-known) }
@@ -248,7 +252,7 @@ unfolding repeatStep withCommand
 fresh-step s then textType r e h = record { members-fresh = none-fresh s; all-fresh = all-more tt (h .all-fresh) }
 fresh-step s then emptyType r e h = record { members-fresh = none-fresh s; all-fresh = all-more tt (h .all-fresh) }
 fresh-step s then sequenceType r e h = record { members-fresh = none-fresh s; all-fresh = all-more tt (h .all-fresh) }
-fresh-step s then choiceType r e h =
+fresh-step s then (choiceType need) r e h =
     let same : among [] ≡ then = cc in
     let fresh : Unrepeated [] (r .members) = rw (← same) at (h .members-fresh) in
     record { members-fresh = none-fresh s; all-fresh = all-more fresh (h .all-fresh) }
@@ -302,9 +306,9 @@ entry-once (one-more new later) (suc (suc p)) (suc (suc q)) m e f = ap suc (entr
 -- ---- checks 2, 4 and 5 together
 
 -- a fact about the choices of a table, at a type that is a choice
-choice-at : {P : List ℕ → Type 0} {S : Table} → All (IfChoice P) S → (t : ℕ) (ms : List ℕ) → kindOf S t ≡ choice ms → P ms
+choice-at : {P : List ℕ → Type 0} {S : Table} → All (IfChoice P) S → (t : ℕ) (need : Need) (ms : List ℕ) → kindOf S t ≡ choice need ms → P ms
 unfolding kindOf
-choice-at {P} all t ms e = let holds = all-at empty tt all t in rw e at holds
+choice-at {P} all t need ms e = let holds = all-at empty tt all t in rw e at holds
 
 -- every member of every type is a type
 members-known-at : {types : ℕ} {S : Table} → All (λ κ. Known types (membersOf κ)) S → (t : ℕ) → Known types (membersOf (kindOf S t))
@@ -322,7 +326,7 @@ table-well-formed bs form operands repeats =
       has-root = formed .enough-types;
       members-exist = members-known-at (names .all-known);
       choices-choose = choice-at (formed .all-choose);
-      choices-distinct = λ t ms e. entry-once (choice-at (fresh .all-fresh) t ms e);
+      choices-distinct = λ t need ms e. entry-once (choice-at (fresh .all-fresh) t need ms e);
     }
 
 -- ---- check 6, finite instances

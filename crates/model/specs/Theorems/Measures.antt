@@ -9,10 +9,11 @@ use native.Mathlib.Omega.{arith}
 use lib.ListN.{length, length-append, List·getD-map}
 use lib.Dec.{eqb}
 use Rattle.model.specs.Definitions.Basics.{pick}
+use Rattle.model.specs.Definitions.Commands.{needed, optional}
 use Rattle.model.specs.Definitions.Table.{Kind, text, empty, sequence, choice, list, Table, kindOf}
 use Rattle.model.specs.Definitions.Heights.{leastMember, heights}
 use Rattle.model.specs.Definitions.Content.{Content, end, char, elem, bytes, document, levels}
-use Rattle.model.specs.Definitions.Embedding.{next, Divided}
+use Rattle.model.specs.Definitions.Embedding.{firstPath, next, Divided, beforeChoice}
 use Rattle.model.specs.Definitions.Filler.{Builder, content, levelsOf, lengthOf, fillersOf, known, fillMembers, fillKind, fillTo, fillers}
 use Rattle.model.specs.Definitions.EmbeddingChecks.{maxSteps}
 use Rattle.model.specs.Definitions.Image.{Setting, Placement, placed, beyond, under, isPlaced, growMembers, growKind, grow, place, Child, letter, element, lettersOf, alongPaths, alongChoice, itemsOf, alongList, placements, imageOfElement, children, imageBy, image, imageLevels, imageLength, imageFiller}
@@ -62,13 +63,6 @@ alongPaths-map h (p ∷ pss) [] = refl
 alongPaths-map h (p ∷ pss) (letter c ∷ ks) = refl
 alongPaths-map h (p ∷ pss) (element t a ∷ ks) = rw (alongPaths-map h pss ks)
 
-alongChoice-map : {A A′ : Type 0} (h : A → A′) (ms : List ℕ) (pss : List (List ℕ)) (ks : List (Child A))
-    → alongChoice ms pss (map (onChild h) ks) ≡ map (onPlacement h) (alongChoice ms pss ks)
-unfolding alongChoice onPlacement onChild
-alongChoice-map h ms pss [] = refl
-alongChoice-map h ms pss (letter c ∷ ks) = refl
-alongChoice-map h ms pss (element t a ∷ ks) = refl
-
 module _ {A A′ : Type 0} (B : Builder A) (B′ : Builder A′) (h : A → A′) (H : Hom B B′ h) where
   -- filler
   pub known-hom : (fs : List A) (t : ℕ) → h (known B fs t) ≡ known B′ (map h fs) t
@@ -85,7 +79,8 @@ module _ {A A′ : Type 0} (B : Builder A) (B′ : Builder A′) (h : A → A′
   fillKind-hom hs fs text = H .on-none
   fillKind-hom hs fs empty = H .on-none
   fillKind-hom hs fs (sequence ms) = fillMembers-hom fs ms
-  fillKind-hom hs fs (choice ms) = fillMembers-hom fs (leastMember hs ms ∷ [])
+  fillKind-hom hs fs (choice needed ms) = fillMembers-hom fs (leastMember hs ms ∷ [])
+  fillKind-hom hs fs (choice optional ms) = H .on-none
   fillKind-hom hs fs (list m) = H .on-none
 
   -- one round of filler, for each type of a table
@@ -120,7 +115,7 @@ module _ {A A′ : Type 0} (B : Builder A) (B′ : Builder A′) (h : A → A′
   growKind-hom inside inside′ same ps p τ text = H .on-none
   growKind-hom inside inside′ same ps p τ empty = H .on-none
   growKind-hom inside inside′ same ps p τ (sequence ms) = growMembers-hom inside inside′ same ps 1 ms
-  growKind-hom inside inside′ same ps p τ (choice ms) = rw (H .on-element, same, growKind, under-map, H .on-none)
+  growKind-hom inside inside′ same ps p τ (choice need ms) = rw (H .on-element, same, growKind, under-map, H .on-none)
   growKind-hom inside inside′ same ps p τ (list m) = rw (H .on-element, same, growKind, under-map, H .on-none)
 
   grow-hom : (T : Table) (fs : List A) (n τ : ℕ) (ps : List (Placement A))
@@ -151,13 +146,20 @@ module _ {A A′ : Type 0} (B : Builder A) (B′ : Builder A′) (h : A → A′
   itemsOf-hom T fs d (letter c ∷ ks) = itemsOf-hom T fs d ks
   itemsOf-hom T fs d (element t a ∷ ks) = rw (H .on-element, itemsOf-hom T fs d ks, place-hom)
 
+  alongChoice-hom : (shared ms : List ℕ) (pss : List (List ℕ)) (ks : List (Child A))
+      → alongChoice B′ shared ms pss (map (onChild h) ks) ≡ map (onPlacement h) (alongChoice B shared ms pss ks)
+  unfolding alongChoice onPlacement onChild
+  alongChoice-hom shared ms pss [] = rw (H .on-none)
+  alongChoice-hom shared ms pss (letter c ∷ ks) = rw (H .on-none)
+  alongChoice-hom shared ms pss (element t a ∷ ks) = refl
+
   placements-hom : (T : Table) (fs : List A) (κ : Kind) (τ : ℕ) (pss : List (List ℕ)) (ks : List (Child A))
       → placements B′ T (map h fs) κ τ pss (map (onChild h) ks) ≡ map (onPlacement h) (placements B T fs κ τ pss ks)
   unfolding placements alongList onPlacement
   placements-hom T fs text τ pss ks = rw lettersOf-hom
   placements-hom T fs empty τ pss ks = refl
   placements-hom T fs (sequence ms) τ pss ks = alongPaths-map h pss ks
-  placements-hom T fs (choice ms) τ pss ks = alongChoice-map h ms pss ks
+  placements-hom T fs (choice need ms) τ pss ks = alongChoice-hom (beforeChoice T τ (firstPath pss)) ms pss ks
   placements-hom T fs (list m) τ pss ks = rw itemsOf-hom
 
   imageOfElement-hom : (X : Setting) (fs : List A) (s : ℕ) (ks : List (Child A))

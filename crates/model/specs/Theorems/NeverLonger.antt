@@ -2,8 +2,7 @@
 -- one theorem, on a measure that joins what stands side by side and wraps what stands inside an element.
 use mathlib.Core.Path.{_≡_, refl, sym, ap, _∙_}
 use mathlib.Core.Bool.{Bool, true, false}
-use mathlib.Core.List.{List, [], _∷_, List·Memᴰ, List·Memᴰ·head, List·Memᴰ·tail, List·Memᴰ·not-nil, List·Memᴰ·cases-cons}
-use mathlib.Core.Logic.{_⊎_, inl, inr}
+use mathlib.Core.List.{List, [], _∷_, List·Memᴰ, List·Memᴰ·head, List·Memᴰ·tail}
 use mathlib.Core.Option.{some}
 use Prim.Native.Nat.{ℕ, zero, suc, _+_, _≤_, _<_, max, zero-le}
 use native.Mathlib.Nat.{le-refl, le-trans, le-of-eq, zero-add, suc-add, add-suc, add-comm, add-assoc, add-zero, max-comm, max-zero}
@@ -13,17 +12,18 @@ use lib.ListN.{length}
 use lib.Dec.{eqb}
 use borrow.Author.Tests.{eqb-false, eq-eqb}
 use Rattle.model.specs.Definitions.Basics.{pick, entry, some-of}
+use Rattle.model.specs.Definitions.Commands.{Need, needed, optional}
 use Rattle.model.specs.Definitions.Table.{Kind, text, sequence, choice, list, Table, kindOf, membersOf, stepFrom}
 use Rattle.model.specs.Definitions.Content.{Content, end, char, elem, bytes, document, levels}
-use Rattle.model.specs.Definitions.Conformance.{Holds, no-character, one-character, nothing, no-member, one-member, chosen, no-item, one-item}
-use Rattle.model.specs.Definitions.Embedding.{leaves, Divided, divide, targetOf, pathsOf}
-use Rattle.model.specs.Definitions.EmbeddingChecks.{rightSteps, leavesOnly, maxSteps}
+use Rattle.model.specs.Definitions.Conformance.{Holds, no-character, one-character, nothing, no-member, one-member, chosen, left-out, no-item, one-item}
+use Rattle.model.specs.Definitions.Embedding.{leaves, Divided, divide, targetOf, pathsOf, firstPath}
+use Rattle.model.specs.Definitions.EmbeddingChecks.{rightSteps, leavesOnly, optionalFirst, maxSteps}
 use Rattle.model.specs.Definitions.Filler.{Builder, content, levelsOf, lengthOf, fillers}
-use Rattle.model.specs.Definitions.Image.{Setting, Placement, placed, beyond, under, growMembers, growKind, grow, place, lettersOf, alongPaths, pathOfMember, alongChoice, onlyPath, itemsOf, alongList, placements, imageOfElement, children, imageBy, image}
-use Rattle.model.specs.Theorems.Facts.{GoodPath, MemberPath, Along, along-none, along-both, ValidEdges, text-edge, no-edge, sequence-edges, choice-edges, list-edge, Valid, Starts, starts-none, starts-more, Leads, Fits, nothing-placed, right-here, below-sequence, below-choice, below-list}
-use Rattle.model.specs.Theorems.Tools.{pick-true, pick-false, true-false, some-none}
+use Rattle.model.specs.Definitions.Image.{Setting, Placement, placed, beyond, under, growMembers, growKind, grow, place, lettersOf, alongPaths, alongChoice, itemsOf, alongList, placements, imageOfElement, children, imageBy, image}
+use Rattle.model.specs.Theorems.Facts.{MemberPath, Along, along-none, along-both, ValidEdges, text-edge, no-edge, sequence-edges, choice-edges, list-edge, Valid, Starts, starts-none, starts-more, Leads, Fits, nothing-placed, right-here, below-sequence, below-choice, below-list}
+use Rattle.model.specs.Theorems.Tools.{pick-true, true-false, some-none}
 use Rattle.model.specs.Theorems.Measures.{Hom, image-hom, levels-hom, size, size-hom, document-length}
-use Rattle.model.specs.Theorems.Placing.{placements-fit, divide-good, single-fits}
+use Rattle.model.specs.Theorems.Placing.{path-of-member, placements-fit, divide-good, single-fits}
 
 -- ---- measures
 
@@ -55,8 +55,8 @@ PlacementsFit B X fs =
 abbrev pub RestFits : Type 0 → Setting → Type 0
 RestFits A X =
     (s m : ℕ) → s < length (X .source) → kindOf (X .source) s ≡ list m → (a : A)
-    → Fits (X .target) (suc maxSteps) (divide (X .target) (targetOf (X .embedding) s) (onlyPath (pathsOf (X .embedding) s)) .item)
-    (placed (divide (X .target) (targetOf (X .embedding) s) (onlyPath (pathsOf (X .embedding) s)) .rest) a ∷ [])
+    → Fits (X .target) (suc maxSteps) (divide (X .target) (targetOf (X .embedding) s) (firstPath (pathsOf (X .embedding) s)) .item)
+    (placed (divide (X .target) (targetOf (X .embedding) s) (firstPath (pathsOf (X .embedding) s)) .rest) a ∷ [])
 
 -- ---- placements and their paths
 
@@ -76,29 +76,15 @@ pub starts-map : {A : Type 0} {ok ok′ : ℕ → Type 0} {ps : List (Placement 
 starts-map f starts-none = starts-none
 starts-map f (starts-more {q = q} h later) = starts-more (f q h) (starts-map f later)
 
--- the path of a choice's member is one of the good ones
-path-of-member : {X : Setting} {τ : ℕ} {κ : Kind} {ms : List ℕ} {pss : List (List ℕ)} (t : ℕ)
-    → List·Memᴰ t ms → Along (MemberPath X τ κ) ms pss → GoodPath X τ κ (pathOfMember t ms pss)
-unfolding pathOfMember
-path-of-member t mem along-none = absurd (List·Memᴰ·not-nil mem)
-path-of-member {X} {τ} {κ} t mem (along-both {a = m} {b = p} {xs = ms} {ys = pss} r rs) = go (eqb t m) refl (λ inTail. path-of-member t inTail rs)
-  where
-    go : (b : Bool) → eqb t m ≡ b → (List·Memᴰ t ms → GoodPath X τ κ (pathOfMember t ms pss)) → GoodPath X τ κ (pick (eqb t m) p (pathOfMember t ms pss))
-    go true e later = rw (pick-true (eqb t m) p (pathOfMember t ms pss) e) (r .good)
-    go false e later = rw (pick-false (eqb t m) p (pathOfMember t ms pss) e) (later (in-tail (List·Memᴰ·cases-cons mem)))
-      where
-        in-tail : (t ≡ m) ⊎ List·Memᴰ t ms → List·Memᴰ t ms
-        in-tail (inl same) = absurd (eqb-false t m e same)
-        in-tail (inr found) = found
-
 -- the paths of a sequence's members, and of a choice's, have a step
 sequence-needs-step : (ms : List ℕ) → rightSteps (sequence ms) [] ≡ false
 unfolding rightSteps leavesOnly some-of
 sequence-needs-step ms = refl
 
-choice-needs-step : (ms : List ℕ) → rightSteps (choice ms) [] ≡ false
-unfolding rightSteps leavesOnly some-of
-choice-needs-step ms = refl
+choice-needs-step : (need : Need) (ms : List ℕ) → rightSteps (choice need ms) [] ≡ false
+unfolding rightSteps leavesOnly some-of optionalFirst
+choice-needs-step needed ms = refl
+choice-needs-step optional ms = refl
 
 -- each element of some content measures at most what its image holds
 data Bounded (B : Builder ℕ) (μ : Content → ℕ) (X : Setting) (fs : List ℕ) : Content → Type 0 where
@@ -209,7 +195,7 @@ module _ (B : Builder ℕ) (μ : Content → ℕ) (M : Measure B μ) where
     grow-wraps nothing-placed h = unfold wrapped in zero-le
     grow-wraps (right-here {a = a}) h = unfold wrapped grow in le-of-eq (M .join-zero (wrap a))
     grow-wraps (below-sequence ms e starts fits) h = wrapped-again _ starts h
-    grow-wraps (below-choice ms e leads starts fits) h = wrapped-again _ starts h
+    grow-wraps (below-choice need ms e leads starts fits) h = wrapped-again _ starts h
     grow-wraps (below-list m e starts fits) h = wrapped-again _ starts h
 
     -- What grows is at least what is placed, each wrapped where its path has a step.
@@ -223,7 +209,7 @@ module _ (B : Builder ℕ) (μ : Content → ℕ) (M : Measure B μ) where
         (wrapped-spread 1 ms (starts-map (leads-range ms) starts))
         (members-grow (λ m qs. grow B T fs n m qs) (placed (q ∷ path) a ∷ ps) 1 ms
         (λ i m at. rw add-one (grow-wraps (fits (suc i) m at) (grow-enough (fits (suc i) m at))))))
-    grow-enough (below-choice {n} {τ} {q} {path} {a} {ps} ms e leads starts fits) =
+    grow-enough (below-choice {n} {τ} {q} {path} {a} {ps} need ms e leads starts fits) =
         rw (weigh-wrapped starts, e, wrapped-under q starts, element-alone) (grow-wraps fits (grow-enough fits))
     grow-enough (below-list {n} {τ} {path} {a} {ps} m e starts fits) =
         rw (weigh-wrapped starts, e, wrapped-under 1 starts, element-alone) (grow-wraps fits (grow-enough fits))
@@ -265,10 +251,11 @@ module _ (B : Builder ℕ) (μ : Content → ℕ) (M : Measure B μ) where
         rw (measure-elem, weigh-step (X .target) τ κ _ _ _ none-wrong (good .good .right))
         (M .join-mono _ _ _ _ (M .wrap-mono _ _ here) (sequence-weighs τ κ none-wrong goods later there))
 
-    choice-weighs : (τ : ℕ) (κ : Kind) {ms : List ℕ} {pss : List (List ℕ)} {k : Content} → rightSteps κ [] ≡ false → Along (MemberPath X τ κ) ms pss
-        → Holds (X .source) (choice ms) k → Bounded B μ X fs k → μ k ≤ weigh (alongChoice ms pss (children B X fs k))
+    choice-weighs : (τ : ℕ) (κ : Kind) (shared : List ℕ) {need : Need} {ms : List ℕ} {pss : List (List ℕ)} {k : Content} → rightSteps κ [] ≡ false
+        → Along (MemberPath X τ κ) ms pss → Holds (X .source) (choice need ms) k → Bounded B μ X fs k → μ k ≤ weigh (alongChoice B shared ms pss (children B X fs k))
     unfolding alongChoice children weigh
-    choice-weighs τ κ none-wrong goods (chosen {m} mem held) (bounded-elem here there) =
+    choice-weighs τ κ shared none-wrong goods left-out bounded = rw measure-end zero-le
+    choice-weighs τ κ shared none-wrong goods (chosen {m = m} mem held) (bounded-elem here there) =
         rw (measure-elem, measure-end, weigh-step (X .target) τ κ _ _ [] none-wrong (path-of-member m mem goods .right))
         (M .join-mono _ _ _ _ (M .wrap-mono _ _ here) zero-le)
 
@@ -282,13 +269,13 @@ module _ (B : Builder ℕ) (μ : Content → ℕ) (M : Measure B μ) where
 
     placed-enough : (τ : ℕ) (κ : Kind) {pss : List (List ℕ)} {k : Content}
         → ValidEdges X τ κ pss
-        → ((m a : ℕ) → κ ≡ list m → Fits (X .target) (suc maxSteps) (divide (X .target) τ (onlyPath pss) .item) (placed (divide (X .target) τ (onlyPath pss) .rest) a ∷ []))
+        → ((m a : ℕ) → κ ≡ list m → Fits (X .target) (suc maxSteps) (divide (X .target) τ (firstPath pss) .item) (placed (divide (X .target) τ (firstPath pss) .rest) a ∷ []))
         → Holds (X .source) κ k → Bounded B μ X fs k → μ k ≤ weigh (placements B (X .target) fs κ τ pss (children B X fs k))
-    unfolding placements onlyPath alongList
+    unfolding placements firstPath alongList
     placed-enough τ κ (text-edge {ps} good ends) rest held bounded = rw (letters-measure held) (weigh-one _ _)
     placed-enough τ κ no-edge rest nothing bounded = rw measure-end zero-le
     placed-enough τ κ (sequence-edges {ms} along apart) rest held bounded = sequence-weighs τ (sequence ms) (sequence-needs-step ms) along held bounded
-    placed-enough τ κ (choice-edges {ms} along apart) rest held bounded = choice-weighs τ (choice ms) (choice-needs-step ms) along held bounded
+    placed-enough τ κ (choice-edges {need} {ms} along apart shared) rest held bounded = choice-weighs τ (choice need ms) _ (choice-needs-step need ms) along held bounded
     placed-enough τ κ (list-edge {m} {ps} good) rest held bounded = le-trans (items-weigh (divide (X .target) τ ps) (λ a. rest m a refl) held bounded) (weigh-one _ _)
 
   module _ (X : Setting) (fs : List ℕ) (valid : Valid X) (fits : PlacementsFit B X fs) (rest : RestFits ℕ X) where
@@ -312,8 +299,9 @@ module _ (B : Builder ℕ) (μ : Content → ℕ) (M : Measure B μ) where
         bounded-elem
         (element-grows m (exist m (List·Memᴰ·head refl)) k held (all-bounded held (valid .source-sound .well-formed .members-exist m)))
         (all-bounded later (λ n there. exist n (List·Memᴰ·tail there)))
-    all-bounded (chosen {m} {k = k} mem held) exist =
+    all-bounded (chosen {m = m} {k = k} mem held) exist =
         bounded-elem (element-grows m (exist m mem) k held (all-bounded held (valid .source-sound .well-formed .members-exist m))) bounded-end
+    all-bounded left-out exist = bounded-end
     all-bounded no-item exist = bounded-end
     all-bounded (one-item {m} {k} held later) exist =
         bounded-elem
@@ -377,12 +365,12 @@ placements-always-fit B X fs valid s exists k held =
 
 -- the rest of a list's path, under each item
 rest-edges-fit : {A : Type 0} {X : Setting} (τ m : ℕ) {κ : Kind} {pss : List (List ℕ)} → ValidEdges X τ κ pss → κ ≡ list m → (a : A)
-    → Fits (X .target) (suc maxSteps) (divide (X .target) τ (onlyPath pss) .item) (placed (divide (X .target) τ (onlyPath pss) .rest) a ∷ [])
-unfolding onlyPath
+    → Fits (X .target) (suc maxSteps) (divide (X .target) τ (firstPath pss) .item) (placed (divide (X .target) τ (firstPath pss) .rest) a ∷ [])
+unfolding firstPath
 rest-edges-fit τ m (text-edge good ends) e a = let z : _≡_ {A = ℕ} 0 1 = cc in absurd (omega arith)
 rest-edges-fit τ m no-edge e a = let z : _≡_ {A = ℕ} 0 1 = cc in absurd (omega arith)
 rest-edges-fit τ m (sequence-edges along apart) e a = let z : _≡_ {A = ℕ} 0 1 = cc in absurd (omega arith)
-rest-edges-fit τ m (choice-edges along apart) e a = let z : _≡_ {A = ℕ} 0 1 = cc in absurd (omega arith)
+rest-edges-fit τ m (choice-edges along apart shared) e a = let z : _≡_ {A = ℕ} 0 1 = cc in absurd (omega arith)
 rest-edges-fit {X = X} τ m (list-edge {ps = ps} good) e a =
     let parts = divide-good (X .target) τ maxSteps ps (good .good .walks) (good .good .short) in
     single-fits (X .target) maxSteps a (parts .rest-walks) (parts .rest-short)

@@ -3,20 +3,21 @@
 -- so wherever one ends no other goes on.
 use mathlib.Core.Path.{_≡_, refl, sym, ap, _∙_, subst}
 use mathlib.Core.Bool.{Bool, true, false, not}
-use mathlib.Core.List.{List, [], _∷_}
+use mathlib.Core.List.{List, [], _∷_, List·Memᴰ, List·Memᴰ·not-nil, List·Memᴰ·cases-cons}
+use mathlib.Core.Logic.{_⊎_, inl, inr}
 use mathlib.Core.Option.{none, some}
 use Prim.Native.Nat.{ℕ, zero, suc, _≤_}
 use native.Mathlib.Omega.{arith}
 use lib.ListN.{length}
 use lib.Dec.{eqb}
-use borrow.Author.Tests.{eqb-true, eq-eqb}
+use borrow.Author.Tests.{eqb-true, eq-eqb, eqb-false}
 use Rattle.model.specs.Definitions.Basics.{pick, entry, some-of}
-use Rattle.model.specs.Definitions.Table.{Kind, text, empty, sequence, choice, list, Table, kindOf, membersOf, stepFrom, isSequence, isList}
-use Rattle.model.specs.Definitions.Embedding.{next, orRoot, endOf, leaves, Parting, beginning, apart, parting, Divided, divide, divideAt}
+use Rattle.model.specs.Definitions.Table.{Kind, text, empty, sequence, choice, list, Table, kindOf, membersOf, stepFrom, isSequence, isChoice, isList}
+use Rattle.model.specs.Definitions.Embedding.{firstPath, next, orRoot, endOf, leaves, Parting, beginning, apart, parting, Divided, divide, divideAt, beforeChoice}
 use Rattle.model.specs.Definitions.EmbeddingChecks.{maxSteps, leavesOnly, sequenceOrList, rightSteps, clash, clashing}
 use Rattle.model.specs.Definitions.Filler.{Builder}
-use Rattle.model.specs.Definitions.Image.{Setting, Placement, placed, under, beyond, Child, letter, element, alongPaths, alongChoice, pathOfMember, onlyPath, alongList, placements}
-use Rattle.model.specs.Theorems.Facts.{Walks, arrived, onward, MemberPath, Along, along-none, along-both, All, all-none, all-more, Pairs, pairs-none, pairs-more, Compatible, ValidEdges, text-edge, no-edge, sequence-edges, choice-edges, list-edge, Starts, starts-none, starts-more, Leads, Fits, nothing-placed, right-here, below-sequence, below-choice, below-list}
+use Rattle.model.specs.Definitions.Image.{Setting, Placement, placed, under, beyond, Child, letter, element, alongPaths, alongChoice, pathOfMember, alongList, placements}
+use Rattle.model.specs.Theorems.Facts.{Walks, arrived, onward, GoodPath, MemberPath, Along, along-none, along-both, All, all-none, all-more, Pairs, pairs-none, pairs-more, Compatible, ValidEdges, text-edge, no-edge, sequence-edges, choice-edges, list-edge, Starts, starts-none, starts-more, Leads, Fits, nothing-placed, right-here, below-sequence, below-choice, below-list}
 use Rattle.model.specs.Theorems.Tools.{pick-true, pick-false, true-false, some-none, and-left}
 
 -- ---- steps
@@ -92,8 +93,8 @@ single-step T n τ p path a (sequence ms) e w f =
     below-sequence ms e (starts-more (next T τ p, rw e at w) starts-none)
     (λ q m g. single-under T n m q p path a
     (λ same. subst (λ (t : ℕ). Fits T (suc n) t (placed path a ∷ [])) (entry-next T τ p m e (rw same at g)) f))
-single-step T n τ p path a (choice ms) e w f =
-    below-choice ms e (rw e at w) (starts-more refl starts-none) (single-under T n (next T τ p) p p path a (λ same. f))
+single-step T n τ p path a (choice need ms) e w f =
+    below-choice need ms e (rw e at w) (starts-more refl starts-none) (single-under T n (next T τ p) p p path a (λ same. f))
 single-step T n τ p path a (list m) e w f =
     let one : p ≡ 1 = list-step m p (rw e at w) in
     subst (λ (q : ℕ). Fits T (suc (suc n)) τ (placed (q ∷ path) a ∷ [])) (sym one)
@@ -217,7 +218,7 @@ many-step T n τ q path a ps (sequence ms) e (all-more h al) (pairs-more d pr) r
     (λ p m g. rec m (under p (placed (q ∷ path) a ∷ ps))
     (under-all (PlainPlaced T τ (suc n)) (PlainPlaced T m n) p (λ other b k. plain-rest T τ n p m other (entry-next T τ p m e g) k) (placed (q ∷ path) a ∷ ps) (all-more h al))
     (under-pairs p (placed (q ∷ path) a ∷ ps) (pairs-more d pr)))
-many-step T n τ q path a ps (choice ms) e (all-more h al) pr rec = no-choice (leaves-only sequenceOrList _ _ (h .plain) .0)
+many-step T n τ q path a ps (choice need ms) e (all-more h al) pr rec = no-choice (leaves-only sequenceOrList _ _ (h .plain) .0)
   where
     no-choice : {X : Type 0} → sequenceOrList (kindOf T τ) ≡ true → X
     no-choice f = true-false (rw e at f) refl
@@ -301,6 +302,47 @@ member-walks X τ t κ (m ∷ ms) (ps ∷ pss) (along-both h al) = go (eqb t m) 
     go true e rec = rw (pick-true (eqb t m) ps (pathOfMember t ms pss) e) (h .good .walks, h .good .short)
     go false e rec = rw (pick-false (eqb t m) ps (pathOfMember t ms pss) e) rec
 
+-- the path of a choice's member is one of the good ones
+pub path-of-member : {X : Setting} {τ : ℕ} {κ : Kind} {ms : List ℕ} {pss : List (List ℕ)} (t : ℕ)
+    → List·Memᴰ t ms → Along (MemberPath X τ κ) ms pss → GoodPath X τ κ (pathOfMember t ms pss)
+unfolding pathOfMember
+path-of-member t mem along-none = absurd (List·Memᴰ·not-nil mem)
+path-of-member {X} {τ} {κ} t mem (along-both {a = m} {b = p} {xs = ms} {ys = pss} r rs) = go (eqb t m) refl (λ inTail. path-of-member t inTail rs)
+  where
+    go : (b : Bool) → eqb t m ≡ b → (List·Memᴰ t ms → GoodPath X τ κ (pathOfMember t ms pss)) → GoodPath X τ κ (pick (eqb t m) p (pathOfMember t ms pss))
+    go true e rec = rw (pick-true (eqb t m) p (pathOfMember t ms pss) e) (r .good)
+    go false e rec = rw (pick-false (eqb t m) p (pathOfMember t ms pss) e) (rec (in-tail (List·Memᴰ·cases-cons mem)))
+      where
+        in-tail : (t ≡ m) ⊎ List·Memᴰ t ms → List·Memᴰ t ms
+        in-tail (inl same) = absurd (eqb-false t m e same)
+        in-tail (inr found) = found
+
+-- the first path of a choice exists
+first-walks : (X : Setting) (τ : ℕ) (κ : Kind) {ms : List ℕ} {pss : List (List ℕ)} → Along (MemberPath X τ κ) ms pss
+    → Walks (X .target) τ (firstPath pss) × (length (firstPath pss) ≤ maxSteps)
+unfolding firstPath
+first-walks X τ κ along-none = (arrived, omega arith)
+first-walks X τ κ (along-both h al) = (h .good .walks, h .good .short)
+
+-- the steps of a path before its first choice step exist, and are no more than the path's
+before-walks : (T : Table) (τ : ℕ) (ps : List ℕ) → Walks T τ ps → Walks T τ (beforeChoice T τ ps) × (length (beforeChoice T τ ps) ≤ length ps)
+unfolding beforeChoice
+before-walks T τ [] w = (arrived, omega arith)
+before-walks T τ (p ∷ ps) w = go (isChoice (kindOf T τ)) (before-walks T (next T τ p) ps (walks-rest w))
+  where
+    go : (b : Bool) → Walks T (next T τ p) (beforeChoice T (next T τ p) ps) × (length (beforeChoice T (next T τ p) ps) ≤ length ps)
+        → Walks T τ (pick b [] (p ∷ beforeChoice T (next T τ p) ps)) × (length (pick b [] (p ∷ beforeChoice T (next T τ p) ps)) ≤ suc (length ps))
+    go true rec = unfold pick in (arrived, omega arith)
+    go false rec = unfold pick in (onward (walks-step w) (rec .0), omega arith)
+
+-- so do those that the paths of an optional choice share
+pub shared-walks : (X : Setting) (τ : ℕ) (κ : Kind) {ms : List ℕ} {pss : List (List ℕ)} → Along (MemberPath X τ κ) ms pss
+    → Walks (X .target) τ (beforeChoice (X .target) τ (firstPath pss)) × (length (beforeChoice (X .target) τ (firstPath pss)) ≤ maxSteps)
+shared-walks X τ κ {pss = pss} al =
+    let whole = first-walks X τ κ al in
+    let part = before-walks (X .target) τ (firstPath pss) (whole .0) in
+    (part .0, omega arith)
+
 -- a path divided at its first list: both parts exist, and are no longer than the whole
 pub record GoodParts (T : Table) (τ n : ℕ) (d : Divided) : Type 0 where
   pub before-walks : Walks T τ (d .before)
@@ -319,7 +361,7 @@ unfolding divideAt
 divide-step T τ n p ps d text e w h g = one-step-more T τ n p ps d w g
 divide-step T τ n p ps d empty e w h g = one-step-more T τ n p ps d w g
 divide-step T τ n p ps d (sequence ms) e w h g = one-step-more T τ n p ps d w g
-divide-step T τ n p ps d (choice ms) e w h g = one-step-more T τ n p ps d w g
+divide-step T τ n p ps d (choice need ms) e w h g = one-step-more T τ n p ps d w g
 divide-step T τ n p ps d (list m) e w h g =
     record {
       before-walks = arrived;
@@ -352,7 +394,7 @@ unfolding divideAt some-of isList
 list-step-at T τ p ps d text e w f rec = list-further T τ p ps d (rec f)
 list-step-at T τ p ps d empty e w f rec = list-further T τ p ps d (rec f)
 list-step-at T τ p ps d (sequence ms) e w f rec = list-further T τ p ps d (rec f)
-list-step-at T τ p ps d (choice ms) e w f rec = list-further T τ p ps d (rec f)
+list-step-at T τ p ps d (choice need ms) e w f rec = list-further T τ p ps d (rec f)
 list-step-at T τ p ps d (list m) e w f rec = at-list (ap (next T τ) (list-step m p (rw e at w)) ∙ item-next T τ m e)
   where
     at-list : next T τ p ≡ m → AtList T τ (p ∷ ps) (record { before = []; item = m; rest = ps })
@@ -367,23 +409,23 @@ divide-at-list T τ [] w f = true-false f (no-kind isList)
 divide-at-list T τ (p ∷ ps) w f =
     list-step-at T τ p ps (divide T (next T τ p) ps) (kindOf T τ) refl (walks-step w) f (divide-at-list T (next T τ p) ps (walks-rest w))
 
-choice-fits : {A : Type 0} (X : Setting) (τ : ℕ) (κ : Kind) (ms : List ℕ) (pss : List (List ℕ)) (ks : List (Child A))
-    → Along (MemberPath X τ κ) ms pss → Fits (X .target) (suc maxSteps) τ (alongChoice ms pss ks)
+choice-fits : {A : Type 0} (B : Builder A) (X : Setting) (τ : ℕ) (κ : Kind) (ms : List ℕ) (pss : List (List ℕ)) (ks : List (Child A))
+    → Along (MemberPath X τ κ) ms pss → Fits (X .target) (suc maxSteps) τ (alongChoice B (beforeChoice (X .target) τ (firstPath pss)) ms pss ks)
 unfolding alongChoice
-choice-fits X τ κ ms pss [] al = nothing-placed
-choice-fits X τ κ ms pss (letter c ∷ ks) al = nothing-placed
-choice-fits X τ κ ms pss (element t a ∷ ks) al =
+choice-fits B X τ κ ms pss [] al = single-fits (X .target) maxSteps _ (shared-walks X τ κ al .0) (shared-walks X τ κ al .1)
+choice-fits B X τ κ ms pss (letter c ∷ ks) al = single-fits (X .target) maxSteps _ (shared-walks X τ κ al .0) (shared-walks X τ κ al .1)
+choice-fits B X τ κ ms pss (element t a ∷ ks) al =
     single-fits (X .target) maxSteps a (member-walks X τ t κ ms pss al .0) (member-walks X τ t κ ms pss al .1)
 
 -- whatever a source element's children are, there is a place for all of them below its image
 pub placements-fit : {A : Type 0} (B : Builder A) (X : Setting) (fs : List A) (τ : ℕ) (κ : Kind) (pss : List (List ℕ)) (ks : List (Child A))
     → ValidEdges X τ κ pss → Fits (X .target) (suc maxSteps) τ (placements B (X .target) fs κ τ pss ks)
-unfolding placements onlyPath alongList
+unfolding placements firstPath alongList
 placements-fit B X fs τ text (ps ∷ []) ks (text-edge g e) = single-fits (X .target) maxSteps _ (g .walks) (g .short)
 placements-fit B X fs τ empty [] ks no-edge = nothing-placed
 placements-fit B X fs τ (sequence ms) pss ks (sequence-edges al pr) =
     many-fit (X .target) maxSteps τ (alongPaths pss ks) (along-plain X τ ms ms pss ks al) (along-diverge X τ ms pss ks pr)
-placements-fit B X fs τ (choice ms) pss ks (choice-edges al pr) = choice-fits X τ (choice ms) ms pss ks al
+placements-fit B X fs τ (choice need ms) pss ks (choice-edges al pr sh) = choice-fits B X τ (choice need ms) ms pss ks al
 placements-fit B X fs τ (list m) (ps ∷ []) ks (list-edge g) =
     let parts : GoodParts (X .target) τ maxSteps (divide (X .target) τ ps) = divide-good (X .target) τ maxSteps ps (g .good .walks) (g .good .short) in
     single-fits (X .target) maxSteps _ (parts .before-walks) (parts .before-short)

@@ -12,17 +12,18 @@ use lib.ListN.{length}
 use lib.Dec.{eqb}
 use borrow.Author.Tests.{eqb-true, eqb-false, eq-eqb, ne-eqb}
 use Rattle.model.specs.Definitions.Basics.{entry, pick, andThen}
+use Rattle.model.specs.Definitions.Commands.{Need, needed, optional}
 use Rattle.model.specs.Definitions.Table.{Kind, text, empty, sequence, choice, list, Table, kindOf, membersOf, stepFrom, isChoice}
-use Rattle.model.specs.Definitions.Content.{Content, end, elem, levels}
-use Rattle.model.specs.Definitions.Conformance.{Holds, nothing, no-member, one-member, chosen, no-item, one-item}
-use Rattle.model.specs.Definitions.Embedding.{targetOf, next, divide, Divided, parting, Parting, beginning, apart}
-use Rattle.model.specs.Definitions.EmbeddingChecks.{maxSteps, clash, clashing}
+use Rattle.model.specs.Definitions.Content.{Content, end, char, elem, levels}
+use Rattle.model.specs.Definitions.Conformance.{Holds, nothing, no-member, one-member, chosen, left-out, no-item, one-item}
+use Rattle.model.specs.Definitions.Embedding.{targetOf, firstPath, next, leaves, divide, Divided, parting, Parting, beginning, apart, beforeChoice}
+use Rattle.model.specs.Definitions.EmbeddingChecks.{maxSteps, leavesOnly, sequenceOrChoice, optionalFirst, rightSteps, clash, clashing}
 use Rattle.model.specs.Definitions.Filler.{content}
-use Rattle.model.specs.Definitions.Image.{Setting, Placement, placed, under, beyond, growMembers, growKind, grow, place, Child, children, imageOfElement, placements, alongPaths, alongChoice, pathOfMember, onlyPath, itemsOf, alongList}
-use Rattle.model.specs.Definitions.Inverse.{childAt, childOfType, enter, follow, readOne, readMembers, readIfThere, readChoice, readItems, readList, readKind, readTo}
-use Rattle.model.specs.Theorems.Facts.{WellFormed, Walks, MemberPath, Along, along-none, along-both, All, all-none, all-more, Pairs, pairs-more, Compatible, ValidEdges, text-edge, no-edge, sequence-edges, choice-edges, list-edge, Valid, Starts, starts-none, starts-more, Fits, nothing-placed, right-here, below-sequence, below-choice, below-list}
-use Rattle.model.specs.Theorems.Tools.{true-false, some-none, pick-true, pick-false, one-plus}
-use Rattle.model.specs.Theorems.Placing.{entry-next, item-next, under-same, single-fits, placements-fit, GoodParts, divide-good, walks-step, walks-rest, member-walks}
+use Rattle.model.specs.Definitions.Image.{Setting, Placement, placed, under, beyond, growMembers, growKind, grow, place, Child, children, imageOfElement, placements, alongPaths, alongChoice, pathOfMember, itemsOf, alongList}
+use Rattle.model.specs.Definitions.Inverse.{childAt, childOfType, enter, follow, readOne, readMembers, readIfThere, readChoice, unlessEmpty, readItems, readList, readKind, readTo}
+use Rattle.model.specs.Theorems.Facts.{WellFormed, Walks, MemberPath, Along, along-none, along-both, All, all-none, all-more, Pairs, pairs-none, pairs-more, Compatible, ValidEdges, text-edge, no-edge, sequence-edges, choice-edges, list-edge, Valid, Starts, starts-none, starts-more, Fits, nothing-placed, right-here, below-sequence, below-choice, below-list}
+use Rattle.model.specs.Theorems.Tools.{true-false, some-none, pick-true, pick-false, and-right, one-plus}
+use Rattle.model.specs.Theorems.Placing.{entry-next, item-next, under-same, single-fits, placements-fit, GoodParts, divide-good, walks-step, walks-rest, member-walks, path-of-member, shared-walks}
 use Rattle.model.specs.Theorems.ByElements.{Each, each-end, each-char, each-elem, by-elements}
 use Rattle.model.specs.Theorems.ImageConforms.{letters-back}
 
@@ -84,12 +85,12 @@ child-of-its-type : (t : ℕ) (k r : Content) → childOfType (elem t k r) t ≡
 unfolding childOfType
 child-of-its-type t k r = pick-true (eqb t t) (some k) none (eq-eqb t t refl)
 
-is-choice : (κ : Kind) → isChoice κ ≡ true → κ ≡ choice (membersOf κ)
+is-choice : (κ : Kind) → isChoice κ ≡ true → (need : Need) × (κ ≡ choice need (membersOf κ))
 unfolding isChoice membersOf
 is-choice text e = true-false refl (sym e)
 is-choice empty e = true-false refl (sym e)
 is-choice (sequence ms) e = true-false refl (sym e)
-is-choice (choice ms) e = refl
+is-choice (choice need ms) e = (need, refl)
 is-choice (list m) e = true-false refl (sym e)
 
 no-first-step : {X : Type 0} {q : ℕ} {rest : List ℕ} → [] ≡ q ∷ rest → X
@@ -98,6 +99,17 @@ no-first-step e = let z : _≡_ {A = ℕ} 0 1 = cc in absurd (omega arith)
 -- paths are shorter than what bounds them
 no-fit : {A X : Type 0} {T : Table} {τ : ℕ} {ps : List (Placement A)} → Fits T zero τ ps → X
 no-fit h = elim h [ ]
+
+-- where a first step finds nothing, the path isn't there
+follow-none : (T : Table) (τ q : ℕ) (qs : List ℕ) (k : Content) → enter (kindOf T τ) q (next T τ q) k ≡ none → follow T τ (q ∷ qs) k ≡ none
+unfolding follow andThen
+follow-none T τ q qs k e = rw e refl
+
+-- where it finds something, the path goes on in that
+follow-some : (T : Table) (τ q : ℕ) (qs : List ℕ) (k j : Content) → enter (kindOf T τ) q (next T τ q) k ≡ some j
+    → follow T τ (q ∷ qs) k ≡ follow T (next T τ q) qs j
+unfolding follow andThen
+follow-some T τ q qs k j e = rw e refl
 
 module _ (T : Table) (fs : List Content) where
   -- entering by step q, one finds what was grown from what is placed under it, and that fits
@@ -116,10 +128,10 @@ module _ (T : Table) (fs : List Content) where
       rw (entry-next T τ q m e at, e) (found, fits)
 
   -- a step into a choice, to the member that was taken
-  enter-choice : (n τ q : ℕ) (path : List ℕ) (a : Content) (ps : List (Placement Content)) (ms : List ℕ)
-      → kindOf T τ ≡ choice ms → Fits T n (next T τ q) (under q (placed (q ∷ path) a ∷ ps)) → Entered n τ (placed (q ∷ path) a ∷ ps) q
+  enter-choice : (n τ q : ℕ) (path : List ℕ) (a : Content) (ps : List (Placement Content)) (need : Need) (ms : List ℕ)
+      → kindOf T τ ≡ choice need ms → Fits T n (next T τ q) (under q (placed (q ∷ path) a ∷ ps)) → Entered n τ (placed (q ∷ path) a ∷ ps) q
   unfolding enter grow growKind content
-  enter-choice n τ q path a ps ms e fits = rw e (child-of-its-type (next T τ q) _ end, fits)
+  enter-choice n τ q path a ps need ms e fits = rw e (child-of-its-type (next T τ q) _ end, fits)
 
   -- a step into a list
   enter-list : (n τ m : ℕ) (path : List ℕ) (a : Content) (ps : List (Placement Content))
@@ -141,12 +153,12 @@ module _ (T : Table) (fs : List Content) where
       let q-is : q ≡ found .0 = cc in
       let at : entry q ms ≡ some (found .3 .0) = subst (λ (i : ℕ). entry i ms ≡ some (found .3 .0)) (sym q-is) (found .3 .1) in
       enter-sequence n τ q (found .3 .0) other b ps ms p e at (sub q (found .3 .0) at)
-  enter-placed {n} {τ} {q} {path} {a} (below-choice {q = p} {path = other} {a = b} {ps = ps} ms e w st sub) h =
+  enter-placed {n} {τ} {q} {path} {a} (below-choice {q = p} {path = other} {a = b} {ps = ps} need ms e w st sub) h =
       let found = first-step st h in
       let same : q ∷ path ≡ found .0 ∷ found .1 = found .2 in
       let r-is : found .0 ≡ p = found .3 in
       let q-is : p ≡ q = cc in
-      subst (λ (i : ℕ). Entered n τ (placed (p ∷ other) b ∷ ps) i) q-is (enter-choice n τ p other b ps ms e sub)
+      subst (λ (i : ℕ). Entered n τ (placed (p ∷ other) b ∷ ps) i) q-is (enter-choice n τ p other b ps need ms e sub)
   enter-placed {n} {τ} {q} {path} {a} (below-list {path = other} {a = b} {ps = ps} m e st sub) h =
       let found = first-step st h in
       let same : q ∷ path ≡ found .0 ∷ found .1 = found .2 in
@@ -166,7 +178,7 @@ module _ (T : Table) (fs : List Content) where
       go (inl e) = cc
       go (inr there) = absurd (List·Memᴰ·not-nil there)
   found-here (below-sequence ms e st sub) h = no-first-step (first-step st h .2)
-  found-here (below-choice ms e w st sub) h = no-first-step (first-step st h .2)
+  found-here (below-choice need ms e w st sub) h = no-first-step (first-step st h .2)
   found-here (below-list m e st sub) h = no-first-step (first-step st h .2)
 
   -- following the path of a placement finds what was placed
@@ -182,15 +194,15 @@ module _ (T : Table) (fs : List Content) where
   -- ---- the path of a member that was not taken
 
   -- two steps of a choice lead to different types
-  other-member : WellFormed T → (τ p q : ℕ) (ms : List ℕ) → kindOf T τ ≡ choice ms → stepFrom (kindOf T τ) p ≡ some (next T τ p) → stepFrom (kindOf T τ) q ≡ some (next T τ q)
+  other-member : WellFormed T → (τ p q : ℕ) (need : Need) (ms : List ℕ) → kindOf T τ ≡ choice need ms → stepFrom (kindOf T τ) p ≡ some (next T τ p) → stepFrom (kindOf T τ) q ≡ some (next T τ q)
       → eqb q p ≡ false → eqb (next T τ q) (next T τ p) ≡ false
   unfolding stepFrom membersOf
-  other-member wf τ p q ms e wp wq d =
+  other-member wf τ p q need ms e wp wq d =
       ne-eqb (next T τ q) (next T τ p)
       (λ same.
       let at-p : entry p ms ≡ some (next T τ p) = rw e at wp in
       let at-q : entry q ms ≡ some (next T τ p) = rw same at (rw e at wq) in
-      eqb-false q p d (wf .choices-distinct τ ms e q p (next T τ p) at-q at-p))
+      eqb-false q p d (wf .choices-distinct τ need ms e q p (next T τ p) at-q at-p))
 
   -- what following finds, one step further on
   follow-single : (n τ p : ℕ) (ps qs : List ℕ) (a : Content) → Walks T τ (p ∷ ps) → length (p ∷ ps) ≤ suc n
@@ -201,16 +213,11 @@ module _ (T : Table) (fs : List Content) where
       let beyond-it : under p (placed (p ∷ ps) a ∷ []) ≡ placed ps a ∷ [] = under-one p ps a in
       rw (entered .0, beyond-it) refl
 
-  -- where a first step finds nothing, the path isn't there
-  follow-none : (τ q : ℕ) (qs : List ℕ) (k : Content) → enter (kindOf T τ) q (next T τ q) k ≡ none → follow T τ (q ∷ qs) k ≡ none
-  unfolding follow andThen
-  follow-none τ q qs k e = rw e refl
-
   -- the child of a choice is not of another member's type
-  enter-other : (n τ p q : ℕ) (ps : List ℕ) (a : Content) (ms : List ℕ) → kindOf T τ ≡ choice ms → eqb (next T τ q) (next T τ p) ≡ false
+  enter-other : (n τ p q : ℕ) (ps : List ℕ) (a : Content) (need : Need) (ms : List ℕ) → kindOf T τ ≡ choice need ms → eqb (next T τ q) (next T τ p) ≡ false
       → enter (kindOf T τ) q (next T τ q) (grow content T fs (suc n) τ (placed (p ∷ ps) a ∷ [])) ≡ none
   unfolding enter grow growKind content childOfType pick
-  enter-other n τ p q ps a ms e d = rw (e, d) refl
+  enter-other n τ p q ps a need ms e d = rw (e, d) refl
 
   -- a path that parts at a choice from the only one placed isn't there
   pub not-there : WellFormed T → (n τ : ℕ) (ps qs : List ℕ) (a : Content) (κ : Kind) → Walks T τ ps → Walks T τ qs → length ps ≤ n
@@ -240,8 +247,56 @@ module _ (T : Table) (fs : List Content) where
           let here : kindOf T τ ≡ κ = cc in
           let choosing : isChoice (kindOf T τ) ≡ true = rw here c in
           let ms : List ℕ = membersOf (kindOf T τ) in
-          let is : kindOf T τ ≡ choice ms = is-choice (kindOf T τ) choosing in
-          follow-none τ q qs K (enter-other (suc n) τ p q ps a ms is (other-member wf τ p q ms is (walks-step wp) (walks-step wq) d))
+          let is : (need : Need) × (kindOf T τ ≡ choice need ms) = is-choice (kindOf T τ) choosing in
+          follow-none T τ q qs K (enter-other (suc n) τ p q ps a (is .0) ms (is .1) (other-member wf τ p q (is .0) ms (is .1) (walks-step wp) (walks-step wq) d))
+
+-- ---- the optional choice that paths share
+
+-- a choice that holds nothing has no child
+enter-nothing : (κ : Kind) (p τ : ℕ) → isChoice κ ≡ true → enter κ p τ end ≡ none
+unfolding enter isChoice childOfType
+enter-nothing text p τ e = refl
+enter-nothing empty p τ e = refl
+enter-nothing (sequence ms) p τ e = true-false refl (sym e)
+enter-nothing (choice need ms) p τ e = refl
+enter-nothing (list m) p τ e = true-false refl (sym e)
+
+follow-here : (T : Table) (τ : ℕ) (k j : Content) → follow T τ [] k ≡ some j → k ≡ j
+unfolding follow
+follow-here T τ k j e = cc
+
+-- the first choice left by a path of an optional choice is an optional one
+left-optional : (ms : List ℕ) (κs : List Kind) → rightSteps (choice optional ms) κs ≡ true → optionalFirst κs ≡ true
+unfolding rightSteps
+left-optional ms κs e = and-right (leavesOnly sequenceOrChoice κs) (optionalFirst κs) e
+
+-- where a path is there, the first choice on it isn't empty
+pub not-empty : (T : Table) (τ : ℕ) (ps : List ℕ) (k a : Content) → optionalFirst (leaves T τ ps) ≡ true → follow T τ ps k ≡ some a
+    → follow T τ (beforeChoice T τ ps) k ≡ some end → ⊥
+unfolding optionalFirst leaves beforeChoice
+not-empty T τ [] k a e there empty-there = true-false refl (sym e)
+not-empty T τ (p ∷ ps) k a e there empty-there = go (isChoice (kindOf T τ)) refl (not-empty T (next T τ p) ps)
+  where
+    go : (b : Bool) → isChoice (kindOf T τ) ≡ b
+        → ((j b : Content) → optionalFirst (leaves T (next T τ p) ps) ≡ true → follow T (next T τ p) ps j ≡ some b
+        → follow T (next T τ p) (beforeChoice T (next T τ p) ps) j ≡ some end → ⊥)
+        → ⊥
+    go true q later =
+        let here : follow T τ [] k ≡ some end = sym (ap (λ (path : List ℕ). follow T τ path k) (pick-true (isChoice (kindOf T τ)) [] (p ∷ beforeChoice T (next T τ p) ps) q)) ∙ empty-there in
+        let k-is : k ≡ end = follow-here T τ k end here in
+        let missing : enter (kindOf T τ) p (next T τ p) k ≡ none = rw k-is (enter-nothing (kindOf T τ) p (next T τ p) q) in
+        some-none there (follow-none T τ p ps k missing)
+    go false q later = within (enter (kindOf T τ) p (next T τ p) k) refl
+      where
+        further : follow T τ (p ∷ beforeChoice T (next T τ p) ps) k ≡ some end
+        further = sym (ap (λ (path : List ℕ). follow T τ path k) (pick-false (isChoice (kindOf T τ)) [] (p ∷ beforeChoice T (next T τ p) ps) q)) ∙ empty-there
+
+        within : (o : Option Content) → enter (kindOf T τ) p (next T τ p) k ≡ o → ⊥
+        within none f = some-none there (follow-none T τ p ps k f)
+        within (some j) f =
+            later j a (sym (pick-false (isChoice (kindOf T τ)) _ _ q) ∙ e)
+            (sym (follow-some T τ p ps k j f) ∙ there)
+            (sym (follow-some T τ p (beforeChoice T (next T τ p) ps) k j f) ∙ further)
 
 -- ---- one source element
 
@@ -273,9 +328,9 @@ all-member {P = P} {x = x} (all-more {a = y} {xs = xs} p al) h = go (List·Mem�
     go (inr there) rec = rec there
 
 -- two paths of a choice that don't clash part at a choice
-choice-apart : (T : Table) (τ : ℕ) (ms ps qs : List ℕ) → clash T (choice ms) τ ps qs ≡ false → (κ : Kind) × (parting T τ ps qs ≡ apart κ) × (isChoice κ ≡ true)
+choice-apart : (T : Table) (τ : ℕ) (need : Need) (ms ps qs : List ℕ) → clash T (choice need ms) τ ps qs ≡ false → (κ : Kind) × (parting T τ ps qs ≡ apart κ) × (isChoice κ ≡ true)
 unfolding clash clashing
-choice-apart T τ ms ps qs e = go (parting T τ ps qs) refl
+choice-apart T τ need ms ps qs e = go (parting T τ ps qs) refl
   where
     go : (v : Parting) → parting T τ ps qs ≡ v → (κ : Kind) × (parting T τ ps qs ≡ apart κ) × (isChoice κ ≡ true)
     go beginning f = true-false refl (rw f at e)
@@ -284,6 +339,37 @@ choice-apart T τ ms ps qs e = go (parting T τ ps qs) refl
         twice : (b : Bool) → not b ≡ false → b ≡ true
         twice true g = refl
         twice false g = true-false refl g
+
+-- so they take the same steps before their first choice step
+part-agree : (T : Table) (τ : ℕ) (ps qs : List ℕ) (κ : Kind) → parting T τ ps qs ≡ apart κ → isChoice κ ≡ true → beforeChoice T τ ps ≡ beforeChoice T τ qs
+unfolding parting beforeChoice
+part-agree T τ [] qs κ e c = let z : _≡_ {A = ℕ} 0 1 = cc in absurd (omega arith)
+part-agree T τ (p ∷ ps) [] κ e c = let z : _≡_ {A = ℕ} 0 1 = cc in absurd (omega arith)
+part-agree T τ (p ∷ ps) (q ∷ qs) κ e c = go (eqb p q) refl (part-agree T (next T τ p) ps qs κ)
+  where
+    go : (b : Bool) → eqb p q ≡ b → (parting T (next T τ p) ps qs ≡ apart κ → isChoice κ ≡ true → beforeChoice T (next T τ p) ps ≡ beforeChoice T (next T τ p) qs)
+        → pick (isChoice (kindOf T τ)) [] (p ∷ beforeChoice T (next T τ p) ps) ≡ pick (isChoice (kindOf T τ)) [] (q ∷ beforeChoice T (next T τ q) qs)
+    go true d rec =
+        ap (λ (later : List ℕ). pick (isChoice (kindOf T τ)) [] (p ∷ later)) (rec (sym (pick-true (eqb p q) _ _ d) ∙ e) c)
+        ∙ ap (λ (i : ℕ). pick (isChoice (kindOf T τ)) [] (i ∷ beforeChoice T (next T τ i) qs)) (eqb-true p q d)
+    go false d rec =
+        let parts : apart (kindOf T τ) ≡ apart κ = sym (pick-false (eqb p q) (parting T (next T τ p) ps qs) (apart (kindOf T τ)) d) ∙ e in
+        let here : kindOf T τ ≡ κ = cc in
+        let choosing : isChoice (kindOf T τ) ≡ true = rw here c in
+        pick-true (isChoice (kindOf T τ)) [] _ choosing ∙ sym (pick-true (isChoice (kindOf T τ)) [] _ choosing)
+
+-- and all paths of a choice do
+pub paths-agree : (X : Setting) (τ : ℕ) (need : Need) (ms : List ℕ) {pss : List (List ℕ)} → Pairs (Compatible X τ (choice need ms)) pss
+    → All (λ ps. beforeChoice (X .target) τ (firstPath pss) ≡ beforeChoice (X .target) τ ps) pss
+unfolding firstPath
+paths-agree X τ need ms pairs-none = all-none
+paths-agree X τ need ms (pairs-more {a = first} al pr) = all-more refl (each al)
+  where
+    each : {qss : List (List ℕ)} → All (Compatible X τ (choice need ms) first) qss → All (λ ps. beforeChoice (X .target) τ first ≡ beforeChoice (X .target) τ ps) qss
+    each all-none = all-none
+    each (all-more {a = qs} f rest) =
+        let apart-at = choice-apart (X .target) τ need ms first qs f in
+        all-more (part-agree (X .target) τ first qs (apart-at .0) (apart-at .1) (apart-at .2)) (each rest)
 
 module _ (X : Setting) (fs : List Content) (read : ℕ → Content → Option Content) where
   -- an element is read from its image as it was
@@ -353,7 +439,7 @@ module _ (X : Setting) (wf : WellFormed (X .target)) (fs : List Content) (read :
 
   text-back : (τ : ℕ) (ps : List ℕ) {k : Content} → ValidEdges X τ text (ps ∷ []) → Holds (X .source) text k
       → readKind read (X .target) text τ (ps ∷ []) (place content (X .target) fs τ (placements content (X .target) fs text τ (ps ∷ []) (children content X fs k))) ≡ some k
-  unfolding readKind placements onlyPath
+  unfolding readKind placements firstPath
   text-back τ ps {k} edges h = placed-found τ (children content X fs k) edges ps _ (List·Memᴰ·head refl) ∙ ap some (letters-back X fs h)
 
   sequence-back : (τ : ℕ) {ms : List ℕ} {pss : List (List ℕ)} {k : Content} → Along (MemberPath X τ (sequence ms)) ms pss → Pairs (Compatible X τ (sequence ms)) pss
@@ -362,22 +448,67 @@ module _ (X : Setting) (wf : WellFormed (X .target)) (fs : List Content) (read :
   unfolding readKind placements
   sequence-back τ {ms} {pss} {k} al pr h ea = members-back X fs read _ al h ea (λ path a there. placed-found τ (children content X fs k) (sequence-edges al pr) path a there)
 
-  choice-read : (τ : ℕ) {ms : List ℕ} {pss : List (List ℕ)} {k : Content} → Along (MemberPath X τ (choice ms)) ms pss → Pairs (Compatible X τ (choice ms)) pss
-      → Holds (X .source) (choice ms) k → Each (Reads X fs read) k
-      → readKind read (X .target) (choice ms) τ pss (place content (X .target) fs τ (placements content (X .target) fs (choice ms) τ pss (children content X fs k))) ≡ some k
-  unfolding readKind placements alongChoice children place
-  choice-read τ {ms} {pss} al pr (chosen {m = m} {k = k} there hk) (each-elem p ea) =
-      let image : Content = imageOfElement content X fs m (children content X fs k) in
-      let walks : Walks (X .target) τ (pathOfMember m ms pss) × (length (pathOfMember m ms pss) ≤ maxSteps) = member-walks X τ m (choice ms) ms pss al in
-      choice-back X fs read τ m (choice ms) _ image k p al pr there
-      (follow-placed (X .target) fs (suc maxSteps) τ (pathOfMember m ms pss) image (placed (pathOfMember m ms pss) image ∷ []) (single-fits (X .target) maxSteps image (walks .0) (walks .1)) (List·Memᴰ·head refl))
+  reads-nothing : (τ : ℕ) (ms : List ℕ) (pss : List (List ℕ)) (K : Content) → follow (X .target) τ (beforeChoice (X .target) τ (firstPath pss)) K ≡ some end
+      → readKind read (X .target) (choice optional ms) τ pss K ≡ some end
+  unfolding readKind unlessEmpty
+  reads-nothing τ ms pss K e = rw e refl
+
+  -- a choice is read by its members, an optional one where the optional choice that its paths share isn't empty
+  by-members : (need : Need) (τ : ℕ) (ms : List ℕ) (pss : List (List ℕ)) (K j : Content)
+      → (need ≡ optional → follow (X .target) τ (beforeChoice (X .target) τ (firstPath pss)) K ≡ some end → ⊥)
+      → readChoice read (λ p. follow (X .target) τ p K) ms pss ≡ some j → readKind read (X .target) (choice need ms) τ pss K ≡ some j
+  unfolding readKind
+  by-members needed τ ms pss K j full e = e
+  by-members optional τ ms pss K j full e = go (follow (X .target) τ (beforeChoice (X .target) τ (firstPath pss)) K) refl
+    where
+      go : (o : Option Content) → follow (X .target) τ (beforeChoice (X .target) τ (firstPath pss)) K ≡ o
+          → unlessEmpty o (readChoice read (λ p. follow (X .target) τ p K) ms pss) ≡ some j
+      go none f = unfold unlessEmpty in e
+      go (some end) f = absurd (full refl f)
+      go (some (char c r)) f = unfold unlessEmpty in e
+      go (some (elem t k r)) f = unfold unlessEmpty in e
+
+  choice-read : (τ : ℕ) (need : Need) {ms : List ℕ} {pss : List (List ℕ)} {k : Content} → Along (MemberPath X τ (choice need ms)) ms pss
+      → Pairs (Compatible X τ (choice need ms)) pss → Holds (X .source) (choice need ms) k → Each (Reads X fs read) k
+      → readKind read (X .target) (choice need ms) τ pss (place content (X .target) fs τ (placements content (X .target) fs (choice need ms) τ pss (children content X fs k))) ≡ some k
+  unfolding placements alongChoice children content
+  choice-read τ need {ms} {pss} al pr left-out ea =
+      let walks = shared-walks X τ (choice need ms) al in
+      reads-nothing τ ms pss _ (one-found τ (beforeChoice (X .target) τ (firstPath pss)) end (walks .0) (walks .1))
+  choice-read τ need {ms} {pss} al pr (chosen {m = m} {k = k} there hk) (each-elem p ea) =
+      by-members need τ ms pss _ (elem m k end)
+      (λ same empty-there. not-empty (X .target) τ path _ image (optional-left same) found (rw agrees-with-first at empty-there))
+      (choice-back X fs read τ m (choice need ms) _ image k p al pr there found
       (λ qs w f.
-      let apart-at : (κ : Kind) × (parting (X .target) τ qs (pathOfMember m ms pss) ≡ apart κ) × (isChoice κ ≡ true) = choice-apart (X .target) τ ms qs (pathOfMember m ms pss) f in
-      not-there (X .target) fs wf maxSteps τ (pathOfMember m ms pss) qs image (apart-at .0) (walks .0) w (walks .1) (apart-at .1) (apart-at .2))
+      let apart-at : (κ : Kind) × (parting (X .target) τ qs path ≡ apart κ) × (isChoice κ ≡ true) = choice-apart (X .target) τ need ms qs path f in
+      absent qs (apart-at .0) w (apart-at .1) (apart-at .2)))
+    where
+      image : Content
+      image = imageOfElement content X fs m (children content X fs k)
+
+      path : List ℕ
+      path = pathOfMember m ms pss
+
+      walks : Walks (X .target) τ path × (length path ≤ maxSteps)
+      walks = member-walks X τ m (choice need ms) ms pss al
+
+      found : follow (X .target) τ path (place content (X .target) fs τ (placed path image ∷ [])) ≡ some image
+      found = one-found τ path image (walks .0) (walks .1)
+
+      absent : (qs : List ℕ) (κ : Kind) → Walks (X .target) τ qs → parting (X .target) τ qs path ≡ apart κ → isChoice κ ≡ true
+          → follow (X .target) τ qs (place content (X .target) fs τ (placed path image ∷ [])) ≡ none
+      absent qs κ w parts choosing = unfold place in not-there (X .target) fs wf maxSteps τ path qs image κ (walks .0) w (walks .1) parts choosing
+
+      agrees-with-first : beforeChoice (X .target) τ (firstPath pss) ≡ beforeChoice (X .target) τ path
+      agrees-with-first = all-member (paths-agree X τ need ms pr) (path-in m al there)
+
+      optional-left : need ≡ optional → optionalFirst (leaves (X .target) τ path) ≡ true
+      optional-left same =
+          left-optional ms (leaves (X .target) τ path) (subst (λ (d : Need). rightSteps (choice d ms) (leaves (X .target) τ path) ≡ true) same (path-of-member m there al .right))
 
   list-read : (τ m : ℕ) (ps : List ℕ) {k : Content} → MemberPath X τ (list m) m ps → Holds (X .source) (list m) k → Each (Reads X fs read) k
       → readKind read (X .target) (list m) τ (ps ∷ []) (place content (X .target) fs τ (placements content (X .target) fs (list m) τ (ps ∷ []) (children content X fs k))) ≡ some k
-  unfolding readKind readList placements onlyPath alongList andThen
+  unfolding readKind readList placements firstPath alongList andThen
   list-read τ m ps {k} g h ea =
       let d : Divided = divide (X .target) τ ps in
       let parts : GoodParts (X .target) τ maxSteps d = divide-good (X .target) τ maxSteps ps (g .good .walks) (g .good .short) in
@@ -392,7 +523,7 @@ module _ (X : Setting) (wf : WellFormed (X .target)) (fs : List Content) (read :
   kind-back τ (text-edge {ps = ps} g e) h ea = text-back τ ps (text-edge g e) h
   kind-back τ no-edge nothing ea = refl
   kind-back τ (sequence-edges al pr) h ea = sequence-back τ al pr h ea
-  kind-back τ (choice-edges al pr) h ea = choice-read τ al pr h ea
+  kind-back τ (choice-edges {need = need} al pr sh) h ea = choice-read τ need al pr h ea
   kind-back τ (list-edge {m = m} {ps = ps} g) h ea = list-read τ m ps g h ea
 
 -- what the elements of content hold is read with a bound that the content's levels don't reach

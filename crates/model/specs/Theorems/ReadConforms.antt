@@ -9,13 +9,14 @@ use lib.ListN.{length}
 use lib.Dec.{eqb}
 use borrow.Author.Tests.{eqb-true}
 use Rattle.model.specs.Definitions.Basics.{entry, andThen}
+use Rattle.model.specs.Definitions.Commands.{Need, needed, optional}
 use Rattle.model.specs.Definitions.Table.{Kind, text, empty, sequence, choice, list, Table, kindOf, membersOf, stepFrom}
-use Rattle.model.specs.Definitions.Content.{Content, end, elem}
-use Rattle.model.specs.Definitions.Conformance.{Holds, nothing, no-member, one-member, chosen, no-item, one-item}
-use Rattle.model.specs.Definitions.Embedding.{targetOf, next, endOf, divide, Divided}
+use Rattle.model.specs.Definitions.Content.{Content, end, char, elem}
+use Rattle.model.specs.Definitions.Conformance.{Holds, nothing, no-member, one-member, chosen, left-out, no-item, one-item}
+use Rattle.model.specs.Definitions.Embedding.{targetOf, firstPath, next, endOf, divide, Divided}
 use Rattle.model.specs.Definitions.EmbeddingChecks.{maxSteps}
-use Rattle.model.specs.Definitions.Image.{Setting, onlyPath}
-use Rattle.model.specs.Definitions.Inverse.{childAt, childOfType, enter, follow, readOne, readMembers, readIfThere, readChoice, readItems, readList, readKind, readTo}
+use Rattle.model.specs.Definitions.Image.{Setting}
+use Rattle.model.specs.Definitions.Inverse.{childAt, childOfType, enter, follow, readOne, readMembers, readIfThere, readChoice, unlessEmpty, readItems, readList, readKind, readTo}
 use Rattle.model.specs.Theorems.Facts.{Walks, MemberPath, Along, along-none, along-both, ValidEdges, text-edge, no-edge, sequence-edges, choice-edges, list-edge, Valid}
 use Rattle.model.specs.Theorems.Tools.{some-none, pick-true, pick-false}
 use Rattle.model.specs.Theorems.Placing.{walks-step, walks-rest, GoodParts, divide-good, AtList, divide-at-list}
@@ -41,8 +42,9 @@ child-holds T (suc zero) m {j = j} (one-member {m = n} {k = k} hk hr) e f =
 child-holds T (suc (suc q)) m (one-member hk hr) e f = child-holds T (suc q) m hr e f
 
 -- the child of a choice that has a type conforms to it
-chosen-holds : (T : Table) (m : ℕ) {ms : List ℕ} {k j : Content} → Holds T (choice ms) k → childOfType k m ≡ some j → Holds T (kindOf T m) j
+chosen-holds : (T : Table) (m : ℕ) {need : Need} {ms : List ℕ} {k j : Content} → Holds T (choice need ms) k → childOfType k m ≡ some j → Holds T (kindOf T m) j
 unfolding childOfType
+chosen-holds T m left-out f = some-none f refl
 chosen-holds T m {j = j} (chosen {m = n} {k = k} there hk) f = go (eqb m n) refl
   where
     go : (b : Bool) → eqb m n ≡ b → Holds T (kindOf T m) j
@@ -70,7 +72,7 @@ unfolding enter stepFrom membersOf
 enter-holds T q m text h e f = some-none f refl
 enter-holds T q m empty h e f = some-none f refl
 enter-holds T q m (sequence ms) h e f = child-holds T q m h e f
-enter-holds T q m (choice ms) h e f = chosen-holds T m h f
+enter-holds T q m (choice need ms) h e f = chosen-holds T m h f
 enter-holds T q m (list n) {j = j} h e f = subst (λ (t : ℕ). Holds T (kindOf T t) j) (only-item q n m e) (item-holds T n h f)
 
 -- following a path in conforming content ends at conforming content
@@ -124,17 +126,17 @@ module _ (X : Setting) (read : ℕ → Content → Option Content) where
       (rec m (List·Memᴰ·head refl) (parts .image) (parts .inside) (member-holds τ m κ ps k (parts .image) g h (parts .was-found)) (parts .was-read))
       (members-read τ κ k h al (λ n there. rec n (List·Memᴰ·tail there)) (parts .was-after)))
 
-  choice-read : (τ : ℕ) (κ : Kind) (all : List ℕ) (k : Content) → Holds (X .target) (kindOf (X .target) τ) k → {ms : List ℕ} {pss : List (List ℕ)} {j : Content}
+  choice-read : (τ : ℕ) (κ : Kind) (need : Need) (all : List ℕ) (k : Content) → Holds (X .target) (kindOf (X .target) τ) k → {ms : List ℕ} {pss : List (List ℕ)} {j : Content}
       → Along (MemberPath X τ κ) ms pss → ((m : ℕ) → List·Memᴰ m ms → List·Memᴰ m all × ReadHolds m)
-      → readChoice read (λ p. follow (X .target) τ p k) ms pss ≡ some j → Holds (X .source) (choice all) j
+      → readChoice read (λ p. follow (X .target) τ p k) ms pss ≡ some j → Holds (X .source) (choice need all) j
   unfolding readChoice
-  choice-read τ κ all k h along-none rec e = some-none e refl
-  choice-read τ κ all k h {j = j} (along-both {a = m} {b = ps} {xs = ms} {ys = pss} g al) rec e =
-      go (follow (X .target) τ ps k) refl (choice-read τ κ all k h al (λ n there. rec n (List·Memᴰ·tail there))) e
+  choice-read τ κ need all k h along-none rec e = some-none e refl
+  choice-read τ κ need all k h {j = j} (along-both {a = m} {b = ps} {xs = ms} {ys = pss} g al) rec e =
+      go (follow (X .target) τ ps k) refl (choice-read τ κ need all k h al (λ n there. rec n (List·Memᴰ·tail there))) e
     where
       go : (o : Option Content) → follow (X .target) τ ps k ≡ o
-          → (readChoice read (λ p. follow (X .target) τ p k) ms pss ≡ some j → Holds (X .source) (choice all) j)
-          → readIfThere read m o (readChoice read (λ p. follow (X .target) τ p k) ms pss) ≡ some j → Holds (X .source) (choice all) j
+          → (readChoice read (λ p. follow (X .target) τ p k) ms pss ≡ some j → Holds (X .source) (choice need all) j)
+          → readIfThere read m o (readChoice read (λ p. follow (X .target) τ p k) ms pss) ≡ some j → Holds (X .source) (choice need all) j
       go none f later e = unfold readIfThere in later e
       go (some a) f later e =
           let parts : ReadParts read m (some a) (some end) j = read-parts read m (some a) (some end) j (unfold readIfThere in e) in
@@ -143,9 +145,25 @@ module _ (X : Setting) (read : ℕ → Content → Option Content) where
           let ended : parts .after ≡ end = cc in
           let same : follow (X .target) τ ps k ≡ some (parts .image) = f ∙ image-is in
           let made : elem m (parts .inside) end ≡ j = sym (ap (elem m (parts .inside)) ended) ∙ parts .made in
-          subst (λ (i : Content). Holds (X .source) (choice all) i) made
+          subst (λ (i : Content). Holds (X .source) (choice need all) i) made
           (chosen (rec m (List·Memᴰ·head refl) .0)
           (rec m (List·Memᴰ·head refl) .1 (parts .image) (parts .inside) (member-holds τ m κ ps k (parts .image) g h same) (parts .was-read)))
+
+  -- an optional choice reads as nothing, or as a choice does
+  unless-empty : (ms : List ℕ) (o member : Option Content) (j : Content) → (member ≡ some j → Holds (X .source) (choice optional ms) j)
+      → unlessEmpty o member ≡ some j → Holds (X .source) (choice optional ms) j
+  unfolding unlessEmpty
+  unless-empty ms none member j read-member e = read-member e
+  unless-empty ms (some end) member j read-member e = let j-is : end ≡ j = cc in subst (λ (i : Content). Holds (X .source) (choice optional ms) i) j-is left-out
+  unless-empty ms (some (char c r)) member j read-member e = read-member e
+  unless-empty ms (some (elem t k r)) member j read-member e = read-member e
+
+  choice-kind-read : (need : Need) (ms : List ℕ) (τ : ℕ) (pss : List (List ℕ)) (k j : Content)
+      → (readChoice read (λ p. follow (X .target) τ p k) ms pss ≡ some j → Holds (X .source) (choice need ms) j)
+      → readKind read (X .target) (choice need ms) τ pss k ≡ some j → Holds (X .source) (choice need ms) j
+  unfolding readKind
+  choice-kind-read needed ms τ pss k j read-member e = read-member e
+  choice-kind-read optional ms τ pss k j read-member e = unless-empty ms _ _ j read-member e
 
   items-read : (m τ : ℕ) (rest : List ℕ) → Walks (X .target) τ rest → endOf (X .target) τ rest ≡ targetOf (X .embedding) m → ReadHolds m → {items j : Content}
       → Holds (X .target) (list τ) items → readItems read (follow (X .target) τ rest) m items ≡ some j → Holds (X .source) (list m) j
@@ -161,13 +179,14 @@ module _ (X : Setting) (read : ℕ → Content → Option Content) where
   -- what a source element of a kind holds, read from conforming content, conforms
   kind-read : (τ : ℕ) (k j : Content) {κ : Kind} {pss : List (List ℕ)} → ValidEdges X τ κ pss → Holds (X .target) (kindOf (X .target) τ) k
       → ((m : ℕ) → List·Memᴰ m (membersOf κ) → ReadHolds m) → readKind read (X .target) κ τ pss k ≡ some j → Holds (X .source) κ j
-  unfolding readKind membersOf onlyPath readList
+  unfolding readKind membersOf firstPath readList
   kind-read τ k j (text-edge {ps = ps} g t) h rec e =
       let held : Holds (X .target) (kindOf (X .target) (endOf (X .target) τ ps)) j = follow-holds (X .target) τ ps k j (g .walks) h e in
       text-anywhere (X .source) (subst (λ (κ : Kind). Holds (X .target) κ j) (is-text _ t) held)
   kind-read τ k j no-edge h rec e = let j-is : end ≡ j = cc in subst (λ (i : Content). Holds (X .source) empty i) j-is nothing
   kind-read τ k j (sequence-edges {ms = ms} al pr) h rec e = members-read τ (sequence ms) k h al rec e
-  kind-read τ k j (choice-edges {ms = ms} al pr) h rec e = choice-read τ (choice ms) ms k h al (λ m there. (there, rec m there)) e
+  kind-read τ k j (choice-edges {need = need} {ms = ms} {pss = pss} al pr sh) h rec e =
+      choice-kind-read need ms τ pss k j (choice-read τ (choice need ms) need ms k h al (λ m there. (there, rec m there))) e
   kind-read τ k j (list-edge {m = m} {ps = ps} g) h rec e =
       let d : Divided = divide (X .target) τ ps in
       let parts : GoodParts (X .target) τ maxSteps d = divide-good (X .target) τ maxSteps ps (g .good .walks) (g .good .short) in

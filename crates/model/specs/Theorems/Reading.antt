@@ -159,7 +159,7 @@ paired-width width alien-one false false p q known = absurd (known refl)
 table-width : (raw : Command) → (tableCommand raw ≡ alien → ⊥) → tableWidth (tableCommand raw) ≡ rawWidth raw
 unfolding tableCommand tableWidth rawWidth
 table-width (bare b) known =
-    pick-width tableWidth 1 _ refl (pick-width tableWidth 1 _ refl (pick-width tableWidth 1 _ refl (pick-width tableWidth 1 _ refl (pick-width tableWidth 1 _ refl refl))))
+    pick-width tableWidth 1 _ refl (pick-width tableWidth 1 _ refl (pick-width tableWidth 1 _ refl (pick-width tableWidth 1 _ refl (pick-width tableWidth 1 _ refl (pick-width tableWidth 1 _ refl refl)))))
 table-width (paired b t) known = paired-width tableWidth alien _ _ refl refl known
 table-width (cut b) known = absurd (known refl)
 

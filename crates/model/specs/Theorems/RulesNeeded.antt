@@ -5,6 +5,7 @@ use mathlib.Core.Option.{Option, none, some}
 use Prim.Native.Nat.{ℕ, zero, suc}
 use native.Mathlib.Omega.{arith}
 use Rattle.model.specs.Definitions.Basics.{passes, andThen}
+use Rattle.model.specs.Definitions.Commands.{needed, optional}
 use Rattle.model.specs.Definitions.Table.{Kind, text, empty, sequence, choice, list, Table, kindOf, tableOf}
 use Rattle.model.specs.Definitions.Content.{Content, end, elem, document}
 use Rattle.model.specs.Definitions.Embedding.{apart, parting, embeddingOf}
@@ -75,8 +76,9 @@ unfoldable pub firstMemberKind : (ℕ → Option Content) → Kind → Option Co
 firstMemberKind inside text = some end
 firstMemberKind inside empty = some end
 firstMemberKind inside (sequence ms) = fillFirst inside ms
-firstMemberKind inside (choice []) = none
-firstMemberKind inside (choice (m ∷ ms)) = fillFirst inside (m ∷ [])
+firstMemberKind inside (choice needed []) = none
+firstMemberKind inside (choice needed (m ∷ ms)) = fillFirst inside (m ∷ [])
+firstMemberKind inside (choice optional ms) = some end
 firstMemberKind inside (list m) = some end
 
 unfoldable pub firstMemberFiller : Table → ℕ → ℕ → Option Content
@@ -89,7 +91,7 @@ pub record FirstMemberEndless : Type 0 where
   pub by-height : known content (fillers content (tableOf selfChoiceTable)) 0 ≡ elem 1 end end
   pub endless : (n : ℕ) → firstMemberFiller (tableOf selfChoiceTable) n 0 ≡ none
 
-self-kind : kindOf (tableOf selfChoiceTable) 0 ≡ choice (0 ∷ 1 ∷ [])
+self-kind : kindOf (tableOf selfChoiceTable) 0 ≡ choice needed (0 ∷ 1 ∷ [])
 unfolding definitions selfChoiceTable
 self-kind = refl
 

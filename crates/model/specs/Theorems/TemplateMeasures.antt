@@ -2,6 +2,7 @@
 -- what its holes hold, each once.
 use mathlib.Core.Path.{_≡_, refl, sym, ap, ap₂, _∙_}
 use mathlib.Core.Bool.{Bool, true, false}
+use mathlib.Core.Option.{Option}
 use mathlib.Core.List.{List, [], _∷_, map}
 use mathlib.Core.Option.{some}
 use Prim.Native.Nat.{ℕ, suc, _+_, _≤_, _<_, max}
@@ -164,7 +165,7 @@ module _ (B : Builder ℕ) (M : Joins B) where
     grow-parts (below-sequence {n} {τ} {q} {path} {a} {ps} ms e starts fits) =
         rw (e, total-spread 1 ms (starts-map (leads-range ms) starts))
         (members-parts (λ m qs. grow B T fs n m qs) (placed (q ∷ path) a ∷ ps) 1 ms (λ i m at. rw add-one (grow-parts (fits (suc i) m at))))
-    grow-parts (below-choice {n} {τ} {q} {path} {a} {ps} ms e leads starts fits) =
+    grow-parts (below-choice {n} {τ} {q} {path} {a} {ps} need ms e leads starts fits) =
         rw (e, total-under q starts) (one-part true (next T τ q) q (placed (q ∷ path) a ∷ ps) (λ qs. grow B T fs n (next T τ q) qs) (grow-parts fits))
     grow-parts (below-list {n} {τ} {path} {a} {ps} m e starts fits) = rw (e, total-under 1 starts) (one-part true m 1 (placed (1 ∷ path) a ∷ ps) (λ qs. grow B T fs n m qs) (grow-parts fits))
 
@@ -172,7 +173,7 @@ module _ (B : Builder ℕ) (M : Joins B) where
 
 module _ (B : Builder ℕ) (M : Joins B) (X : Setting) (valid : Valid X) where
   -- A template measures what it does with nothing in its holes, joined with what its holes hold, each once and lifted by its path.
-  pub template-parts : (s t : ℕ) (σ : Hole → ℕ) → s < length (X .source)
+  pub template-parts : (s : ℕ) (t : Option ℕ) (σ : Hole → ℕ) → s < length (X .source)
       → templateBy B σ X s t
       ≡ M .join (templateBy B (λ i. 0) X s t) (total B M (holesOf σ (X .target) (kindOf (X .source) s) (targetOf (X .embedding) s) (pathsOf (X .embedding) s) t))
   unfolding templateBy place

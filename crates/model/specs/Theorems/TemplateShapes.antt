@@ -2,8 +2,8 @@
 -- type holds, and of the holes.
 use mathlib.Core.Path.{_≡_, refl, sym, ap, ap₂, _∙_, subst}
 use mathlib.Core.Bool.{true, false}
+use mathlib.Core.Option.{Option, none, some}
 use mathlib.Core.List.{List, [], _∷_, map, List·Memᴰ, List·Memᴰ·head, List·Memᴰ·tail}
-use mathlib.Core.Option.{some}
 use Prim.Native.Nat.{ℕ, suc, _+_, _<_}
 use native.Mathlib.Nat.{zero-add, suc-add, add-suc}
 use native.Mathlib.Numerals.{add-one}
@@ -12,16 +12,16 @@ use lib.ListN.{length}
 use Rattle.model.specs.Definitions.Basics.{entry}
 use Rattle.model.specs.Definitions.Table.{Kind, text, empty, sequence, choice, list, Table, kindOf, membersOf, stepFrom}
 use Rattle.model.specs.Definitions.Heights.{heights}
-use Rattle.model.specs.Definitions.Embedding.{targetOf, pathsOf, next, divide, divideAt, Divided}
+use Rattle.model.specs.Definitions.Embedding.{firstPath, targetOf, pathsOf, next, divide, divideAt, Divided}
 use Rattle.model.specs.Definitions.EmbeddingChecks.{maxSteps}
 use Rattle.model.specs.Definitions.Filler.{Builder, known, fillMembers, fillers}
-use Rattle.model.specs.Definitions.Image.{Setting, Placement, placed, under, isPlaced, growMembers, growKind, grow, place, Child, element, alongPaths, placements, onlyPath}
-use Rattle.model.specs.Definitions.Templates.{Hole, characters, child, items, holesAlong, holesOf, templateBy, dividedOf, itemBy, Shape, bare, lettered, gap, framed, shaped}
+use Rattle.model.specs.Definitions.Image.{Setting, Placement, placed, under, isPlaced, growMembers, growKind, grow, place, Child, element, alongPaths, placements}
+use Rattle.model.specs.Definitions.Templates.{Hole, characters, child, items, holesAlong, choiceHole, holesOf, templateBy, dividedOf, itemBy, Shape, bare, lettered, gap, framed, shaped}
 use Rattle.model.specs.Theorems.Facts.{WellFormed, SoundTable, All, all-none, all-more, MemberPath, Along, along-none, along-both, ValidEdges, text-edge, no-edge, sequence-edges, choice-edges, list-edge, Valid, Fits, nothing-placed, right-here, below-sequence, below-choice, below-list}
 use Rattle.model.specs.Theorems.Tools.{entry-member}
 use Rattle.model.specs.Theorems.FillerLaws.{filled, fill-filled, filled-members, fill-step}
 use Rattle.model.specs.Theorems.Measures.{Hom, onPlacement, known-hom, fillers-hom, place-hom}
-use Rattle.model.specs.Theorems.Placing.{under-all, single-fits, placements-fit, member-walks, GoodParts, divide-good}
+use Rattle.model.specs.Theorems.Placing.{under-all, single-fits, placements-fit, member-walks, shared-walks, GoodParts, divide-good}
 use Rattle.model.specs.Theorems.NeverLonger.{rest-always-fits}
 
 -- ---- a shape, and a builder's content of the same parts
@@ -55,16 +55,17 @@ holesAlong-map {A} {A′} h σ σ′ e (p ∷ pss) =
 
 -- a map on what stands in the holes
 pub holesOf-map : {A A′ : Type 0} (h : A → A′) (σ : Hole → A) (σ′ : Hole → A′) → ((i : Hole) → h (σ i) ≡ σ′ i)
-    → (T : Table) (κ : Kind) (τ : ℕ) (pss : List (List ℕ)) (t : ℕ) → map (onPlacement h) (holesOf σ T κ τ pss t) ≡ holesOf σ′ T κ τ pss t
-unfolding holesOf onPlacement
+    → (T : Table) (κ : Kind) (τ : ℕ) (pss : List (List ℕ)) (t : Option ℕ) → map (onPlacement h) (holesOf σ T κ τ pss t) ≡ holesOf σ′ T κ τ pss t
+unfolding holesOf choiceHole onPlacement
 holesOf-map h σ σ′ e T text τ pss t = rw (e characters)
 holesOf-map h σ σ′ e T empty τ pss t = refl
 holesOf-map h σ σ′ e T (sequence ms) τ pss t = holesAlong-map h (λ i. σ (child i)) (λ i. σ′ (child i)) (λ i. e (child i)) pss
-holesOf-map h σ σ′ e T (choice ms) τ pss t = rw (e (child 0))
+holesOf-map h σ σ′ e T (choice need ms) τ pss none = rw (e characters)
+holesOf-map h σ σ′ e T (choice need ms) τ pss (some t) = rw (e (child 0))
 holesOf-map h σ σ′ e T (list m) τ pss t = rw (e items)
 
 -- a template's shape gives what every builder makes of the same holes
-pub folded-template : {A : Type 0} (B : Builder A) (held : Hole → A) (X : Setting) (s t : ℕ)
+pub folded-template : {A : Type 0} (B : Builder A) (held : Hole → A) (X : Setting) (s : ℕ) (t : Option ℕ)
     → folded B held (templateBy shaped gap X s t) ≡ templateBy B held X s t
 unfolding templateBy
 folded-template B held X s t =
@@ -116,8 +117,8 @@ module _ (T : Table) (sound : SoundTable T) (Ok : Hole → Type 0) where
   member-regular : (m : ℕ) (qs : List (Placement Shape)) (k r : Shape) → m < length T → (qs ≡ [] → k ≡ known shaped filling m)
       → Regular T Ok k → Regular T Ok r → Regular T Ok (framed (isPlaced qs) m k r)
   unfolding isPlaced
-  member-regular m [] k r exists none below after = regular-filler exists (none refl) after
-  member-regular m (q ∷ qs) k r exists none below after = regular-built exists below after
+  member-regular m [] k r exists vacant below after = regular-filler exists (vacant refl) after
+  member-regular m (q ∷ qs) k r exists vacant below after = regular-built exists below after
 
   grown-regular : (inside : ℕ → List (Placement Shape) → Shape) (ps : List (Placement Shape)) (p : ℕ) (ms : List ℕ)
       → ((i m : ℕ) → entry (suc i) ms ≡ some m → (m < length T) × (inside m [] ≡ known shaped filling m) × Regular T Ok (inside m (under (i + p) ps)))
@@ -141,7 +142,7 @@ module _ (T : Table) (sound : SoundTable T) (Ok : Hole → Type 0) where
   fits-known nothing-placed m = refl
   fits-known right-here m = refl
   fits-known (below-sequence ms e starts fits) m = refl
-  fits-known (below-choice ms e leads starts fits) m = refl
+  fits-known (below-choice need ms e leads starts fits) m = refl
   fits-known (below-list n e starts fits) m = refl
 
   -- the member of a choice, the item of a list
@@ -160,8 +161,8 @@ module _ (T : Table) (sound : SoundTable T) (Ok : Hole → Type 0) where
       (λ i m at.
       let there : m < length T = (unfold stepFrom membersOf in step-exists T (sound .well-formed) τ (suc i) m (sequence ms) e at) in
       (there, fits-known (fits (suc i) m at) m, rw add-one (grow-regular (fits (suc i) m at) there (below (suc i) (placed (q ∷ path) a ∷ ps) all)))))
-  grow-regular (below-choice {n} {τ} {q} {path} {a} {ps} ms e leads starts fits) exists all =
-      let there : next T τ q < length T = step-exists T (sound .well-formed) τ q (next T τ q) (choice ms) e leads in
+  grow-regular (below-choice {n} {τ} {q} {path} {a} {ps} need ms e leads starts fits) exists all =
+      let there : next T τ q < length T = step-exists T (sound .well-formed) τ q (next T τ q) (choice need ms) e leads in
       rw e (alone-regular (next T τ q) there (grow-regular fits there (below q (placed (q ∷ path) a ∷ ps) all)))
   grow-regular (below-list {n} {τ} {path} {a} {ps} m e starts fits) exists all =
       let there : m < length T = (unfold stepFrom membersOf entry in step-exists T (sound .well-formed) τ 1 m (list m) e refl) in
@@ -169,21 +170,24 @@ module _ (T : Table) (sound : SoundTable T) (Ok : Hole → Type 0) where
 
 -- ---- the holes of a template
 
--- the holes of a source type of a kind
-abbrev pub HoleIn : Kind → Hole → Type 0
-HoleIn text characters = Unit {0}
-HoleIn text (child i) = ⊥
-HoleIn text items = ⊥
-HoleIn empty h = ⊥
-HoleIn (sequence ms) characters = ⊥
-HoleIn (sequence ms) (child i) = i < length ms
-HoleIn (sequence ms) items = ⊥
-HoleIn (choice ms) characters = ⊥
-HoleIn (choice ms) (child i) = i ≡ 0
-HoleIn (choice ms) items = ⊥
-HoleIn (list m) characters = ⊥
-HoleIn (list m) (child i) = ⊥
-HoleIn (list m) items = Unit {0}
+-- the holes of a source type of a kind whose first child, if there is one, has type t
+abbrev pub HoleIn : Kind → Option ℕ → Hole → Type 0
+HoleIn text t characters = Unit {0}
+HoleIn text t (child i) = ⊥
+HoleIn text t items = ⊥
+HoleIn empty t h = ⊥
+HoleIn (sequence ms) t characters = ⊥
+HoleIn (sequence ms) t (child i) = i < length ms
+HoleIn (sequence ms) t items = ⊥
+HoleIn (choice need ms) none characters = Unit {0}
+HoleIn (choice need ms) none (child i) = ⊥
+HoleIn (choice need ms) none items = ⊥
+HoleIn (choice need ms) (some t) characters = ⊥
+HoleIn (choice need ms) (some t) (child i) = i ≡ 0
+HoleIn (choice need ms) (some t) items = ⊥
+HoleIn (list m) t characters = ⊥
+HoleIn (list m) t (child i) = ⊥
+HoleIn (list m) t items = Unit {0}
 
 -- the one hole of an item's row
 abbrev pub HoleOfItem : Hole → Type 0
@@ -205,14 +209,15 @@ unfolding holesAlong
 along-regular T sound Ok held [] each = all-none
 along-regular T sound Ok held (p ∷ pss) each = all-more (each 0 (omega arith)) (along-regular T sound Ok (λ i. held (suc i)) pss (λ i less. each (suc i) (omega arith)))
 
-holes-regular : (X : Setting) (sound : SoundTable (X .target)) (κ : Kind) (τ : ℕ) (pss : List (List ℕ)) (t : ℕ) → ValidEdges X τ κ pss
-    → All (PlacedRegular (X .target) sound (HoleIn κ)) (holesOf gap (X .target) κ τ pss t)
-unfolding holesOf
+holes-regular : (X : Setting) (sound : SoundTable (X .target)) (κ : Kind) (τ : ℕ) (pss : List (List ℕ)) (t : Option ℕ) → ValidEdges X τ κ pss
+    → All (PlacedRegular (X .target) sound (HoleIn κ t)) (holesOf gap (X .target) κ τ pss t)
+unfolding holesOf choiceHole
 holes-regular X sound text τ pss t edges = all-more (regular-gap tt) all-none
 holes-regular X sound empty τ pss t edges = all-none
 holes-regular X sound (sequence ms) τ pss t edges =
-    along-regular (X .target) sound (HoleIn (sequence ms)) (λ i. gap (child i)) pss (λ i less. regular-gap (rw (along-length (member-paths edges)) at less))
-holes-regular X sound (choice ms) τ pss t edges = all-more (regular-gap refl) all-none
+    along-regular (X .target) sound (HoleIn (sequence ms) t) (λ i. gap (child i)) pss (λ i less. regular-gap (rw (along-length (member-paths edges)) at less))
+holes-regular X sound (choice need ms) τ pss none edges = all-more (regular-gap tt) all-none
+holes-regular X sound (choice need ms) τ pss (some t) edges = all-more (regular-gap refl) all-none
 holes-regular X sound (list m) τ pss t edges = all-more (regular-gap tt) all-none
 
 -- each hole has a place of its own: children that hold what stands in the holes of a sequence
@@ -226,16 +231,20 @@ in-places σ [] = refl
 in-places σ (p ∷ pss) = rw (in-places (λ i. σ (suc i)) pss)
 
 -- so what stands in the holes of a template fits
-pub holes-fit : {A : Type 0} (B : Builder A) (X : Setting) (τ t : ℕ) {κ : Kind} {pss : List (List ℕ)} (σ : Hole → A)
+pub holes-fit : {A : Type 0} (B : Builder A) (X : Setting) (τ : ℕ) (t : Option ℕ) {κ : Kind} {pss : List (List ℕ)} (σ : Hole → A)
     → ValidEdges X τ κ pss → Fits (X .target) (suc maxSteps) τ (holesOf σ (X .target) κ τ pss t)
-unfolding holesOf onlyPath
+unfolding holesOf choiceHole firstPath
 holes-fit B X τ t σ (text-edge g e) = single-fits (X .target) maxSteps _ (g .walks) (g .short)
 holes-fit B X τ t σ no-edge = nothing-placed
 holes-fit B X τ t σ (sequence-edges {ms} {pss} al pr) =
     subst (Fits (X .target) (suc maxSteps) τ) (in-places (λ i. σ (child i)) pss)
     (unfold placements in placements-fit B X [] τ (sequence ms) pss (inPlaces (λ i. σ (child i)) pss) (sequence-edges al pr))
-holes-fit B X τ t σ (choice-edges {ms} {pss} al pr) =
-    single-fits (X .target) maxSteps _ (member-walks X τ t (choice ms) ms pss al .0) (member-walks X τ t (choice ms) ms pss al .1)
+holes-fit B X τ none σ (choice-edges {need} {ms} al pr sh) =
+    let walks = shared-walks X τ (choice need ms) al in
+    single-fits (X .target) maxSteps _ (walks .0) (walks .1)
+holes-fit B X τ (some t) σ (choice-edges {need} {ms} {pss} al pr sh) =
+    let walks = member-walks X τ t (choice need ms) ms pss al in
+    single-fits (X .target) maxSteps _ (walks .0) (walks .1)
 holes-fit B X τ t σ (list-edge {ps = ps} g) =
     let parts : GoodParts (X .target) τ maxSteps (divide (X .target) τ ps) = divide-good (X .target) τ maxSteps ps (g .good .walks) (g .good .short) in
     single-fits (X .target) maxSteps _ (parts .before-walks) (parts .before-short)
@@ -246,7 +255,7 @@ unfolding divideAt
 item-at-exists T wf τ p ps d text e later = later
 item-at-exists T wf τ p ps d empty e later = later
 item-at-exists T wf τ p ps d (sequence ms) e later = later
-item-at-exists T wf τ p ps d (choice ms) e later = later
+item-at-exists T wf τ p ps d (choice need ms) e later = later
 item-at-exists T wf τ p ps d (list m) e later = unfold stepFrom membersOf entry in step-exists T wf τ 1 m (list m) e refl
 
 item-exists : (T : Table) → WellFormed T → (τ : ℕ) (ps : List ℕ) → divide T τ ps .item < length T
@@ -256,17 +265,17 @@ item-exists T wf τ (p ∷ ps) = item-at-exists T wf τ p ps (divide T (next T �
 
 module _ (X : Setting) (valid : Valid X) where
   -- a template's shape
-  pub template-regular : (s t : ℕ) → s < length (X .source) → Regular (X .target) (HoleIn (kindOf (X .source) s)) (templateBy shaped gap X s t)
+  pub template-regular : (s : ℕ) (t : Option ℕ) → s < length (X .source) → Regular (X .target) (HoleIn (kindOf (X .source) s) t) (templateBy shaped gap X s t)
   unfolding templateBy place
   template-regular s t exists =
-      grow-regular (X .target) (valid .target-sound) (HoleIn (kindOf (X .source) s)) (holes-fit shaped X _ t gap (valid .edges s exists)) (valid .target-exists s exists)
+      grow-regular (X .target) (valid .target-sound) (HoleIn (kindOf (X .source) s) t) (holes-fit shaped X _ t gap (valid .edges s exists)) (valid .target-exists s exists)
       (holes-regular X (valid .target-sound) (kindOf (X .source) s) _ _ t (valid .edges s exists))
 
   -- an item's shape
   pub item-regular : (s m : ℕ) → s < length (X .source) → kindOf (X .source) s ≡ list m → Regular (X .target) HoleOfItem (itemBy shaped X s (gap (child 0)) bare)
   unfolding itemBy place dividedOf shaped
   item-regular s m exists e =
-      let there = item-exists (X .target) (valid .target-sound .well-formed) (targetOf (X .embedding) s) (onlyPath (pathsOf (X .embedding) s)) in
+      let there = item-exists (X .target) (valid .target-sound .well-formed) (targetOf (X .embedding) s) (firstPath (pathsOf (X .embedding) s)) in
       regular-built there
       (grow-regular (X .target) (valid .target-sound) HoleOfItem (rest-always-fits X valid s m exists e (gap (child 0))) there (all-more (regular-gap refl) all-none))
       regular-none

@@ -1,20 +1,22 @@
 -- Length, filler and levels of an image are found from the rows of its templates.
 use mathlib.Core.Path.{_≡_, refl, sym, ap, ap₂, _∙_}
 use mathlib.Core.Bool.{Bool, true, false}
+use mathlib.Core.Option.{Option}
 use mathlib.Core.List.{List, [], _∷_, _++_, map, append-assoc, append-nil}
 use Prim.Native.Nat.{ℕ, zero, suc, _+_, _*_, _-_, _≤_, _<_, max}
 use native.Mathlib.Nat.{zero-add, add-comm, add-assoc, add-zero}
 use native.Mathlib.Omega.{arith}
 use lib.ListN.{length, getD}
 use Rattle.model.specs.Definitions.Basics.{pick, some-of}
+use Rattle.model.specs.Definitions.Commands.{Need, needed, optional}
 use Rattle.model.specs.Definitions.Table.{Kind, text, empty, sequence, choice, list, Table, kindOf, isList}
 use Rattle.model.specs.Definitions.Heights.{heights, heightOf}
 use Rattle.model.specs.Definitions.Content.{Content, end, char, elem, levels}
-use Rattle.model.specs.Definitions.Conformance.{Holds, no-character, one-character, nothing, no-member, one-member, chosen, no-item, one-item}
-use Rattle.model.specs.Definitions.Embedding.{targetOf, pathsOf, next, leaves, divide, divideAt, Divided}
+use Rattle.model.specs.Definitions.Conformance.{Holds, no-character, one-character, nothing, no-member, one-member, chosen, left-out, no-item, one-item}
+use Rattle.model.specs.Definitions.Embedding.{targetOf, pathsOf, firstPath, next, leaves, divide, divideAt, Divided}
 use Rattle.model.specs.Definitions.Filler.{Builder, content, levelsOf, lengthOf, fillersOf, known, fillMembers, fillKind, fillTo, fillers, fillerLength}
-use Rattle.model.specs.Definitions.Image.{Setting, Placement, placed, place, letter, element, lettersOf, onlyPath, imageOfElement, children, imageBy, imageLevels, imageLength, imageFiller}
-use Rattle.model.specs.Definitions.Templates.{Hole, holesAlong, holesOf, templateBy, dividedOf, itemBy, heldByChild, firstType, itemsBy, inHoles, Shape, Symbol, opening, closing, filler, hole, rowOf, template, itemTemplate, rowLength, rowLevels, rowFiller, firstIn, depthOf, around, ownLength, ownFiller, itemLength, itemFiller, ownLevels, itemLevels, sumLength, sumFiller, deepest}
+use Rattle.model.specs.Definitions.Image.{Setting, Placement, placed, place, letter, element, lettersOf, pathOfMember, imageOfElement, children, imageBy, imageLevels, imageLength, imageFiller}
+use Rattle.model.specs.Definitions.Templates.{Hole, choiceHole, holesAlong, holesOf, templateBy, dividedOf, itemBy, heldByChild, firstType, itemsBy, inHoles, Shape, Symbol, opening, closing, filler, hole, rowOf, template, itemTemplate, rowLength, rowLevels, rowFiller, firstIn, depthOf, around, ownLength, ownFiller, itemLength, itemFiller, ownLevels, itemLevels, sumLength, sumFiller, deepest}
 use Rattle.model.specs.Theorems.Facts.{SoundTable, Along, along-none, along-both, ValidEdges, list-edge, Valid}
 use Rattle.model.specs.Theorems.Tools.{true-false}
 use Rattle.model.specs.Theorems.ImageConforms.{list-left}
@@ -116,7 +118,8 @@ unfolding fillKind
 same-kind hs fs text = unfold fillBytesOf lengthOf in refl
 same-kind hs fs empty = unfold fillBytesOf lengthOf in refl
 same-kind hs fs (sequence ms) = same-members fs ms
-same-kind hs fs (choice ms) = same-members fs _
+same-kind hs fs (choice needed ms) = same-members fs _
+same-kind hs fs (choice optional ms) = unfold fillBytesOf lengthOf in refl
 same-kind hs fs (list m) = unfold fillBytesOf lengthOf in refl
 
 same-round : (hs fs : List ℕ) (T : Table) → map (fillKind fillBytesOf hs fs) T ≡ map (fillKind lengthOf hs fs) T
@@ -146,7 +149,7 @@ filler-rows T =
 -- ---- sums over a source document
 
 -- what the content of an element of type s adds, given a row's and an item's row's own part
-sumOf : Setting → ℕ → (ℕ → ℕ → ℕ) → (ℕ → ℕ) → ℕ → Content → ℕ
+sumOf : Setting → ℕ → (ℕ → Option ℕ → ℕ) → (ℕ → ℕ) → ℕ → Content → ℕ
 sumOf X c own item s end = 0
 sumOf X c own item s (char x r) = c + sumOf X c own item s r
 sumOf X c own item s (elem t k r) = around (kindOf (X .source) s) (item s) + (own t (firstIn k) + sumOf X c own item t k) + sumOf X c own item s r
@@ -174,7 +177,7 @@ module _ (B : Builder ℕ) (M : Adds B) (X : Setting) (valid : Valid X) (μ : Li
   abbrev fill : List ℕ
   fill = fillers B (X .target)
 
-  abbrev own : ℕ → ℕ → ℕ
+  abbrev own : ℕ → Option ℕ → ℕ
   own s t = μ (template X s t)
 
   abbrev item : ℕ → ℕ
@@ -184,7 +187,7 @@ module _ (B : Builder ℕ) (M : Adds B) (X : Setting) (valid : Valid X) (μ : Li
   adds s k = sumOf X (M .letter-cost) own item s k
 
   -- the rows' measures are those of templates with nothing in their holes
-  own-is : (s t : ℕ) → s < length (X .source) → own s t ≡ templateBy B (λ h. 0) X s t
+  own-is : (s : ℕ) (t : Option ℕ) → s < length (X .source) → own s t ≡ templateBy B (λ h. 0) X s t
   unfolding template
   own-is s t exists = row-adds B M μ R (template-regular X valid s t exists) ∙ folded-template B (λ h. 0) X s t
 
@@ -245,6 +248,13 @@ module _ (B : Builder ℕ) (M : Adds B) (X : Setting) (valid : Valid X) (μ : Li
   unfolding sumOf Sums
   chosen-sum s m k none h = omega (arith, none, h)
 
+  choice-sum : (s : ℕ) (shared : List ℕ) {need : Need} {ms : List ℕ} (pss : List (List ℕ)) {k : Content} → around (kindOf (X .source) s) (item s) ≡ 0
+      → Holds (X .source) (choice need ms) k → Each Sums k
+      → total B (adds-join M) (choiceHole (inHoles B (itemBy B X s) (children B X fill k)) shared ms pss (firstType (children B X fill k)) ∷ []) ≡ adds s k
+  unfolding choiceHole inHoles children firstType
+  choice-sum s shared pss none (chosen {m = m} {k = k} mem held) (each-elem h each-end) = unfold heldByChild in adds-one _ _ ∙ chosen-sum s m k none h
+  choice-sum s shared pss none left-out each-end = unfold lettersOf sumOf in adds-one _ _ ∙ M .no-cost
+
   kind-sum : (s : ℕ) (κ : Kind) {k : Content} → s < length (X .source) → kindOf (X .source) s ≡ κ
       → ValidEdges X (targetOf (X .embedding) s) κ (pathsOf (X .embedding) s) → Holds (X .source) κ k → Each Sums k
       → total B (adds-join M) (holesOf (inHoles B (itemBy B X s) (children B X fill k)) (X .target) κ (targetOf (X .embedding) s) (pathsOf (X .embedding) s) (firstType (children B X fill k)))
@@ -253,8 +263,7 @@ module _ (B : Builder ℕ) (M : Adds B) (X : Setting) (valid : Valid X) (μ : Li
   kind-sum s text exists e edges held each = adds-one _ _ ∙ letters-sum s held
   kind-sum s empty exists e edges nothing each = unfold sumOf in adds-none
   kind-sum s (sequence ms) exists e edges held each = members-sum s (rw e) (member-paths edges) held each
-  kind-sum s (choice ms) exists e edges (chosen {m} {k = k} mem held) (each-elem h each-end) =
-      adds-one _ _ ∙ (unfold children heldByChild in chosen-sum s m k (rw e) h)
+  kind-sum s (choice need ms) exists e edges held each = choice-sum s _ _ (rw e) held each
   kind-sum s (list m) exists e edges held each =
       adds-one _ _ ∙ items-sum s (λ a r. rw e (adds-item s m a r exists e)) held each
 
@@ -263,7 +272,7 @@ module _ (B : Builder ℕ) (M : Adds B) (X : Setting) (valid : Valid X) (μ : Li
   element-sums s k exists held each =
       element-template B X s k (valid .edges s exists) held
       ∙ template-parts B (adds-join M) X valid s _ _ exists
-      ∙ ap₂ _+_ (ap (λ (t : ℕ). templateBy B (λ i. 0) X s t) (first-child B X fill k) ∙ sym (own-is s (firstIn k) exists))
+      ∙ ap₂ _+_ (ap (λ (t : Option ℕ). templateBy B (λ i. 0) X s t) (first-child B X fill k) ∙ sym (own-is s (firstIn k) exists))
       (kind-sum s (kindOf (X .source) s) exists refl (valid .edges s exists) held each)
 
   -- The measure of the image is the sum over the rows of the source elements.
@@ -380,7 +389,7 @@ unfolding divideAt some-of isList
 divided-at p ps d text κs left later = omega (arith, later left)
 divided-at p ps d empty κs left later = omega (arith, later left)
 divided-at p ps d (sequence ms) κs left later = omega (arith, later left)
-divided-at p ps d (choice ms) κs left later = omega (arith, later left)
+divided-at p ps d (choice need ms) κs left later = omega (arith, later left)
 divided-at p ps d (list m) κs left later = omega arith
 
 divided-length : (T : Table) (τ : ℕ) (ps : List ℕ) → some-of isList (leaves T τ ps) ≡ true
@@ -390,8 +399,8 @@ divided-length T τ [] left = true-false left (unfold some-of in refl)
 divided-length T τ (p ∷ ps) left = divided-at p ps (divide T (next T τ p) ps) (kindOf T τ) (leaves T (next T τ p) ps) left (divided-length T (next T τ p) ps)
 
 list-path-length : {X : Setting} {τ m : ℕ} {pss : List (List ℕ)} → ValidEdges X τ (list m) pss
-    → length (divide (X .target) τ (onlyPath pss) .before) + suc (length (divide (X .target) τ (onlyPath pss) .rest)) ≡ length (onlyPath pss)
-unfolding onlyPath
+    → length (divide (X .target) τ (firstPath pss) .before) + suc (length (divide (X .target) τ (firstPath pss) .rest)) ≡ length (firstPath pss)
+unfolding firstPath
 list-path-length {X} {τ} (list-edge {ps = ps} g) = divided-length (X .target) τ ps (list-left (g .good))
 
 -- what is placed: the deepest, each below its path
@@ -426,7 +435,7 @@ module _ (X : Setting) (valid : Valid X) where
   abbrev flat : List ℕ
   flat = fillers levelsOf (X .target)
 
-  own-levels-is : (s t : ℕ) → s < length (X .source) → ownLevels X s t ≡ templateBy levelsOf (λ h. 0) X s t
+  own-levels-is : (s : ℕ) (t : Option ℕ) → s < length (X .source) → ownLevels X s t ≡ templateBy levelsOf (λ h. 0) X s t
   unfolding ownLevels template
   own-levels-is s t exists = row-levels (valid .target-sound) (template-regular X valid s t exists) 0 ∙ below-first _ ∙ folded-template levelsOf (λ h. 0) X s t
 
@@ -498,6 +507,18 @@ module _ (X : Setting) (valid : Valid X) where
       item-parts levelsOf levels-join X valid s m a r exists e
       ∙ ap (λ (x : ℕ). max (itemBy levelsOf X s 0 0) (max (suc x) r)) (levels-lift (dividedOf X s .rest) a)
 
+  choice-deepest : (s own-levels : ℕ) (shared : List ℕ) {need : Need} {ms : List ℕ} (pss : List (List ℕ)) {k : Content} → around (kindOf (X .source) s) (itemLevels X s) ≡ 0
+      → ((t : ℕ) → depthOf (kindOf (X .source) s) (pathsOf (X .embedding) s) 0 t ≡ length (pathOfMember t ms pss))
+      → Holds (X .source) (choice need ms) k → Each Deep k
+      → total levelsOf levels-join (choiceHole (λ h. 0) shared ms pss (firstType (children levelsOf X flat k)) ∷ []) ≤ own-levels
+      → max own-levels (total levelsOf levels-join (choiceHole (inHoles levelsOf (itemBy levelsOf X s) (children levelsOf X flat k)) shared ms pss (firstType (children levelsOf X flat k)) ∷ []))
+      ≡ max own-levels (deepest X s 0 k)
+  unfolding choiceHole inHoles children firstType
+  choice-deepest s own-levels shared pss none depth (chosen {m = m} {k = k} mem held) (each-elem h each-end) enough =
+      unfold heldByChild in ap (max own-levels) (total-one _ _ ∙ (rw (depth m) at (chosen-deepest s m k none h)))
+  choice-deepest s own-levels shared pss none depth left-out each-end enough =
+      unfold lettersOf deepest levelsOf in omega (arith, total-one shared 0, enough)
+
   kind-deepest : (s own-levels : ℕ) (κ : Kind) {k : Content} → s < length (X .source) → kindOf (X .source) s ≡ κ
       → ValidEdges X (targetOf (X .embedding) s) κ (pathsOf (X .embedding) s) → Holds (X .source) κ k → Each Deep k
       → total levelsOf levels-join (holesOf (λ h. 0) (X .target) κ (targetOf (X .embedding) s) (pathsOf (X .embedding) s) (firstType (children levelsOf X flat k))) ≤ own-levels
@@ -505,14 +526,14 @@ module _ (X : Setting) (valid : Valid X) where
       ≡ max own-levels (deepest X s 0 k)
   unfolding holesOf inHoles around depthOf
   kind-deepest s own-levels text {k} exists e edges held each enough =
-      let path : List ℕ = onlyPath (pathsOf (X .embedding) s) in
+      let path : List ℕ = firstPath (pathsOf (X .embedding) s) in
       omega (arith, total-one path (lettersOf levelsOf (children levelsOf X flat k)), total-one path 0, letters-flat held, text-flat s held)
   kind-deepest s own-levels empty exists e edges nothing each enough = unfold deepest in ap (max own-levels) total-none
   kind-deepest s own-levels (sequence ms) exists e edges held each enough = ap (max own-levels) (members-deepest s 0 (rw e) (λ j t. rw e) (λ j. rw (add-zero j)) (member-paths edges) held each)
-  kind-deepest s own-levels (choice ms) exists e edges (chosen {m} {k = k} mem held) (each-elem h each-end) enough =
-      ap (max own-levels) (total-one _ _ ∙ (unfold children heldByChild firstType in rw e at (chosen-deepest s m k (rw e) h)))
+  kind-deepest s own-levels (choice need ms) exists e edges held each enough =
+      choice-deepest s own-levels _ _ (rw e) (λ t. rw e) held each enough
   kind-deepest s own-levels (list m) {k} exists e edges held each enough =
-      let path : List ℕ = onlyPath (pathsOf (X .embedding) s) in
+      let path : List ℕ = firstPath (pathsOf (X .embedding) s) in
       let d : Divided = divide (X .target) (targetOf (X .embedding) s) path in
       let items : ℕ = itemsBy levelsOf (itemBy levelsOf X s) (children levelsOf X flat k) in
       let deep : max (length (d .before)) (length (d .before) + items) ≡ max (length (d .before)) (deepest X s 0 k) =
@@ -520,7 +541,7 @@ module _ (X : Setting) (valid : Valid X) where
       items-deepest s 0 (length (d .before)) (length (d .rest)) (rw e (item-levels-is s m exists e)) (λ j t. rw e (sym (list-path-length edges))) (λ a r. item-deep s m a r exists e) held each) in
       omega (arith, total-one (d .before) items, total-one (d .before) 0, deep)
 
-  template-levels : (s t : ℕ) (σ : Hole → ℕ) → s < length (X .source)
+  template-levels : (s : ℕ) (t : Option ℕ) (σ : Hole → ℕ) → s < length (X .source)
       → templateBy levelsOf σ X s t
       ≡ max (templateBy levelsOf (λ h. 0) X s t) (total levelsOf levels-join (holesOf σ (X .target) (kindOf (X .source) s) (targetOf (X .embedding) s) (pathsOf (X .embedding) s) t))
   unfolding levels-join
@@ -529,7 +550,7 @@ module _ (X : Setting) (valid : Valid X) where
   element-deep : (s : ℕ) (k : Content) → s < length (X .source) → Holds (X .source) (kindOf (X .source) s) k → Each Deep k → Deep s k
   unfolding Deep
   element-deep s k exists held each =
-      let t : ℕ = firstType (children levelsOf X flat k) in
+      let t : Option ℕ = firstType (children levelsOf X flat k) in
       let own-row : templateBy levelsOf (λ h. 0) X s t ≡ ownLevels X s (firstIn k) =
       sym (own-levels-is s t exists) ∙ ap (ownLevels X s) (first-child levelsOf X flat k) in
       element-template levelsOf X s k (valid .edges s exists) held

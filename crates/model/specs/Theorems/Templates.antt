@@ -1,17 +1,19 @@
 -- The image of a source document is written from templates; what filler is written from; which symbols rows have.
 use mathlib.Core.Path.{_≡_, refl, sym, ap, ap₂, _∙_}
 use mathlib.Core.Bool.{true, false}
+use mathlib.Core.Option.{Option, none, some}
 use mathlib.Core.List.{List, [], _∷_, _++_, map, append-assoc, append-nil, List·Memᴰ}
 use Prim.Native.Nat.{ℕ, zero, suc, _<_}
 use lib.ListN.{length}
+use Rattle.model.specs.Definitions.Commands.{Need}
 use Rattle.model.specs.Definitions.Table.{Kind, text, empty, sequence, choice, list, Table, kindOf}
 use Rattle.model.specs.Definitions.Heights.{heights, heightOf}
 use Rattle.model.specs.Definitions.Content.{Content, end, char, elem, bytes}
-use Rattle.model.specs.Definitions.Conformance.{Holds, no-character, one-character, no-member, one-member, chosen}
-use Rattle.model.specs.Definitions.Embedding.{targetOf, pathsOf, divide}
+use Rattle.model.specs.Definitions.Conformance.{Holds, no-character, one-character, no-member, one-member, chosen, left-out}
+use Rattle.model.specs.Definitions.Embedding.{targetOf, pathsOf, firstPath, divide}
 use Rattle.model.specs.Definitions.Filler.{Builder, content, known, fillMembers, fillers}
-use Rattle.model.specs.Definitions.Image.{Setting, placed, place, Child, letter, element, lettersOf, alongPaths, alongChoice, alongList, itemsOf, placements, onlyPath, imageOfElement, children, imageBy, image}
-use Rattle.model.specs.Definitions.Templates.{Hole, characters, child, items, holesAlong, holesOf, templateBy, dividedOf, itemBy, heldByChild, firstType, itemsBy, inHoles, Shape, shaped, Symbol, opening, closing, filler, hole, rowOf, template, itemTemplate, fillerRow, fillerBytes, filledRow, bytesOf, writtenItem, writtenElement, writtenChildren, writes, firstIn, atChild, overChildren, charactersOf, heldBy}
+use Rattle.model.specs.Definitions.Image.{Setting, placed, place, Child, letter, element, lettersOf, alongPaths, alongChoice, alongList, itemsOf, placements, imageOfElement, children, imageBy, image}
+use Rattle.model.specs.Definitions.Templates.{Hole, characters, child, items, holesAlong, choiceHole, holesOf, templateBy, dividedOf, itemBy, heldByChild, firstType, itemsBy, inHoles, Shape, shaped, Symbol, opening, closing, filler, hole, rowOf, template, itemTemplate, fillerRow, fillerBytes, filledRow, bytesOf, writtenItem, writtenElement, writtenChildren, writes, firstIn, atChild, overChildren, charactersOf, heldBy}
 use Rattle.model.specs.Theorems.Facts.{SoundTable, All, all-none, all-more, Along, along-none, along-both, ValidEdges, Valid}
 use Rattle.model.specs.Theorems.FillerLaws.{filled, fill-filled, filled-lower, fill-step}
 use Rattle.model.specs.Theorems.Measures.{Hom, element-hom}
@@ -35,10 +37,17 @@ items-same B X s (letter c ∷ ks) = items-same B X s ks
 items-same B X s (element t a ∷ ks) = ap (B .element true _ _) (items-same B X s ks)
 
 list-in-holes : {A : Type 0} (B : Builder A) (X : Setting) (s : ℕ) (ks : List (Child A))
-    → alongList B (X .target) (fillers B (X .target)) (divide (X .target) (targetOf (X .embedding) s) (onlyPath (pathsOf (X .embedding) s))) ks
-    ≡ placed (divide (X .target) (targetOf (X .embedding) s) (onlyPath (pathsOf (X .embedding) s)) .before) (itemsBy B (itemBy B X s) ks) ∷ []
+    → alongList B (X .target) (fillers B (X .target)) (divide (X .target) (targetOf (X .embedding) s) (firstPath (pathsOf (X .embedding) s))) ks
+    ≡ placed (divide (X .target) (targetOf (X .embedding) s) (firstPath (pathsOf (X .embedding) s)) .before) (itemsBy B (itemBy B X s) ks) ∷ []
 unfolding alongList dividedOf
 list-in-holes {A} B X s ks = ap (λ (a : A). placed (dividedOf X s .before) a ∷ []) (items-same B X s ks)
+
+choice-in-holes : {A : Type 0} (B : Builder A) (X : Setting) (fs : List A) (item : A → A → A) (shared : List ℕ) {need : Need} {ms : List ℕ} (pss : List (List ℕ)) {k : Content}
+    → Holds (X .source) (choice need ms) k
+    → alongChoice B shared ms pss (children B X fs k) ≡ choiceHole (inHoles B item (children B X fs k)) shared ms pss (firstType (children B X fs k)) ∷ []
+unfolding alongChoice choiceHole children firstType inHoles
+choice-in-holes B X fs item shared pss (chosen mem held) = unfold heldByChild in refl
+choice-in-holes B X fs item shared pss left-out = unfold lettersOf in refl
 
 -- what is placed for an element is what stands in its holes
 placed-in-holes : {A : Type 0} (B : Builder A) (X : Setting) (s : ℕ) (κ : Kind) {k : Content}
@@ -50,7 +59,7 @@ unfolding placements holesOf inHoles
 placed-in-holes B X s text edges held = refl
 placed-in-holes B X s empty edges held = refl
 placed-in-holes B X s (sequence ms) edges held = members-in-holes B X _ (member-paths edges) held
-placed-in-holes B X s (choice ms) edges (chosen mem held) = unfold alongChoice children heldByChild firstType in refl
+placed-in-holes B X s (choice need ms) edges held = choice-in-holes B X _ (itemBy B X s) _ _ held
 placed-in-holes B X s (list m) {k} edges held = list-in-holes B X s (children B X (fillers B (X .target)) k)
 
 -- What the image of a source element holds is what its holes make of its children, for every builder.
@@ -144,12 +153,12 @@ regular-row P opens closes fills holes (regular-built {t} less below after) =
     all-more (opens t less) (all-append (regular-row P opens closes fills holes below) (all-more closes (regular-row P opens closes fills holes after)))
 regular-row P opens closes fills holes (regular-filler {t} less e after) = all-more (fills t less) (regular-row P opens closes fills holes after)
 
--- no hole, or one that a source type of kind κ has
-abbrev pub HoleOf : Kind → Symbol → Type 0
-HoleOf κ (opening t) = Unit {0}
-HoleOf κ closing = Unit {0}
-HoleOf κ (filler t) = Unit {0}
-HoleOf κ (hole h) = HoleIn κ h
+-- no hole, or one that a source type of kind κ has whose first child, if there is one, is of a type
+abbrev pub HoleOf : Kind → Option ℕ → Symbol → Type 0
+HoleOf κ first (opening t) = Unit {0}
+HoleOf κ first closing = Unit {0}
+HoleOf κ first (filler t) = Unit {0}
+HoleOf κ first (hole h) = HoleIn κ first h
 
 -- no hole, or the one of an item's row
 abbrev pub ItemHole : Symbol → Type 0
@@ -175,11 +184,11 @@ filler-types T sound t exists = types-below (filler-regular T sound (λ h. ⊥) 
 
 module _ (X : Setting) (valid : Valid X) where
   -- a template has no holes but those of its source type, and names types that exist
-  pub template-holes : (s t : ℕ) → s < length (X .source) → All (HoleOf (kindOf (X .source) s)) (template X s t)
+  pub template-holes : (s : ℕ) (t : Option ℕ) → s < length (X .source) → All (HoleOf (kindOf (X .source) s) t) (template X s t)
   unfolding template
-  template-holes s t exists = regular-row (HoleOf (kindOf (X .source) s)) (λ t less. tt) tt (λ t less. tt) (λ h ok. ok) (template-regular X valid s t exists)
+  template-holes s t exists = regular-row (HoleOf (kindOf (X .source) s) t) (λ t less. tt) tt (λ t less. tt) (λ h ok. ok) (template-regular X valid s t exists)
 
-  pub template-types : (s t : ℕ) → s < length (X .source) → All (TypeBelow (length (X .target))) (template X s t)
+  pub template-types : (s : ℕ) (t : Option ℕ) → s < length (X .source) → All (TypeBelow (length (X .target))) (template X s t)
   unfolding template
   template-types s t exists = types-below (template-regular X valid s t exists)
 
@@ -201,16 +210,17 @@ itemsBy-same B f g e (letter c ∷ ks) = itemsBy-same B f g e ks
 itemsBy-same B f g e (element t a ∷ ks) = rw (itemsBy-same B f g e ks) (e a (itemsBy B g ks))
 
 -- only a list has items in a hole
-inHoles-same : {A : Type 0} (B : Builder A) (f g : A → A → A) (κ : Kind) → ((m : ℕ) → κ ≡ list m → (a r : A) → f a r ≡ g a r) → (ks : List (Child A)) (h : Hole)
-    → HoleIn κ h → inHoles B f ks h ≡ inHoles B g ks h
+inHoles-same : {A : Type 0} (B : Builder A) (f g : A → A → A) (κ : Kind) (t : Option ℕ) → ((m : ℕ) → κ ≡ list m → (a r : A) → f a r ≡ g a r) → (ks : List (Child A)) (h : Hole)
+    → HoleIn κ t h → inHoles B f ks h ≡ inHoles B g ks h
 unfolding inHoles
-inHoles-same B f g κ e ks characters ok = refl
-inHoles-same B f g κ e ks (child i) ok = refl
-inHoles-same B f g text e ks items ok = absurd ok
-inHoles-same B f g empty e ks items ok = absurd ok
-inHoles-same B f g (sequence ms) e ks items ok = absurd ok
-inHoles-same B f g (choice ms) e ks items ok = absurd ok
-inHoles-same B f g (list m) e ks items ok = itemsBy-same B f g (e m refl) ks
+inHoles-same B f g κ t e ks characters ok = refl
+inHoles-same B f g κ t e ks (child i) ok = refl
+inHoles-same B f g text t e ks items ok = absurd ok
+inHoles-same B f g empty t e ks items ok = absurd ok
+inHoles-same B f g (sequence ms) t e ks items ok = absurd ok
+inHoles-same B f g (choice need ms) none e ks items ok = absurd ok
+inHoles-same B f g (choice need ms) (some t) e ks items ok = absurd ok
+inHoles-same B f g (list m) t e ks items ok = itemsBy-same B f g (e m refl) ks
 
 -- an element and what comes after it
 element-then : (t : ℕ) (k r : List ℕ) → bytesOf .element true t k (bytesOf .none) ++ r ≡ bytesOf .element true t k r
@@ -234,7 +244,7 @@ module _ (X : Setting) (valid : Valid X) where
   unfolding writtenElement template
   written-element s exists ks =
       filled-regular (inHoles bytesOf (writtenItem X s) ks) (inHoles bytesOf (itemBy bytesOf X s) ks)
-      (inHoles-same bytesOf (writtenItem X s) (itemBy bytesOf X s) (kindOf (X .source) s) (λ m e. filled-item s m exists e) ks)
+      (inHoles-same bytesOf (writtenItem X s) (itemBy bytesOf X s) (kindOf (X .source) s) (firstType ks) (λ m e. filled-item s m exists e) ks)
       (template-regular X valid s (firstType ks) exists)
       ∙ folded-template bytesOf _ X s (firstType ks)
 

@@ -1,50 +1,33 @@
--- `room` meets its contract.
-use mathlib.Core.Path.{ap₂, _∙_}
-use Prim.Native.Nat.{ℕ, _+_, _-_, _*_}
-use native.Mathlib.Omega.{arith}
+-- `room` meets its contract: the three parts of the room, added.
+use mathlib.Core.Path.{_≡_, refl}
+use mathlib.Core.List.{List}
+use Prim.Native.Nat.{ℕ, _+_, _*_}
 use borrow.Author.Needs.{needs}
-use Rattle.pools.specs.Room.{edgeRoom, roomOf}
-use Rattle.pools.proofs.Adding.{EdgesAdded, adds-none, adds-more, adds-all}
+use Rattle.loaded_table.specs.Loaded.{typesIn}
+use Rattle.pools.specs.Room.{edgeRoom, nothingRoom, roomOf}
 use Rattle.pools.proofs.room.Statement.{statement}
 use Rattle.pools.proofs.room.Tie as tie
 
-abbrev Inv-loop : tie.InvT-loop
-Inv-loop source target map all total₀ i₀ total i = EdgesAdded map total₀ all total i
-
-abbrev μ-loop : tie.MeasureT-loop
-μ-loop source target map all total₀ i₀ total i = all - i
-
-steps-requires : tie.Need-steps-requires Inv-loop μ-loop
-steps-requires c κs = omega (arith, c .loop-test .taken, c .before .before .before .types .ensures .0, c .before .before .before .before .pre)
-
-add-total-2 : tie.Need-add-total-2 Inv-loop μ-loop
-add-total-2 c = omega (arith, c .steps .ensures .1, c .before .before .loop .inv .small, c .before .loop-test .taken, c .before .before .before .before .types .ensures .1, c .before .before .before .types2 .ensures .1)
-
-loop-again : tie.Need-loop-again Inv-loop μ-loop
-loop-again c = adds-more (c .before .before .loop .inv) (c .before .loop-test .taken) (c .steps .ensures .0) (c .steps .ensures .1)
-
-returns : tie.Need-returns Inv-loop μ-loop
+parts : (source target map : List ℕ) {types targets edges nothing : ℕ} → types ≡ typesIn source → targets ≡ typesIn target → edges ≡ edgeRoom map 0 (types * 16) → nothing ≡ nothingRoom source map 0 types
+    → targets * 16 + edges + nothing ≡ roomOf source target map
 unfolding roomOf
+parts source target map a b c d = rw (c, d, a, b) refl
+
+returns : tie.Need-returns
 returns c =
     let start = c .before .before .before .before in
-    adds-all (c .before .loop .inv) (c .loop-test .left) ∙ ap₂ (λ (a b : ℕ). a * 16 + edgeRoom (start .args .map .now) 0 (b * 16)) (c .before .before .types2 .ensures .0) (c .before .before .before .types .ensures .0)
+    parts (start .args .source .now) (start .args .target .now) (start .args .map .now) (c .before .before .before .types .ensures .0) (c .types2 .ensures .0) (c .before .before .edges-room .ensures .0) (c .before .nothing-room .ensures .0)
 
 pub room-spec : {M : Type 1} → statement M
 room-spec =
     tie.close
     (tie.spec
-    Inv-loop
-    μ-loop
     (λ c κs. search needs)
-    (λ c. omega (arith, c .types .ensures .1))
+    (λ c. search needs)
     (λ c κs. search needs)
-    (λ c. omega (arith, c .types2 .ensures .1))
-    (λ c. adds-none _ _ _)
-    steps-requires
-    (λ c. omega (arith, c .steps .ensures .1))
-    (λ c. omega (arith, c .steps .ensures .1))
-    add-total-2
-    (λ c. omega (arith, c .before .loop-test .taken))
-    (λ c. omega (arith, c .before .loop-test .taken))
-    loop-again
+    (λ c κs. search needs)
+    (λ c κs. search needs)
+    (λ c. search needs)
+    (λ c. search needs)
+    (λ c. search needs)
     returns)

@@ -34,7 +34,7 @@ returns-3 c =
     let k = c .before in
     let s = k .before in
     let rows = s .args .table .now in
-    kind-other rows (s .args .t) (s .pre .1) (k .kind .ensures .0) (λ κ. 3 ≡ min 60001 (3 + fillSum (fillOf rows) (filled (heightsOf rows) κ))) (c .match .rest .0 .1) (c .match .rest .1) refl refl (λ m. refl)
+    kind-other rows (s .args .t) (s .pre .1) (k .kind .ensures .0) (λ κ. 3 ≡ min 60001 (3 + fillSum (fillOf rows) (filled (heightsOf rows) κ))) (c .match .rest .0 .1) (c .match .rest .1) refl refl (λ ms. refl) (λ m. refl)
 
 pub fill-of-spec : {M : Type 1} → statement M
 fill-of-spec =

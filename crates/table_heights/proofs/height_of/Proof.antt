@@ -29,7 +29,7 @@ returns-3 c =
     let k = c .before in
     let s = k .before in
     let rows = s .args .table .now in
-    kind-other rows (s .args .t) (s .pre .1) (k .kind .ensures .0) (λ κ. 1 ≡ heightOfKind (heightsOf rows) κ) (c .match .rest .0 .1) (c .match .rest .1) refl refl (λ m. refl)
+    kind-other rows (s .args .t) (s .pre .1) (k .kind .ensures .0) (λ κ. 1 ≡ heightOfKind (heightsOf rows) κ) (c .match .rest .0 .1) (c .match .rest .1) refl refl (λ ms. refl) (λ m. refl)
 
 pub height-of-spec : {M : Type 1} → statement M
 height-of-spec =

@@ -1,7 +1,7 @@
 -- `put` meets its contract: each command by what it stores.
 use mathlib.Core.Path.{refl}
 use borrow.Author.Needs.{needs}
-use Rattle.model.specs.Definitions.Commands.{textType, emptyType, sequenceType, choiceType}
+use Rattle.model.specs.Definitions.Commands.{needed, optional, textType, emptyType, sequenceType, choiceType}
 use Rattle.table_load.specs.Loading.{TableArrays, loadedIn, puts, TypeMayBegin, MemberMayJoin}
 use Rattle.table_load.proofs.Rooms.{told-room, told-put, join-room, list-room, begun-put, list-put, member-put}
 use Rattle.table_load.proofs.put.Statement.{statement}
@@ -23,6 +23,9 @@ begin-requires-3 c κs = (told-room (loaded (c .before .before .before)) (c .bef
 begin-requires-4 : tie.Need-begin-requires-4
 begin-requires-4 c κs = (told-room (loaded (c .before .before .before)) (c .before .enum-told4 .given .1) (c .before .before .before .pre) .room, search needs)
 
+begin-requires-5 : tie.Need-begin-requires-5
+begin-requires-5 c κs = (told-room (loaded (c .before .before .before)) (c .before .enum-told5 .given .1) (c .before .before .before .pre) .room, search needs)
+
 -- room for a list
 begins-here : (c : tie.After-c) → TypeMayBegin (loaded (c .before .before))
 begins-here c = told-room (loaded (c .before .before)) (c .c .given .1) (c .before .before .pre)
@@ -30,7 +33,7 @@ begins-here c = told-room (loaded (c .before .before)) (c .c .given .1) (c .befo
 join-requires : tie.Need-join-requires
 join-requires c κs =
     let s = c .before .before .before .before .before .before in
-    list-room (s .args .table .now) (s .args .types) (begins-here (c .before .before .before .before)) (c .before .begin5 .ensures .1)
+    list-room (s .args .table .now) (s .args .types) (begins-here (c .before .before .before .before)) (c .before .begin6 .ensures .1)
 
 -- room for a member
 joins-here : (c : tie.After-c2) → MemberMayJoin (loaded (c .before .before))
@@ -65,16 +68,23 @@ unfolding puts
 returns-4 c =
     let s = c .before .before .before .before in
     let told = c .before .before .enum-told4 .given .1 in
-    told-put told (begun-put (s .args .table .now) (s .args .types) 3 choiceType refl (told-room (loaded s) told (s .pre) .room) (c .begin4 .ensures))
+    told-put told (begun-put (s .args .table .now) (s .args .types) 3 (choiceType needed) refl (told-room (loaded s) told (s .pre) .room) (c .begin4 .ensures))
 
 returns-5 : tie.Need-returns-5
+unfolding puts
 returns-5 c =
-    let s = c .before .before .before .before .before .before .before in
-    let known = c .before .before .before .before .before in
-    told-put (known .c .given .1) (list-put (s .args .table .now) (s .args .types) _ (begins-here known) (c .before .before .begin5 .ensures) (c .join .ensures))
+    let s = c .before .before .before .before in
+    let told = c .before .before .enum-told5 .given .1 in
+    told-put told (begun-put (s .args .table .now) (s .args .types) 4 (choiceType optional) refl (told-room (loaded s) told (s .pre) .room) (c .begin5 .ensures))
 
 returns-6 : tie.Need-returns-6
 returns-6 c =
+    let s = c .before .before .before .before .before .before .before in
+    let known = c .before .before .before .before .before in
+    told-put (known .c .given .1) (list-put (s .args .table .now) (s .args .types) _ (begins-here known) (c .before .before .begin6 .ensures) (c .join .ensures))
+
+returns-7 : tie.Need-returns-7
+returns-7 c =
     let s = c .before .before .before .before .before in
     let known = c .before .before .before in
     told-put (known .c2 .given .1) (member-put (s .args .table .now) (s .args .types) _ (joins-here known) (c .join2 .ensures))
@@ -93,6 +103,8 @@ put-spec =
     (λ c. search needs)
     begin-requires-4
     (λ c. search needs)
+    begin-requires-5
+    (λ c. search needs)
     (λ c κs. (begins-here (c .before .before) .room, search needs))
     join-requires
     (λ c. search needs)
@@ -106,5 +118,6 @@ put-spec =
     returns-4
     returns-5
     returns-6
-    (λ c. told-put (c .enum-told5 .given .1) (record { same-size = refl; does = refl }))
-    (λ c. told-put (c .enum-told6 .given .1) (record { same-size = refl; does = refl })))
+    returns-7
+    (λ c. told-put (c .enum-told6 .given .1) (record { same-size = refl; does = refl }))
+    (λ c. told-put (c .enum-told7 .given .1) (record { same-size = refl; does = refl })))

@@ -11,4 +11,5 @@ joined-spec =
     (tie.spec
     (λ c. rw (c .match .keys1))
     (λ c. rw (c .match .keys2))
-    (λ c. joined-other _ (c .match .rest .0 .1) (c .match .rest .1)))
+    (λ c. rw (c .match .keys3))
+    (λ c. joined-other _ (c .match .rest .0 .0 .1) (c .match .rest .0 .1) (c .match .rest .1)))

@@ -44,7 +44,7 @@ kinds-left-spec =
     (tie.spec
     Inv-loop
     μ-loop
-    (λ c. (omega arith, record { walks = c .pre .walks; choices = refl; lists = refl }))
+    (λ c. (omega arith, record { walks = c .pre .walks; choices = refl; optionals = refl; lists = refl }))
     (λ c κs. let s = here c in omega (arith, s .inside, s .few))
     (λ c κs. tt)
     (λ c. omega (arith, c .before .before .before .before .pre .short))

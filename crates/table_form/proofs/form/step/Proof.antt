@@ -2,7 +2,7 @@
 use mathlib.Core.Path.{_∙_}
 use mathlib.Core.List.{[], _∷_}
 use borrow.Author.Needs.{needs}
-use Rattle.model.specs.Definitions.TableChecks.{begins, whole, tableMove, tableRole, tableStep}
+use Rattle.model.specs.Definitions.TableChecks.{begins, whole, members, tableMove, tableRole, tableStep}
 use Rattle.table_form.specs.Forms.{state}
 use Rattle.table_form.specs.Read.{command}
 use Rattle.table_form.proofs.Arms.{in-arm}
@@ -19,7 +19,6 @@ step-spec =
     (λ c κs. search needs)
     (λ c. c .match .keys2)
     (λ c κs. search needs)
-    (λ c. c .match .keys3)
     (λ c κs. search needs)
     (λ c. c .match .keys4)
     (λ c κs. search needs)
@@ -31,8 +30,9 @@ step-spec =
     (λ c. let at-match = c .before in let s = state (at-match .before .args .s) in
     c .begin .ensures ∙ in-arm enum (λ d. tableMove s (tableRole (command d))) (tableMove s (begins whole)) (0 ∷ 1 ∷ []) (search needs) (at-match .before .args .c) (at-match .match .keys1))
     (λ c. c .begin2 .ensures ∙ rw (c .before .enum-told .given .1))
-    (λ c. c .begin3 .ensures ∙ rw (c .before .enum-told2 .given .1))
-    (λ c. c .begin4 .ensures ∙ rw (c .before .enum-told3 .given .1))
-    (λ c. c .join .ensures ∙ rw (c .before .enum-told4 .given .1))
-    (λ c. c .finish .ensures ∙ rw (c .before .enum-told5 .given .1))
-    (λ c. rw (c .enum-told6 .given .1, unknown-stops)))
+    (λ c. let at-match = c .before in let s = state (at-match .before .args .s) in
+    c .begin3 .ensures ∙ in-arm enum (λ d. tableMove s (tableRole (command d))) (tableMove s (begins (members 1))) (2 ∷ 4 ∷ []) (search needs) (at-match .before .args .c) (at-match .match .keys3))
+    (λ c. c .begin4 .ensures ∙ rw (c .before .enum-told2 .given .1))
+    (λ c. c .join .ensures ∙ rw (c .before .enum-told3 .given .1))
+    (λ c. c .finish .ensures ∙ rw (c .before .enum-told4 .given .1))
+    (λ c. rw (c .enum-told5 .given .1, unknown-stops)))

@@ -2,7 +2,7 @@
 use mathlib.Core.List.{[], _∷_}
 use borrow.Author.Needs.{needs}
 use Rattle.model.specs.Definitions.Basics.{goes}
-use Rattle.model.specs.Definitions.TableChecks.{elsewhere, repeatStep}
+use Rattle.model.specs.Definitions.TableChecks.{elsewhere, among, repeatStep}
 use Rattle.table_form.specs.Read.{command}
 use Rattle.table_form.proofs.Arms.{in-arm}
 use Rattle.table_form.proofs.command.TableCommand.{enum}
@@ -14,12 +14,11 @@ unfolding repeatStep
 role-of-spec =
     tie.close
     (tie.spec
-    (λ c. c .match .keys1)
     (λ c. c .match .keys2)
     (λ c. c .match .keys3)
     (λ c. c .match .keys4)
-    (λ c s. rw (c .enum-told .given .1))
+    (λ c s. in-arm enum (λ d. repeatStep s (command d)) (goes (among [])) (3 ∷ 4 ∷ []) (search needs) (c .before .args .c) (c .match .keys1))
     (λ c s. rw (c .before .c .given .1))
+    (λ c s. rw (c .enum-told .given .1))
     (λ c s. rw (c .enum-told2 .given .1))
-    (λ c s. rw (c .enum-told3 .given .1))
-    (λ c s. in-arm enum (λ d. repeatStep s (command d)) (goes elsewhere) (0 ∷ 1 ∷ 2 ∷ 4 ∷ []) (search needs) (c .before .args .c) (c .match .keys5)))
+    (λ c s. in-arm enum (λ d. repeatStep s (command d)) (goes elsewhere) (0 ∷ 1 ∷ 2 ∷ 5 ∷ []) (search needs) (c .before .args .c) (c .match .keys5)))

@@ -3,10 +3,10 @@ use mathlib.Core.Path.{ap, _∙_}
 use native.Mathlib.Omega.{arith}
 use Rattle.growing.specs.declared.Edges.{Edges}
 use Rattle.growing.specs.Growing.{noEdges, push}
-use Rattle.list_rows.specs.Lists.{onePath}
+use Rattle.own_rows.specs.OnePath.{onePath}
 use borrow.Author.Needs.{needs}
-use Rattle.list_rows.proofs.one_path.Statement.{statement}
-use Rattle.list_rows.proofs.one_path.Tie as tie
+use Rattle.own_rows.proofs.one_path.Statement.{statement}
+use Rattle.own_rows.proofs.one_path.Tie as tie
 
 returns : tie.Need-returns
 unfolding onePath

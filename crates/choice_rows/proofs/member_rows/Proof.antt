@@ -1,23 +1,24 @@
--- `choice_rows` meets its contract.
-use mathlib.Core.Path.{_≡_, refl}
-use lib.ListN.{getD}
-use Rattle.loaded_table.specs.Loaded.{countsOf}
+-- `member_rows` meets its contract.
+use mathlib.Core.Path.{refl}
 use Prim.Native.Nat.{_-_, _≤_}
 use native.Mathlib.Omega.{arith}
 use Rattle.own_rows.specs.Making.{edges-small}
-use Rattle.own_rows.specs.Progress.{few-of-type}
-use Rattle.own_rows.proofs.Steps.{Partly, choice-edges, choice-small, progress-begin, row-needs, row-more, progress-end}
-use Rattle.own_rows.proofs.choice_rows.Statement.{statement}
-use Rattle.own_rows.proofs.choice_rows.Tie as tie
+use Rattle.own_rows.specs.Progress.{few-of-type, Partly}
+use Rattle.own_rows.specs.Steps.{row-needs, row-more}
+use Rattle.choice_rows.proofs.Members.{membersRoom, member-edges, member-room, members-begin, members-end}
+use Rattle.choice_rows.proofs.member_rows.Statement.{statement}
+use Rattle.choice_rows.proofs.member_rows.Tie as tie
 
 abbrev Inv-loop : tie.InvT-loop
-Inv-loop source target map em s pool₀ places₀ at t count end₀ j₀ pool places end j = (j ≤ count) × Partly source target map em pool₀ places₀ s j j pool places end
+Inv-loop source target map em s pool₀ places₀ at t count end₀ j₀ pool places end j = (j ≤ count) × Partly source target map em pool₀ places₀ s j (membersRoom source map s j) pool places end
 
 abbrev μ-loop : tie.MeasureT-loop
 μ-loop source target map em s pool₀ places₀ at t count end₀ j₀ pool places end j = count - j
 
 loop-holds : tie.Need-loop-holds Inv-loop μ-loop
-loop-holds c = (omega arith, progress-begin (c .before .before .before .before .before .pre .0 .makeable .ready) (c .before .before .before .before .before .pre .0 .makeable .exists) (c .before .before .before .before .before .pre .0 .progress))
+loop-holds c =
+    let start = c .before .before .before .before .before in
+    (omega arith, members-begin (start .pre .0 .makeable .ready) (start .pre .0 .makeable .exists) (start .pre .1) (start .pre .0 .progress))
 
 mul-edges : tie.Need-mul-edges Inv-loop μ-loop
 mul-edges c = omega (arith, few-of-type (c .before .before .before .before .before .before .before .pre .0 .makeable))
@@ -49,8 +50,8 @@ own-row-requires c κs =
     let count = c .before .before .before .before .before .count .ensures .0 in
     let few = few-of-type can in
     let less = c .before .before .before .loop-test .taken in
-    let row = choice-edges (can .ready) (can .exists) (start .pre .1) (omega (arith, less, count)) (c .before .before .edges .ensures) in
-    row-needs (can .ready) (can .exists) (inv .1) row (omega (arith, less, count, few)) (c .before .before .before .before .before .before .target .ensures .0) refl (can .small) (can .long) (omega (arith, less, count, few))
+    let row = member-edges (can .ready) (can .exists) (start .pre .1) (omega (arith, less, count)) (c .before .before .edges .ensures) in
+    row-needs (can .ready) (can .exists) (inv .1) row _ (member-room (can .ready) (can .exists) (start .pre .1) _ (omega (arith, less, count, few))) (c .before .before .before .before .before .before .target .ensures .0) refl (can .small) (can .long) (omega (arith, less, count, few))
 
 add-j : tie.Need-add-j Inv-loop μ-loop
 add-j c = omega (arith, c .before .before .before .before .before .before .before .before .loop-test .taken)
@@ -66,19 +67,18 @@ loop-again c =
     let count = c .before .before .before .before .before .before .before .before .before .before .count .ensures .0 in
     let few = few-of-type can in
     let less = c .before .before .before .before .before .before .before .before .loop-test .taken in
-    let row = choice-edges (can .ready) (can .exists) (start .pre .1) (omega (arith, less, count)) (c .before .before .before .before .before .before .before .edges .ensures) in
-    (omega (arith, less), row-more (can .ready) (can .exists) (inv .1) row (omega (arith, less, count, few)) (c .before .before .before .before .before .before .before .before .before .before .before .target .ensures .0) refl (c .before .before .before .before .own-row .ensures))
+    let row = member-edges (can .ready) (can .exists) (start .pre .1) (omega (arith, less, count)) (c .before .before .before .before .before .before .before .edges .ensures) in
+    (omega (arith, less), row-more (can .ready) (can .exists) (inv .1) row _ (member-room (can .ready) (can .exists) (start .pre .1) _ (omega (arith, less, count, few))) (c .before .before .before .before .before .before .before .before .before .before .before .target .ensures .0) refl (c .before .before .before .before .own-row .ensures))
 
 returns : tie.Need-returns Inv-loop μ-loop
 returns c =
     let start = c .before .before .before .before .before .before .before in
     let can = start .pre .0 .makeable in
     let inv = c .before .loop .inv in
-    let all : c .before .loop .j ≡ getD (countsOf (start .args .source .now)) (start .args .s) 0 = omega (arith, inv .0, c .loop-test .left, c .before .before .count .ensures .0) in
-    progress-end (can .ready) (can .exists) (inv .1) (rw all (choice-small (can .ready) (can .exists) (start .pre .1))) (omega (arith, start .pre .1))
+    members-end (can .ready) (can .exists) (start .pre .1) (omega (arith, inv .0, c .loop-test .left, c .before .before .count .ensures .0)) (inv .1)
 
-pub choice-rows-spec : {M : Type 1} → statement M
-choice-rows-spec =
+pub member-rows-spec : {M : Type 1} → statement M
+member-rows-spec =
     tie.close
     (tie.spec
     Inv-loop
