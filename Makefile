@@ -27,4 +27,4 @@ reference:
 check-definitions: reference
 	@mkdir -p target
 	@target/cargo/release/reference generate 1 3000 small > target/generated.txt
-	@tools/check-definitions --all tests/data/cases-01.txt tests/data/base.txt target/generated.txt
+	@tools/check-definitions --most 1200 --all tests/data/cases-01.txt --all tests/data/cases-n3.txt tests/data/base.txt tests/data/n3.txt target/generated.txt

@@ -70,6 +70,52 @@ pub fn records(length: usize) -> Vec<u8> {
     [&[0x30, 0, 0x30, 1], &title[..], &[0x32, 0x30, 2], &list, &[0x32, 0x32, 0x3F]].concat()
 }
 
+// A list of records, each a name and four settings that may be absent.
+#[rustfmt::skip]
+pub const SETTINGS_SOURCE: &[u8] = &[
+    0x14, 1,                                            // 0: list of records
+    0x12, 0x15, 2, 0x15, 3, 0x15, 4, 0x15, 3, 0x15, 4,  // 1: record
+    0x10,                                               // 2: text
+    0x17, 0x15, 2,                                      // 3: a text or nothing
+    0x17, 0x15, 5, 0x15, 6,                             // 4: one of two switches or nothing
+    0x11, 0x11,                                         // 5, 6: switches
+    0x1F,
+];
+// The same with a third switch, a switch beside each text and one more text,
+// which are absent.
+#[rustfmt::skip]
+pub const SETTINGS_TARGET: &[u8] = &[
+    0x14, 1,                                                    // 0: list of records
+    0x12, 0x15, 2, 0x15, 3, 0x15, 5, 0x15, 3, 0x15, 5, 0x15, 4, // 1: record
+    0x10,                                                       // 2: text
+    0x12, 0x15, 4, 0x15, 5,                                     // 3: text beside a switch
+    0x17, 0x15, 2,                                              // 4: a text or nothing
+    0x17, 0x15, 6, 0x15, 7, 0x15, 8,                            // 5: one of three switches or nothing
+    0x11, 0x11, 0x11,                                           // 6, 7, 8: switches
+    0x1F,
+];
+#[rustfmt::skip]
+pub const SETTINGS_EMBEDDING: &[u8] = &[
+    0x20, 0, 0x21, 0x22, 1,
+    0x20, 1, 0x21, 0x22, 1, 0x21, 0x22, 2, 0x21, 0x22, 3, 0x21, 0x22, 4, 0x21, 0x22, 5,
+    0x20, 2, 0x21,
+    0x20, 3, 0x21, 0x22, 1, 0x22, 1,
+    0x20, 5, 0x21, 0x22, 1, 0x21, 0x22, 3,
+    0x20, 6,
+    0x20, 8,
+    0x2F,
+];
+/// Two records, of which each has the settings that the other has not.
+#[rustfmt::skip]
+pub const TWO_RECORDS: &[u8] = &[
+    0x30, 1, 0x30, 2, 0x31, 0x41, 0x31, 0x42, 0x32,
+    0x30, 3, 0x30, 2, 0x31, 0x43, 0x32, 0x32, 0x30, 4, 0x32, 0x30, 3, 0x32, 0x30, 4, 0x30, 5, 0x32, 0x32,
+    0x32,
+    0x30, 1, 0x30, 2, 0x31, 0x44, 0x32,
+    0x30, 3, 0x32, 0x30, 4, 0x30, 6, 0x32, 0x32, 0x30, 3, 0x30, 2, 0x31, 0x45, 0x32, 0x32, 0x30, 4, 0x32,
+    0x32,
+];
+
 /// A tree document whose root holds a part, so many times.
 pub fn repeated(part: &[u8], times: usize) -> Vec<u8> {
     [&[0x30, 0], &part.repeat(times)[..], &[0x32, 0x3F]].concat()

@@ -12,6 +12,7 @@ use lafindry_reference::{MOST_BYTES, SOURCE};
 pub fn carried() -> Vec<Input> {
     let patch = Setting::new(PATCH_SOURCE, PATCH_TARGET, PATCH_EMBEDDING);
     let of_records = Setting::new(RECORDS_SOURCE, RECORDS_TARGET, RECORDS_EMBEDDING);
+    let of_settings = Setting::new(SETTINGS_SOURCE, SETTINGS_TARGET, SETTINGS_EMBEDDING);
     let mut inputs = vec![Input { name: "patch", cases: vec![carry(&patch, PATCH_TREE)] }];
     for most in [100, 1000, 10_000, 30_000, MOST_BYTES] {
         inputs.push(largest("records", &of_records, most, |length| records(length.max(10))));
@@ -23,6 +24,7 @@ pub fn carried() -> Vec<Input> {
     longest("16 fillers an item", &mostly_filler(), &[0x30, 1, 0x32]);
     longest("path of 12 steps an item", &long_path(), &[0x30, 1, 0x31, 0x41, 0x32]);
     longest("16 members in reverse an item", &reversed(), &sixteen_texts());
+    longest("settings, half of them absent", &of_settings, TWO_RECORDS);
     longest("up to 128 levels", &nested_lists(), &half_the_levels());
     inputs.push(largest("128 levels, bottom-heavy", &sixteen_lists(), MOST_BYTES, bottom_heavy));
     inputs.push(thousand_of_one(&of_records));
@@ -86,7 +88,7 @@ fn thousand_of_many() -> Input {
     let mut rng = Rng::new(2);
     let cases = thousand(|| {
         let shape = Shape::small(&mut rng);
-        let world = World::random(&mut rng, TableSize { types: 12, members: 6 }, shape);
+        let world = World::random(&mut rng, TableSize { types: 12, members: 6, optional: 0 }, shape);
         let (source, target) = (world.embedded.source.to_bytes(), world.embedded.target.to_bytes());
         let setting = Setting { source, target, embedding: world.embedded.embedding.to_bytes() };
         Some(carry(&setting, &world.tree.to_bytes()))

@@ -1,5 +1,6 @@
-//! What is timed: documents of the patch of paper 01, of a table of records,
-//! near the limits, and a thousand different patches.
+//! What is timed: documents of the patch of paper 01, of a table of records, of
+//! one with optional settings, near the limits, and a thousand different
+//! patches.
 
 use crate::documents::*;
 use crate::images;

@@ -236,6 +236,45 @@ static void worked_writing_cases(void)
     end_group();
 }
 
+/* An optional choice of a text and an empty type, and a sequence of two such choices; paper 02, N3. */
+static const struct document OPTIONAL_ROOT = BYTES(0x17, 0x15, 0x01, 0x15, 0x02, 0x10, 0x11, 0x1F);
+static const struct document TWO_OPTIONAL =
+    BYTES(0x12, 0x15, 0x03, 0x15, 0x03, 0x10, 0x11, 0x17, 0x15, 0x01, 0x15, 0x02, 0x1F);
+static const struct document INTO_SECOND = BYTES(0x20, 0x00, 0x21, 0x22, 0x02, 0x22, 0x01, 0x21, 0x22, 0x02, 0x22, 0x02,
+                                                 0x20, 0x01, 0x21, 0x20, 0x02, 0x2F);
+static const struct document INTO_BOTH = BYTES(0x20, 0x00, 0x21, 0x22, 0x01, 0x22, 0x01, 0x21, 0x22, 0x02, 0x22, 0x02,
+                                               0x20, 0x01, 0x21, 0x20, 0x02, 0x2F);
+
+static void optional_cases(void)
+{
+    begin_group("worked cases of optional choices");
+    EXPECT(refused(LAFINDRY_BAD_FORM, LAFINDRY_SOURCE_TABLE, 1), judge_table(DOCUMENT(0x17, 0x1F)));
+    EXPECT(accepted(1), judge_table(DOCUMENT(0x17, 0x15, 0x00, 0x1F)));
+    EXPECT(refused(LAFINDRY_REPEATED_MEMBER, LAFINDRY_SOURCE_TABLE, 3),
+           judge_table(DOCUMENT(0x17, 0x15, 0x00, 0x15, 0x00, 0x1F)));
+
+    /* Paths that part before their first choice: 9 for an optional choice, 10 for one that needs a member. */
+    EXPECT(accepted(3), judge_embedding(OPTIONAL_ROOT, TWO_OPTIONAL, INTO_SECOND));
+    EXPECT(refused(LAFINDRY_WRONG_STEPS, LAFINDRY_EMBEDDING, 7),
+           judge_embedding(OPTIONAL_ROOT, TWO_OPTIONAL, INTO_BOTH));
+    EXPECT(refused(LAFINDRY_PATH_CLASH, LAFINDRY_EMBEDDING, 7),
+           judge_embedding(DOCUMENT(0x13, 0x15, 0x01, 0x15, 0x02, 0x10, 0x11, 0x1F), TWO_OPTIONAL, INTO_BOTH));
+
+    /* Nothing is carried by the path up to the second optional choice, which is left empty; the first is filler. */
+    const struct document nothing = DOCUMENT(0x30, 0x00, 0x30, 0x03, 0x32, 0x30, 0x03, 0x32, 0x32, 0x3F);
+    EXPECT_WRITTEN(nothing, 1, carry(OPTIONAL_ROOT, TWO_OPTIONAL, INTO_SECOND, EMPTY_TREE, 10));
+    EXPECT_WRITTEN(EMPTY_TREE, 0, bring_back(OPTIONAL_ROOT, TWO_OPTIONAL, INTO_SECOND, nothing, 4));
+    EXPECT(refused(LAFINDRY_OUTPUT_TOO_SHORT, LAFINDRY_OUTPUT, 0),
+           bring_back(OPTIONAL_ROOT, TWO_OPTIONAL, INTO_SECOND, nothing, 3));
+
+    /* The first optional choice must stay as filler is, so with a member in it this is no image. */
+    const struct document filled =
+        DOCUMENT(0x30, 0x00, 0x30, 0x03, 0x30, 0x02, 0x32, 0x32, 0x30, 0x03, 0x32, 0x32, 0x3F);
+    EXPECT(refused(LAFINDRY_NO_IMAGE, LAFINDRY_TREE, 0),
+           bring_back(OPTIONAL_ROOT, TWO_OPTIONAL, INTO_SECOND, filled, ROOM));
+    end_group();
+}
+
 /* All lengths of output around what is needed, and longer ones. */
 static void output_lengths(void)
 {
@@ -278,31 +317,31 @@ static const struct place {
     struct tally changes;
 } places[] = {
     {"table, source", JUDGE_TABLE, SOURCE_ONLY, 0, LAFINDRY_SOURCE_TABLE, 5, 0, NULL,
-     {{32, 0, 2541, 0, 1007, 2, 2, 0, 0, 0, 0, 0, 0, 0, 0, 0}, 3552, 22111, 161, 0, 0}},
+     {{34, 0, 2539, 0, 1007, 2, 2, 0, 0, 0, 0, 0, 0, 0, 0, 0}, 3550, 22110, 171, 0, 0}},
     {"table, target", JUDGE_TABLE, TARGET_ONLY, 0, LAFINDRY_SOURCE_TABLE, 6, 0, NULL,
-     {{48, 0, 3304, 0, 1503, 3, 6, 0, 0, 0, 0, 0, 0, 0, 0, 0}, 4816, 41859, 290, 0, 0}},
+     {{50, 0, 3301, 0, 1503, 4, 6, 0, 0, 0, 0, 0, 0, 0, 0, 0}, 4814, 41858, 302, 0, 0}},
     {"embedding, source table", JUDGE_EMBEDDING, SETTING, 0, LAFINDRY_SOURCE_TABLE, 5, 0, NULL,
-     {{14, 0, 2545, 0, 1007, 2, 2, 0, 12, 2, 0, 0, 0, 0, 0, 0}, 3606, 22321, 70, 0, 0}},
+     {{14, 0, 2543, 0, 1007, 2, 2, 0, 12, 4, 0, 0, 0, 0, 0, 0}, 3610, 22337, 70, 0, 0}},
     {"embedding, target table", JUDGE_EMBEDDING, SETTING, 1, LAFINDRY_TARGET_TABLE, 5, 0, NULL,
-     {{24, 0, 3304, 0, 1508, 3, 6, 0, 17, 2, 0, 0, 0, 0, 0, 0}, 9704, 42095, 120, 0, 0}},
+     {{25, 0, 3301, 0, 1508, 4, 6, 0, 17, 3, 0, 0, 0, 0, 0, 0}, 9703, 42096, 125, 0, 0}},
     {"embedding", JUDGE_EMBEDDING, SETTING, 2, LAFINDRY_EMBEDDING, 5, 0, NULL,
      {{27, 0, 4080, 0, 2528, 0, 0, 0, 21, 0, 0, 0, 0, 0, 0, 0}, 19887, 80258, 135, 0, 0}},
     {"tree, table", JUDGE_TREE, SOURCE_TREE, 0, LAFINDRY_SOURCE_TABLE, 4, 0, NULL,
-     {{19, 0, 2541, 0, 1007, 2, 2, 0, 0, 0, 0, 13, 0, 0, 0, 0}, 3604, 22192, 76, 0, 0}},
+     {{20, 0, 2539, 0, 1007, 2, 2, 0, 0, 0, 0, 14, 0, 0, 0, 0}, 3606, 22198, 80, 0, 0}},
     {"tree", JUDGE_TREE, SOURCE_TREE, 1, LAFINDRY_TREE, 4, 0, NULL,
      {{112, 0, 2550, 0, 1163, 0, 0, 0, 0, 0, 0, 15, 0, 0, 0, 0}, 14912, 25154, 448, 0, 0}},
     {"carry, source table", CARRY, PATCH, 0, LAFINDRY_SOURCE_TABLE, 21, 1, &IMAGE,
-     {{14, 0, 2545, 0, 1007, 2, 2, 0, 12, 2, 0, 0, 0, 0, 0, 0}, 3606, 22321, 294, 14, 129612}},
+     {{14, 0, 2543, 0, 1007, 2, 2, 0, 12, 4, 0, 0, 0, 0, 0, 0}, 3610, 22337, 294, 14, 129612}},
     {"carry, target table", CARRY, PATCH, 1, LAFINDRY_TARGET_TABLE, 21, 1, &IMAGE,
-     {{23, 0, 3304, 0, 1508, 3, 6, 0, 17, 2, 0, 0, 0, 0, 1, 0}, 9709, 42095, 483, 23, 212967}},
+     {{24, 0, 3301, 0, 1508, 4, 6, 0, 17, 3, 0, 0, 0, 0, 1, 0}, 9708, 42096, 504, 24, 222225}},
     {"carry, embedding", CARRY, PATCH, 2, LAFINDRY_EMBEDDING, 21, 1, &IMAGE,
      {{27, 0, 4080, 0, 2528, 0, 0, 0, 21, 0, 0, 0, 0, 0, 0, 0}, 19887, 80258, 567, 27, 250106}},
     {"carry, tree", CARRY, PATCH, 3, LAFINDRY_TREE, 21, 1, &IMAGE,
      {{112, 0, 2550, 0, 1163, 0, 0, 0, 0, 0, 0, 15, 0, 0, 0, 0}, 14912, 25154, 2352, 112, 1046631}},
     {"bring back, source table", BRING_BACK, PATCH_IMAGE, 0, LAFINDRY_SOURCE_TABLE, 15, 0, &TREE,
-     {{14, 0, 2545, 0, 1007, 2, 2, 0, 12, 2, 0, 0, 0, 0, 0, 0}, 3606, 22321, 210, 0, 69874}},
+     {{14, 0, 2543, 0, 1007, 2, 2, 0, 12, 4, 0, 0, 0, 0, 0, 0}, 3610, 22337, 210, 0, 69874}},
     {"bring back, target table", BRING_BACK, PATCH_IMAGE, 1, LAFINDRY_TARGET_TABLE, 15, 0, &TREE,
-     {{21, 0, 3304, 0, 1508, 3, 6, 0, 17, 2, 0, 3, 0, 0, 0, 0}, 9716, 42122, 315, 0, 104811}},
+     {{22, 0, 3301, 0, 1508, 4, 6, 0, 17, 3, 0, 3, 0, 0, 0, 0}, 9715, 42123, 330, 0, 109802}},
     {"bring back, embedding", BRING_BACK, PATCH_IMAGE, 2, LAFINDRY_EMBEDDING, 15, 0, &TREE,
      {{26, 0, 4080, 0, 2528, 0, 0, 0, 21, 0, 0, 0, 0, 0, 0, 1}, 19891, 80258, 390, 0, 129766}},
     {"bring back, tree", BRING_BACK, PATCH_IMAGE, 3, LAFINDRY_TREE, 15, 0, &TREE,
@@ -702,6 +741,7 @@ int main(int count, char **arguments)
     }
     worked_judging_cases();
     worked_writing_cases();
+    optional_cases();
     output_lengths();
     beginnings();
     null_pointers();

@@ -66,7 +66,7 @@ fn bytes_changed() -> Result<(), Failure> {
     let mut outcomes = Outcomes::default();
     let mut images = 0;
     while images < 30 {
-        let size = TableSize { types: 4, members: 3 };
+        let size = TableSize { types: 4, members: 3, optional: 30 };
         let world = World::random(&mut rng, size, Shape { levels: 5, bytes: 25, deep: false, wide: false });
         let image = world.image().map_or(Vec::new(), |image| image.to_bytes());
         if !(10..60).contains(&image.len()) {
@@ -84,16 +84,25 @@ fn bytes_changed() -> Result<(), Failure> {
     ensure(outcomes.source > 50 && outcomes.refused > 100_000, "too few outcomes")
 }
 
-/// Alters the images of random worlds and brings them back. Alterations that
-/// change nothing are left out.
+/// Alters the images of worlds of mixed size and brings them back.
 fn bring_altered(
     title: &str,
+    alteration: impl Fn(&mut Rng, &World, &Element) -> Option<Vec<u8>>,
+) -> Result<Outcomes, Failure> {
+    bring_altered_of(title, World::mixed, alteration)
+}
+
+/// Alters the images of random worlds and brings them back. Alterations that
+/// change nothing are left out.
+fn bring_altered_of(
+    title: &str,
+    random_world: impl Fn(&mut Rng) -> World,
     alteration: impl Fn(&mut Rng, &World, &Element) -> Option<Vec<u8>>,
 ) -> Result<Outcomes, Failure> {
     let mut rng = Rng::new(seed().wrapping_add(400));
     let mut outcomes = Outcomes::default();
     for _ in 0..3000 {
-        let world = World::mixed(&mut rng);
+        let world = random_world(&mut rng);
         let Some(image) = world.image() else {
             continue;
         };
@@ -156,6 +165,56 @@ fn drop_item(rng: &mut Rng, world: &World, image: &Element) -> Option<Vec<u8>> {
     let at = rng.below(items.len());
     (!items.is_empty()).then(|| items.remove(at))?;
     Some(altered.to_bytes())
+}
+
+/// The places of all optional choices in a tree, and the types of their
+/// members.
+fn optional_choices(table: &Table, element: &Element, at: &[usize]) -> Vec<(Vec<usize>, Vec<u8>)> {
+    let mut found = Vec::new();
+    if let ContentModel::OptionalChoice(members) = &table.types[element.element_type as usize] {
+        found.push((at.to_vec(), members.clone()));
+    }
+    for (number, child) in element.children.iter().enumerate() {
+        found.extend(optional_choices(table, child, &[at, &[number]].concat()));
+    }
+    found
+}
+
+/// Some optional choice emptied that holds a member.
+fn empty_optional(rng: &mut Rng, world: &World, image: &Element) -> Option<Vec<u8>> {
+    let mut altered = image.clone();
+    let mut full = optional_choices(&world.embedded.target, image, &[]);
+    full.retain(|(place, _)| !element_at(&mut altered, place).children.is_empty());
+    let (place, _) = full.get(rng.below(full.len()))?;
+    element_at(&mut altered, place).children.clear();
+    Some(altered.to_bytes())
+}
+
+/// Some member put in an optional choice that holds nothing.
+fn fill_optional(rng: &mut Rng, world: &World, image: &Element) -> Option<Vec<u8>> {
+    let (target, mut altered) = (&world.embedded.target, image.clone());
+    let mut empty = optional_choices(target, image, &[]);
+    empty.retain(|(place, _)| element_at(&mut altered, place).children.is_empty());
+    let (place, members) = empty.get(rng.below(empty.len()))?;
+    let shape = Shape { levels: 20, bytes: 200, deep: false, wide: false };
+    let member = rng.pick(members);
+    let added = random_element(rng, target, member, shape)?;
+    element_at(&mut altered, place).children.push(added);
+    Some(altered.to_bytes())
+}
+
+#[test]
+fn optional_choices_emptied() -> Result<(), Failure> {
+    let title = "images with an optional choice emptied";
+    let outcomes = bring_altered_of(title, World::optional, empty_optional)?;
+    ensure(outcomes.source > 200 && outcomes.no_image > 200, "too few outcomes")
+}
+
+#[test]
+fn optional_choices_filled() -> Result<(), Failure> {
+    let title = "images with an optional choice filled";
+    let outcomes = bring_altered_of(title, World::optional, fill_optional)?;
+    ensure(outcomes.source > 200 && outcomes.no_image > 200, "too few outcomes")
 }
 
 #[test]

@@ -85,6 +85,29 @@ fn images_come_back() -> Result<(), Failure> {
     counts.finish("round trips", 50)
 }
 
+#[test]
+fn images_with_optional_choices_come_back() -> Result<(), Failure> {
+    let mut rng = Rng::new(seed().wrapping_add(600));
+    let mut counts = Counts::default();
+    for _ in 0..2500 {
+        let world = World::optional(&mut rng);
+        let (setting, tree) = (Setting::of(&world), world.tree.to_bytes());
+        let Ok(image) = round_trip(&setting, &tree)? else {
+            continue;
+        };
+        ensure_output_lengths(&mut rng, &setting, Entry::Carry, &tree, &image.bytes)?;
+        ensure_output_lengths(&mut rng, &setting, Entry::BringBack, &image.bytes, &tree)?;
+        let traits = Traits::of(&world);
+        counts.add("of an empty optional choice", traits.empty_optional);
+        counts.add("of one left empty below its image", traits.nothing_below);
+        counts.add("of a full optional choice", traits.full_optional);
+        counts.add("of one within another", traits.nested_optional);
+        counts.add("of one with 16 members", traits.sixteen_optional);
+        counts.add("of a choice through an optional one", traits.through_optional);
+    }
+    counts.finish("round trips of optional choices", 10)
+}
+
 /// Carries the tree of a world whose image is near a limit. Fails unless it
 /// comes back where its measures are within the limits, and is refused by the
 /// limit that it passes.

@@ -30,3 +30,13 @@ fn base_vectors_agree() -> Result<(), Failure> {
 fn worked_cases_agree() -> Result<(), Failure> {
     run_file("cases-01.txt", 177)
 }
+
+#[test]
+fn optional_choice_vectors_agree() -> Result<(), Failure> {
+    run_file("n3.txt", 1178)
+}
+
+#[test]
+fn optional_choice_cases_agree() -> Result<(), Failure> {
+    run_file("cases-n3.txt", 279)
+}

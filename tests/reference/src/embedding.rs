@@ -65,7 +65,7 @@ pub fn accept(source: &Table, target: &Table, bytes: &[u8]) -> Result<Embedding,
 }
 
 /// Check 2: reads the maps, or gives the offset to be marked.
-fn read(source: &Table, bytes: &[u8]) -> Result<Embedding, usize> {
+pub fn read(source: &Table, bytes: &[u8]) -> Result<Embedding, usize> {
     let mut reader = Reader::new(bytes);
     let mut maps = Vec::new();
     for model in &source.types {
@@ -95,7 +95,15 @@ fn read_path(reader: &mut Reader) -> Result<Path, usize> {
 enum Leaves {
     Sequence,
     Choice,
+    OptionalChoice,
     List,
+}
+
+impl Leaves {
+    /// Whether it is a choice of either kind.
+    fn is_choice(&self) -> bool {
+        matches!(self, Leaves::Choice | Leaves::OptionalChoice)
+    }
 }
 
 /// What the checks after the form look at.
@@ -169,16 +177,27 @@ impl Judge<'_> {
     /// Check 9: the path has wrong steps for its source type, or too few.
     fn wrong_steps(&self, model: &ContentModel, map: &TypeMap, edge: usize) -> bool {
         let left = self.leaves(map, &map.paths[edge]);
-        let no_choice = !left.contains(&Leaves::Choice);
+        let no_choice = !left.iter().any(Leaves::is_choice);
         let no_list = !left.contains(&Leaves::List);
         let right = match model {
             ContentModel::Text => no_choice,
             ContentModel::Sequence(_) => no_choice && !left.is_empty(),
             ContentModel::Choice(_) => no_list && !no_choice,
+            ContentModel::OptionalChoice(_) => no_list && self.may_hold_nothing(map, edge),
             ContentModel::List(_) => no_choice && !no_list,
             ContentModel::Empty => true,
         };
         !right
+    }
+
+    /// Whether the path of an edge has a step that leaves a choice, the first
+    /// such step leaves an optional one, and the steps before it are those of
+    /// the type's first path.
+    fn may_hold_nothing(&self, map: &TypeMap, edge: usize) -> bool {
+        let first_left = self.leaves(map, &map.paths[edge]).into_iter().find(Leaves::is_choice);
+        let beginning = before_choice(self.target, map.target, &map.paths[edge].steps);
+        let first_beginning = before_choice(self.target, map.target, &map.paths[0].steps);
+        first_left == Some(Leaves::OptionalChoice) && beginning == first_beginning
     }
 
     /// Check 10: the path of an edge clashes with an earlier one of its type.
@@ -188,10 +207,7 @@ impl Judge<'_> {
             let pairs = path.steps.iter().zip(&earlier.steps);
             match pairs.clone().position(|(a, b)| a != b) {
                 None => true,
-                Some(place) => {
-                    let is_choice = matches!(model, ContentModel::Choice(_));
-                    is_choice && self.leaves(map, path)[place] != Leaves::Choice
-                }
+                Some(place) => model.is_choice() && !self.leaves(map, path)[place].is_choice(),
             }
         })
     }
@@ -209,10 +225,19 @@ pub fn walk(target: &Table, start: u8, steps: &[u8]) -> Result<Vec<u8>, usize> {
     Ok(along)
 }
 
+/// The steps of a path before its first that leaves a choice of either kind,
+/// if there is such a step.
+pub fn before_choice<'a>(target: &Table, start: u8, steps: &'a [u8]) -> Option<&'a [u8]> {
+    let along = walk(target, start, steps).ok()?;
+    let place = along.iter().take(steps.len()).position(|&t| target.types[t as usize].is_choice())?;
+    Some(&steps[..place])
+}
+
 /// What a step from a type leaves. Only types that have steps are asked for.
 fn leaves(target: &Table, from: u8) -> Leaves {
     match target.types[from as usize] {
         ContentModel::Choice(_) => Leaves::Choice,
+        ContentModel::OptionalChoice(_) => Leaves::OptionalChoice,
         ContentModel::List(_) => Leaves::List,
         _ => Leaves::Sequence,
     }

@@ -16,15 +16,17 @@
 //! | [`embeddings`] | a target table and a valid embedding for a source table |
 //! | [`trees`] | conforming trees of bounded length and levels |
 //! | [`damage`] | documents with errors, and altered images |
+//! | [`detours`] | paths changed together with the target table |
 //! | [`cases`] | an entry with all its documents |
 
 pub mod cases;
 pub mod damage;
+pub mod detours;
 pub mod embeddings;
 pub mod tables;
 pub mod trees;
 
-pub use cases::{random_case, random_small_case, World};
+pub use cases::{random_case, random_small_case, random_small_optional_case, World};
 pub use embeddings::{random_embedded, Embedded};
 pub use tables::{random_table, TableSize};
 pub use trees::{random_tree, Shape};

@@ -1,7 +1,7 @@
 //! The image of a source tree: its levels, length and filler elements,
 //! counted without building it, and the image written.
 
-use crate::embedding::Embedding;
+use crate::embedding::{before_choice, Embedding};
 use crate::table::{ContentModel, Table};
 use crate::tree::Element;
 use crate::{Carried, Refusal, MOST_BYTES, MOST_LEVELS, OUTPUT};
@@ -42,7 +42,8 @@ pub fn fillers(table: &Table) -> Vec<Filler> {
 }
 
 /// The types of the children of a filler element: all members of a sequence,
-/// the earliest member of least height of a choice, else none.
+/// the earliest member of least height of a choice, else none. An optional
+/// choice holds nothing.
 fn filler_children(model: &ContentModel, heights: &[u64]) -> Vec<u8> {
     match model {
         ContentModel::Sequence(members) => members.clone(),
@@ -65,8 +66,10 @@ pub enum Place {
     Characters,
     /// A sequence: its members' types; `None` for a filler member.
     Sequence(Vec<(u8, Option<Place>)>),
-    /// A choice and the member on the path.
+    /// A choice of either kind and the member on the path.
     Choice(u8, Box<Place>),
+    /// The optional choice that stays empty where the source holds nothing.
+    Nothing,
     /// A list that holds one item.
     Item(u8, Box<Place>),
     /// The list that receives one item for each item of the source list. The
@@ -76,7 +79,8 @@ pub enum Place {
 
 /// A source type mapped into a target table: the target type, and the places
 /// below an image of this type. A choice has places for each of its members,
-/// every other type has one.
+/// an optional choice also, as the last, those for nothing; every other type
+/// has one.
 #[derive(Debug, Clone, PartialEq, Eq)]
 pub struct MappedType {
     pub target: u8,
@@ -98,10 +102,9 @@ impl Mapping {
     pub fn new(source: &Table, target: &Table, embedding: &Embedding) -> Mapping {
         let fillers = fillers(target);
         let types = source.types.iter().zip(&embedding.maps).map(|(model, map)| {
-            let paths: Vec<Edge> =
-                map.paths.iter().enumerate().map(|(edge, path)| (edge, &path.steps[..])).collect();
-            let builder = PlaceBuilder { target, fillers: &fillers, model };
-            MappedType { target: map.target, alternatives: builder.alternatives(map.target, &paths) }
+            let paths: Vec<&[u8]> = map.paths.iter().map(|path| &path.steps[..]).collect();
+            let builder = PlaceBuilder { target, fillers: &fillers };
+            MappedType { target: map.target, alternatives: builder.alternatives(model, map.target, &paths) }
         });
         Mapping { types: types.collect(), models: source.types.clone(), fillers }
     }
@@ -109,13 +112,7 @@ impl Mapping {
     /// The places below the image of a source element.
     fn place_of(&self, element: &Element) -> &Place {
         let t = element.element_type as usize;
-        let edge = match (&self.models[t], element.children.first()) {
-            (ContentModel::Choice(members), Some(child)) => {
-                members.iter().position(|&member| member == child.element_type).unwrap_or(0)
-            }
-            _ => 0,
-        };
-        &self.types[t].alternatives[edge]
+        &self.types[t].alternatives[alternative(&self.models[t], element)]
     }
 
     /// Measures the image, refuses by 12, 13 and 14, then writes it.
@@ -161,6 +158,7 @@ impl Mapping {
             Place::Filler(types) => types.iter().for_each(|&t| sink.filler(t)),
             Place::Child(edge) => self.content(&children[*edge], sink),
             Place::Characters => sink.characters(&element.characters),
+            Place::Nothing => {}
             Place::Sequence(members) => {
                 for (t, member) in members {
                     match member {
@@ -186,48 +184,66 @@ impl Mapping {
     }
 }
 
-/// An edge with the steps of its path.
-type Edge<'a> = (usize, &'a [u8]);
+/// Which of the alternatives of its type an element takes: that of the member
+/// it holds, or the one after all members where an optional choice holds
+/// nothing; 0 where the type has only one.
+pub fn alternative(model: &ContentModel, element: &Element) -> usize {
+    match (model, element.children.first()) {
+        (ContentModel::Choice(members) | ContentModel::OptionalChoice(members), Some(child)) => {
+            members.iter().position(|&member| member == child.element_type).unwrap_or(0)
+        }
+        (ContentModel::OptionalChoice(members), None) => members.len(),
+        _ => 0,
+    }
+}
+
+/// The steps of a path and the place at its end.
+type Edge<'a> = (&'a [u8], Place);
 
 /// Finds the places below the images of one source type.
 struct PlaceBuilder<'a> {
     target: &'a Table,
     fillers: &'a [Filler],
-    model: &'a ContentModel,
 }
 
 impl PlaceBuilder<'_> {
-    /// The places below an image, which has target type `start`.
-    fn alternatives(&self, start: u8, paths: &[Edge]) -> Vec<Place> {
-        match self.model {
+    /// The places below an image of a source type, which has target type
+    /// `start`, given the paths of its edges.
+    fn alternatives(&self, model: &ContentModel, start: u8, paths: &[&[u8]]) -> Vec<Place> {
+        // The only child of a choice, and the item under each list item, is child 0.
+        let single = |&steps: &&[u8]| self.place(start, 0, &[(steps, Place::Child(0))], false);
+        match model {
             ContentModel::Empty => {
                 vec![Place::Filler(self.fillers[start as usize].children.clone())]
             }
-            // The only child of a choice is child 0.
-            ContentModel::Choice(_) => {
-                paths.iter().map(|&(_, steps)| self.place(start, 0, &[(0, steps)], false)).collect()
+            ContentModel::Text => vec![self.place(start, 0, &[(paths[0], Place::Characters)], false)],
+            ContentModel::Sequence(_) => {
+                let edges = paths.iter().enumerate().map(|(edge, &steps)| (steps, Place::Child(edge)));
+                vec![self.place(start, 0, &edges.collect::<Vec<Edge>>(), false)]
             }
-            ContentModel::List(_) => vec![self.place(start, 0, paths, true)],
-            _ => vec![self.place(start, 0, paths, false)],
+            ContentModel::Choice(_) => paths.iter().map(single).collect(),
+            ContentModel::OptionalChoice(_) => {
+                let before = before_choice(self.target, start, paths[0]).unwrap_or(&[]);
+                let nothing = self.place(start, 0, &[(before, Place::Nothing)], false);
+                paths.iter().map(single).chain([nothing]).collect()
+            }
+            ContentModel::List(_) => vec![self.place(start, 0, &[(paths[0], Place::Child(0))], true)],
         }
     }
 
     /// The place at target type `at`, which these paths reach by their first
     /// `taken` steps. `items` says that the next list receives the items.
     fn place(&self, at: u8, taken: usize, paths: &[Edge], items: bool) -> Place {
-        let (edge, steps) = paths[0];
+        let (steps, end) = &paths[0];
         let Some(&step) = steps.get(taken) else {
-            return match self.model {
-                ContentModel::Text => Place::Characters,
-                _ => Place::Child(edge),
-            };
+            return end.clone();
         };
         match &self.target.types[at as usize] {
             ContentModel::List(t) if items => {
                 Place::Items(*t, Box::new(self.place(*t, taken + 1, paths, false)))
             }
             ContentModel::List(t) => Place::Item(*t, Box::new(self.place(*t, taken + 1, paths, false))),
-            ContentModel::Choice(members) => {
+            ContentModel::Choice(members) | ContentModel::OptionalChoice(members) => {
                 let t = members[step as usize - 1];
                 Place::Choice(t, Box::new(self.place(t, taken + 1, paths, items)))
             }
@@ -238,8 +254,8 @@ impl PlaceBuilder<'_> {
     /// The members of a sequence, each with the paths that go through it.
     fn members(&self, members: &[u8], taken: usize, paths: &[Edge], items: bool) -> Vec<(u8, Option<Place>)> {
         let member = |(place, &t): (usize, &u8)| {
-            let through = |&(_, steps): &Edge| steps[taken] as usize == place + 1;
-            let group: Vec<Edge> = paths.iter().copied().filter(through).collect();
+            let through = |(steps, _): &&Edge| steps[taken] as usize == place + 1;
+            let group: Vec<Edge> = paths.iter().filter(through).cloned().collect();
             let built = !group.is_empty();
             (t, built.then(|| self.place(t, taken + 1, &group, items)))
         };

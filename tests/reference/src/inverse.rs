@@ -57,11 +57,11 @@ impl Inverse<'_> {
     }
 
     /// The type of a child of an element of type `t`, whose member `taken` is
-    /// there if it is a choice.
+    /// there if it is a choice of either kind.
     fn child_type(&self, t: u8, taken: usize, number: usize) -> u8 {
         let model = &self.mapping.models[t as usize];
         match model {
-            ContentModel::Choice(members) => members[taken],
+            ContentModel::Choice(members) | ContentModel::OptionalChoice(members) => members[taken],
             ContentModel::List(item) => *item,
             _ => model.named()[number],
         }
@@ -85,9 +85,8 @@ impl Inverse<'_> {
                     None => self.is_filler(child),
                 })
             }
-            Place::Choice(t, rest) => {
-                image.children[0].element_type == *t && self.walk(rest, &image.children[0], found)
-            }
+            Place::Choice(t, rest) => member(image, *t).is_some_and(|member| self.walk(rest, member, found)),
+            Place::Nothing => image.children.is_empty(),
             Place::Item(_, rest) => image.children.len() == 1 && self.walk(rest, &image.children[0], found),
             Place::Items(_, rest) => image.children.iter().all(|item| self.walk(rest, item, found)),
         }
@@ -108,11 +107,18 @@ impl Inverse<'_> {
     }
 }
 
+/// The member of type `t` that a choice of either kind holds, if it holds that.
+fn member(choice: &Element, t: u8) -> Option<&Element> {
+    choice.children.first().filter(|member| member.element_type == t)
+}
+
 /// Whether the choices on a place's path are taken as in this image. Of the
-/// members of a source choice at most one has such a path.
+/// members of a source choice at most one has such a path; where an optional
+/// choice holds nothing, none has.
 fn is_taken(place: &Place, image: &Element) -> bool {
     match place {
-        Place::Choice(t, rest) => image.children[0].element_type == *t && is_taken(rest, &image.children[0]),
+        Place::Choice(t, rest) => member(image, *t).is_some_and(|member| is_taken(rest, member)),
+        Place::Nothing => image.children.is_empty(),
         Place::Sequence(members) => members
             .iter()
             .zip(&image.children)

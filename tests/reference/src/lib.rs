@@ -1,5 +1,6 @@
-//! A reference for the five entries of paper 01, written from that paper
-//! and the list of readings alone, in plain Rust.
+//! A reference for the five entries of paper 01, with the optional choices of
+//! paper 02 (N3), written from these papers and the lists of readings alone,
+//! in plain Rust.
 //!
 //! | Entry | Function |
 //! |---|---|
@@ -12,6 +13,7 @@
 //! Every function answers on arbitrary bytes. A refusal changes no byte of the
 //! output; an answer changes none after those it writes.
 
+pub mod clauses;
 pub mod embedding;
 pub mod generate;
 pub mod image;

@@ -2,16 +2,19 @@
 //!
 //! - `reference vectors FILE..` runs vector files and compares the answers.
 //! - `reference generate SEED COUNT [small]` prints random cases with answers.
+//! - `reference generate SEED COUNT optional` prints small ones with an optional
+//!   choice, spread over the answers and the clauses about optional choices.
 //! - `reference ENTRY FILE.. [OUTLEN]` runs one entry on documents in files.
 
-use lafindry_reference::generate::{random_case, random_small_case, Rng};
+use lafindry_reference::clauses::{shown, Clause};
+use lafindry_reference::generate::{random_case, random_small_case, random_small_optional_case, Rng};
 use lafindry_reference::vectors::{check_line, is_skipped, Answer, Case, Entry};
 use std::collections::BTreeMap;
 use std::io::Write;
 use std::process::ExitCode;
 
 const USAGE: &str = "usage: reference vectors FILE..
-       reference generate SEED COUNT [small]
+       reference generate SEED COUNT [small|optional]
        reference ENTRY FILE.. [OUTLEN]";
 
 fn main() -> ExitCode {
@@ -21,6 +24,7 @@ fn main() -> ExitCode {
         ["vectors", ref files @ ..] if !files.is_empty() => run_vectors(files),
         ["generate", seed, count] => generate(seed, count, random_case),
         ["generate", seed, count, "small"] => generate(seed, count, random_small_case),
+        ["generate", seed, count, "optional"] => generate_optional(seed, count),
         [entry, ref files @ ..] => run_entry(entry, files),
         [] => Err(USAGE.to_string()),
     };
@@ -86,6 +90,49 @@ fn generate(seed: &str, count: &str, random: impl Fn(&mut Rng) -> Case) -> Resul
     }
     out.flush().map_err(|error| error.to_string())?;
     Ok(true)
+}
+
+/// How many random cases there are for each one that is printed where they are
+/// spread.
+const DRAWN_FOR_ONE: usize = 200;
+
+/// Cases by the kind of their answer and by the last clause that they show.
+type Groups = BTreeMap<((u64, u64, String), Option<Clause>), Vec<String>>;
+
+/// Prints small cases with an optional choice, in groups as equal as may be.
+fn generate_optional(seed: &str, count: &str) -> Result<bool, String> {
+    let mut rng = Rng::new(seed.parse().map_err(|_| USAGE)?);
+    let count: usize = count.parse().map_err(|_| USAGE)?;
+    let mut groups = Groups::new();
+    for _ in 0..count * DRAWN_FOR_ONE {
+        let case = random_small_optional_case(&mut rng);
+        let answer = case.run()?;
+        let line = format!("{case} -> {answer}");
+        let clause = shown(&case, &answer).last().copied();
+        let group = groups.entry((kind(&case, &answer), clause)).or_default();
+        if group.len() < count && !group.contains(&line) {
+            group.push(line);
+        }
+    }
+    println!(
+        "# Made by `reference generate {seed} {count} optional`: random cases with an optional choice in a"
+    );
+    println!("# table, spread over the answers and the clauses about optional choices; the answers are the");
+    println!("# reference's.");
+    for (((_, _, kind), clause), lines) in spread(groups, count) {
+        let text = Clause::ALL.iter().find(|(named, _)| clause == Some(*named)).map(|(_, text)| *text);
+        println!("\n# {}", [&kind[..]].into_iter().chain(text).collect::<Vec<&str>>().join(": "));
+        lines.iter().for_each(|line| println!("{line}"));
+    }
+    Ok(true)
+}
+
+/// So many cases of all groups: each group has as many as the others, or all
+/// that there are.
+fn spread(groups: Groups, count: usize) -> Groups {
+    let most = |each: usize| groups.values().map(|lines| lines.len().min(each)).sum::<usize>();
+    let each = (1..count).take_while(|&each| most(each) <= count).last().unwrap_or(1);
+    groups.into_iter().map(|(key, lines)| (key, lines.into_iter().take(each).collect())).collect()
 }
 
 /// Runs one entry on documents in files, with 60,000 bytes of output unless

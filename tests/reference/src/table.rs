@@ -10,6 +10,7 @@ pub enum ContentModel {
     Empty,
     Sequence(Vec<u8>),
     Choice(Vec<u8>),
+    OptionalChoice(Vec<u8>),
     List(u8),
 }
 
@@ -20,7 +21,9 @@ impl ContentModel {
         match self {
             ContentModel::Text | ContentModel::List(_) => 1,
             ContentModel::Empty => 0,
-            ContentModel::Sequence(members) | ContentModel::Choice(members) => members.len(),
+            ContentModel::Sequence(members)
+            | ContentModel::Choice(members)
+            | ContentModel::OptionalChoice(members) => members.len(),
         }
     }
 
@@ -28,9 +31,16 @@ impl ContentModel {
     pub fn named(&self) -> &[u8] {
         match self {
             ContentModel::Text | ContentModel::Empty => &[],
-            ContentModel::Sequence(members) | ContentModel::Choice(members) => members,
+            ContentModel::Sequence(members)
+            | ContentModel::Choice(members)
+            | ContentModel::OptionalChoice(members) => members,
             ContentModel::List(item) => std::slice::from_ref(item),
         }
+    }
+
+    /// Whether it is a choice of either kind.
+    pub fn is_choice(&self) -> bool {
+        matches!(self, ContentModel::Choice(_) | ContentModel::OptionalChoice(_))
     }
 }
 
@@ -82,11 +92,13 @@ impl Table {
                 ContentModel::Empty => bytes.push(0x11),
                 ContentModel::Sequence(_) => bytes.push(0x12),
                 ContentModel::Choice(_) => bytes.push(0x13),
-                ContentModel::List(item) => bytes.extend([0x14, *item]),
+                ContentModel::OptionalChoice(_) => bytes.push(0x17),
+                ContentModel::List(item) => {
+                    bytes.extend([0x14, *item]);
+                    continue;
+                }
             }
-            if let ContentModel::Sequence(members) | ContentModel::Choice(members) = model {
-                members.iter().for_each(|&member| bytes.extend([0x15, member]));
-            }
+            model.named().iter().for_each(|&member| bytes.extend([0x15, member]));
         }
         bytes.push(0x1F);
         bytes
@@ -133,7 +145,7 @@ fn read_type(reader: &mut Reader) -> Result<Written, usize> {
             reader.bare(code)?;
             Vec::new()
         }
-        0x12 => read_members(reader, code, 1)?,
+        0x12 | 0x17 => read_members(reader, code, 1)?,
         0x13 => read_members(reader, code, 2)?,
         0x14 => vec![reader.with_operand(code)?],
         _ => return Err(offset),
@@ -141,7 +153,7 @@ fn read_type(reader: &mut Reader) -> Result<Written, usize> {
     Ok(Written { offset, code, named })
 }
 
-/// Reads the command of a sequence or choice and its members.
+/// Reads the command of a sequence or a choice of either kind and its members.
 fn read_members(reader: &mut Reader, code: u8, least: usize) -> Result<Vec<Operand>, usize> {
     reader.bare(code)?;
     let mut members = Vec::new();
@@ -171,9 +183,10 @@ fn no_such_type(types: &[Written]) -> Option<usize> {
     Some(wrong.offset)
 }
 
-/// Check 5: the first member of a choice that names a type named before.
+/// Check 5: the first member of a choice of either kind that names a type
+/// named before.
 fn named_twice(types: &[Written]) -> Option<usize> {
-    for written in types.iter().filter(|written| written.code == 0x13) {
+    for written in types.iter().filter(|written| matches!(written.code, 0x13 | 0x17)) {
         for (place, member) in written.named.iter().enumerate() {
             let before = &written.named[..place];
             if before.iter().any(|earlier| earlier.value == member.value) {
@@ -192,6 +205,7 @@ fn model(written: &Written) -> ContentModel {
         0x11 => ContentModel::Empty,
         0x12 => ContentModel::Sequence(named),
         0x13 => ContentModel::Choice(named),
+        0x17 => ContentModel::OptionalChoice(named),
         _ => ContentModel::List(named[0]),
     }
 }

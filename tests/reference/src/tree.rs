@@ -176,12 +176,15 @@ fn may_open(model: &ContentModel, children: usize, t: u8) -> bool {
     match model {
         ContentModel::Text | ContentModel::Empty => false,
         ContentModel::Sequence(members) => members.get(children) == Some(&t),
-        ContentModel::Choice(members) => children == 0 && members.contains(&t),
+        ContentModel::Choice(members) | ContentModel::OptionalChoice(members) => {
+            children == 0 && members.contains(&t)
+        }
         ContentModel::List(item) => *item == t,
     }
 }
 
-/// Whether an element is complete with so many children.
+/// Whether an element is complete with so many children, all of which it may
+/// hold.
 fn may_close(model: &ContentModel, children: usize) -> bool {
     match model {
         ContentModel::Sequence(members) => children == members.len(),

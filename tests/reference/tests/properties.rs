@@ -1,7 +1,11 @@
 //! What holds of every random world and case.
 
+use lafindry_reference::clauses::has_optional;
+use lafindry_reference::embedding::walk;
 use lafindry_reference::generate::damage::{alter, damage_bytes, damage_commands, damage_tree};
-use lafindry_reference::generate::{random_case, random_small_case, Rng, Shape, TableSize, World};
+use lafindry_reference::generate::{
+    random_case, random_small_case, random_small_optional_case, Rng, Shape, TableSize, World,
+};
 use lafindry_reference::image::fillers;
 use lafindry_reference::table::{ContentModel, Table};
 use lafindry_reference::tree::{self, commands, levels, Command, Element};
@@ -152,12 +156,89 @@ fn altered_images_are_told_apart() {
     assert!(seen["image"] > 200 && seen["no image"] > 500 && seen["refused"] > 500, "{seen:?}");
 }
 
+/// All elements of a type of at most so many bytes. Text has only letters A.
+fn all_elements(table: &Table, t: u8, bytes: usize) -> Vec<Element> {
+    let Some(inside) = bytes.checked_sub(3) else {
+        return Vec::new();
+    };
+    let contents = match &table.types[t as usize] {
+        ContentModel::Text => {
+            let texts = (0..=inside / 2).map(|count| vec![b'A'; count]);
+            return texts.map(|characters| Element { characters, ..Element::new(t) }).collect();
+        }
+        ContentModel::Empty => vec![Vec::new()],
+        ContentModel::Sequence(members) => all_rows(table, members, inside),
+        ContentModel::Choice(members) => {
+            members.iter().flat_map(|&member| all_rows(table, &[member], inside)).collect()
+        }
+        ContentModel::OptionalChoice(members) => {
+            let rows = members.iter().flat_map(|&member| all_rows(table, &[member], inside));
+            rows.chain([Vec::new()]).collect()
+        }
+        ContentModel::List(item) => {
+            (0..=inside / 3).flat_map(|count| all_rows(table, &vec![*item; count], inside)).collect()
+        }
+    };
+    contents.into_iter().map(|children| Element { children, ..Element::new(t) }).collect()
+}
+
+/// All rows of elements of these types that have at most so many bytes.
+fn all_rows(table: &Table, types: &[u8], bytes: usize) -> Vec<Vec<Element>> {
+    let Some((&first, others)) = types.split_first() else {
+        return vec![Vec::new()];
+    };
+    let mut rows = Vec::new();
+    for element in all_elements(table, first, bytes) {
+        // A document has one byte more than its root element.
+        let left = bytes + 1 - element.to_bytes().len();
+        for row in all_rows(table, others, left) {
+            rows.push([vec![element.clone()], row].concat());
+        }
+    }
+    rows
+}
+
+/// A target tree comes back just where it is the image of some source tree.
+/// All trees of up to 22 bytes are tried; a source is no longer than its image.
+#[test]
+fn just_the_images_come_back() {
+    let mut rng = Rng::new(15);
+    let (mut brought, mut refused) = (0, 0);
+    for _ in 0..1000 {
+        let size = TableSize { types: 4, members: 3, optional: 70 };
+        let world = World::random(&mut rng, size, Shape { levels: 5, bytes: 22, deep: false, wide: false });
+        if !world.embedded.has_optional() {
+            continue;
+        }
+        let [s, t, e, _] = documents(&world);
+        let carried = |source: &Element| {
+            let mut output = vec![0; MOST_BYTES];
+            let answer = carry(&s, &t, &e, &source.to_bytes(), &mut output).ok()?;
+            Some((output[..answer.length as usize].to_vec(), source.to_bytes()))
+        };
+        let images: BTreeMap<Vec<u8>, Vec<u8>> =
+            all_elements(&world.embedded.source, 0, 21).iter().filter_map(carried).collect();
+        for given in all_elements(&world.embedded.target, 0, 21) {
+            let given = given.to_bytes();
+            let mut output = vec![0; MOST_BYTES];
+            let answer = bring_back(&s, &t, &e, &given, &mut output);
+            match images.get(&given) {
+                Some(source) => assert_eq!(answer.map(|length| &output[..length as usize]), Ok(&source[..])),
+                None => assert_eq!(answer, Err(Refusal { number: 15, document: TREE, mark: 0 })),
+            }
+            brought += images.contains_key(&given) as usize;
+            refused += !images.contains_key(&given) as usize;
+        }
+    }
+    assert!(brought > 1000 && refused > 1000, "{brought} {refused}");
+}
+
 /// Any byte changed in a small image.
 #[test]
 fn every_changed_byte_is_told_apart() {
     let mut rng = Rng::new(6);
     for _ in 0..25 {
-        let size = TableSize { types: 4, members: 3 };
+        let size = TableSize { types: 4, members: 3, optional: 30 };
         let world = World::random(&mut rng, size, Shape { levels: 5, bytes: 25, deep: false, wide: false });
         let Some(image) = world.image().map(|image| image.to_bytes()).filter(|image| image.len() < 60) else {
             continue;
@@ -215,9 +296,16 @@ impl Draft {
         if matches!(model, ContentModel::List(_)) {
             self.at(target, &map.paths[0].steps, Some(None));
         }
+        if matches!(model, ContentModel::OptionalChoice(_)) && source.children.is_empty() {
+            let first = &map.paths[0].steps;
+            let along = walk(target, map.target, first).unwrap();
+            let is_choice = |&t: &u8| target.types[t as usize].is_choice();
+            let before = along.iter().position(is_choice).unwrap();
+            self.at(target, &first[..before], None);
+        }
         for (number, child) in source.children.iter().enumerate() {
             let (edge, item) = match model {
-                ContentModel::Choice(members) => {
+                ContentModel::Choice(members) | ContentModel::OptionalChoice(members) => {
                     (members.iter().position(|&member| member == child.element_type).unwrap(), None)
                 }
                 ContentModel::List(_) => (0, Some(Some(number))),
@@ -247,6 +335,9 @@ impl Draft {
                 let first = members.iter().position(|&member| heights[member as usize] == least).unwrap();
                 let place = self.children.keys().next().copied().unwrap_or(first);
                 child(place, members[place], filler);
+            }
+            ContentModel::OptionalChoice(members) => {
+                self.children.keys().for_each(|&place| child(place, members[place], filler));
             }
             ContentModel::List(item) => self.children.keys().for_each(|&place| child(place, *item, filler)),
             _ => {}
@@ -346,7 +437,7 @@ fn complete(table: &Table, beginning: &[u8]) -> Option<Vec<u8>> {
         bytes.push(0x32);
     }
     bytes.push(0x3F);
-    Some(bytes)
+    (bytes.len() <= MOST_BYTES).then_some(bytes)
 }
 
 /// Writes the filler of a type.
@@ -432,5 +523,7 @@ fn small_cases_are_small() {
     for _ in 0..1000 {
         let case = random_small_case(&mut rng);
         assert!(case.documents.iter().map(Vec::len).sum::<usize>() <= 60);
+        let case = random_small_optional_case(&mut rng);
+        assert!(case.documents.iter().map(Vec::len).sum::<usize>() <= 110 && has_optional(&case));
     }
 }

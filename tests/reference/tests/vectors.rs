@@ -28,6 +28,16 @@ fn worked_cases_agree() {
 }
 
 #[test]
+fn optional_choice_vectors_agree() {
+    run_file("n3.txt");
+}
+
+#[test]
+fn optional_choice_cases_agree() {
+    run_file("cases-n3.txt");
+}
+
+#[test]
 fn a_printed_line_is_read_back() {
     let mut rng = Rng::new(11);
     for _ in 0..500 {

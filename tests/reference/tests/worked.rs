@@ -1,4 +1,4 @@
-//! The worked cases of paper 01 and the examples of the list of readings, a
+//! The worked cases of paper 01 and the examples of the lists of readings, a
 //! test each. A star in a name's comment marks a starred case.
 
 use lafindry_reference::{bring_back, carry, judge_embedding, judge_table, judge_tree, Carried, Refusal};
@@ -366,4 +366,140 @@ fn reading_19_order_of_documents() {
 #[test]
 fn reading_20_the_last_of_64_types() {
     assert_eq!(table(&format!("{} 12 15 3F 1F", times("11", 63))), refused(6, 1, 63));
+}
+
+// Optional choices: N3 of paper 02 and its readings.
+
+/// An optional choice of a text and an empty type, and the same as a member of
+/// a sequence twice.
+const OPTIONAL: &str = "17 15 01 15 02 10 11 1F";
+const TWICE: &str = "12 15 03 15 03 10 11 17 15 01 15 02 1F";
+/// Both paths go through the second member.
+const SECOND: &str = "20 00 21 22 02 22 01 21 22 02 22 02 20 01 21 20 02 2F";
+
+#[test]
+fn optional_tables() {
+    assert_eq!(table("17 1F"), refused(2, 1, 1));
+    assert_eq!(table("17 15 00 1F"), Ok(1));
+    assert_eq!(table("17 15 00 15 00 1F"), refused(5, 1, 3));
+    assert_eq!(table("17 15 01 1F"), refused(4, 1, 1));
+    assert_eq!(table("16 15 00 1F"), refused(2, 1, 0));
+    let members: String = (1..=17).map(|t| format!("15 {t:02X} ")).collect();
+    let types = times("11", 17);
+    assert_eq!(table(&format!("17 {members} {types} 1F")), refused(3, 1, 33));
+    assert_eq!(table(&format!("17 {} {types} 1F", &members[..16 * 6])), Ok(18));
+}
+
+/// An optional choice has a finite instance whatever its members are.
+#[test]
+fn optional_instances() {
+    assert_eq!(table("12 15 01 17 15 00 1F"), Ok(2));
+    assert_eq!(table("12 15 01 13 15 00 15 01 1F"), refused(6, 1, 0));
+    assert_eq!(table("17 15 01 12 15 01 1F"), refused(6, 1, 1));
+}
+
+#[test]
+fn optional_trees() {
+    assert_eq!(tree(OPTIONAL, "30 00 32 3F"), Ok(1));
+    assert_eq!(tree(OPTIONAL, "30 00 30 02 32 32 3F"), Ok(2));
+    assert_eq!(tree(OPTIONAL, "30 00 30 00 32 32 3F"), refused(11, 4, 2));
+    assert_eq!(tree(OPTIONAL, "30 00 30 02 32 30 01 32 32 3F"), refused(11, 4, 5));
+    assert_eq!(tree(OPTIONAL, "30 00 31 41 32 3F"), refused(11, 4, 2));
+}
+
+#[test]
+fn optional_paths_begin_alike() {
+    let apart = "20 00 21 22 01 22 01 21 22 02 22 02 20 01 21 20 02 2F";
+    assert_eq!(embedding(OPTIONAL, TWICE, apart), refused(9, 3, 7));
+    assert_eq!(embedding(&OPTIONAL.replace("17", "13"), TWICE, apart), refused(10, 3, 7));
+    assert_eq!(embedding(OPTIONAL, TWICE, SECOND), Ok(3));
+}
+
+#[test]
+fn optional_first_choice_is_optional() {
+    assert_eq!(embedding(OPTIONAL, &TWICE.replace("17", "13"), SECOND), refused(9, 3, 2));
+    let both = "20 00 21 22 01 22 01 21 22 01 22 02 20 02 21 20 03 2F";
+    let needed_later = "17 15 01 13 15 02 15 03 10 11 1F";
+    assert_eq!(embedding(OPTIONAL, needed_later, both), Ok(3));
+    let needed_first = "13 15 01 15 02 17 15 02 15 03 10 11 1F";
+    assert_eq!(embedding(OPTIONAL, needed_first, both), refused(9, 3, 2));
+    assert_eq!(embedding(&OPTIONAL.replace("17", "13"), needed_first, both), Ok(3));
+}
+
+/// A list on the path of a choice of either kind; a path without a choice.
+#[test]
+fn optional_paths_have_a_choice_and_no_list() {
+    let both = "20 00 21 22 01 22 01 21 22 01 22 02 20 02 21 20 03 2F";
+    let below_list = "14 01 17 15 02 15 03 10 11 1F";
+    assert_eq!(embedding(OPTIONAL, below_list, both), refused(9, 3, 2));
+    assert_eq!(embedding(&OPTIONAL.replace("17", "13"), below_list, both), refused(9, 3, 2));
+    let sequence = "12 15 01 15 02 10 11 1F";
+    assert_eq!(embedding(OPTIONAL, sequence, "20 00 21 22 01 21 22 02 20 01 21 20 02 2F"), refused(9, 3, 2));
+}
+
+/// A sequence, a list or a text through an optional choice.
+#[test]
+fn only_choices_go_through_an_optional_choice() {
+    let target = "17 15 01 12 15 02 10 1F";
+    let member = "20 00 21 22 01 22 01 20 02 21 2F";
+    assert_eq!(embedding("12 15 01 10 1F", target, member), refused(9, 3, 2));
+    assert_eq!(embedding("14 01 10 1F", &target.replace("12 15 02", "14 02"), member), refused(9, 3, 2));
+    assert_eq!(embedding("10 1F", target, "20 00 21 22 01 22 01 2F"), refused(9, 3, 2));
+    assert_eq!(embedding("17 15 01 10 1F", target, member), Ok(2));
+}
+
+#[test]
+fn optional_paths_that_clash() {
+    let source = "17 15 01 15 02 11 11 1F";
+    let target = "17 15 01 12 15 02 15 02 13 15 03 15 04 11 11 1F";
+    let equal = "20 00 21 22 01 22 01 22 01 21 22 01 22 01 22 01 20 03 20 03 2F";
+    assert_eq!(embedding(source, target, equal), refused(10, 3, 9));
+    let beginning = "20 00 21 22 01 21 22 01 22 01 20 01 20 02 2F";
+    assert_eq!(embedding(source, target, beginning), refused(10, 3, 5));
+    let at_sequence = "20 00 21 22 01 22 01 22 01 21 22 01 22 02 22 02 20 03 20 04 2F";
+    assert_eq!(embedding(source, target, at_sequence), refused(10, 3, 9));
+    let at_choice = "20 00 21 22 01 22 02 22 01 21 22 01 22 02 22 02 20 03 20 04 2F";
+    assert_eq!(embedding(source, target, at_choice), Ok(2));
+}
+
+/// Nothing, and each member; the elements built for nothing are no filler.
+#[test]
+fn optional_images() {
+    let documents = |tree| [OPTIONAL, TWICE, SECOND, tree];
+    assert_image(documents("30 00 32 3F"), "30 00 30 03 32 30 03 32 32 3F", 1);
+    assert_image(documents("30 00 30 02 32 32 3F"), "30 00 30 03 32 30 03 30 02 32 32 32 3F", 1);
+    let text = documents("30 00 30 01 31 41 32 32 3F");
+    assert_image(text, "30 00 30 03 32 30 03 30 01 31 41 32 32 32 3F", 1);
+    // The first member is filler.
+    let filled = "30 00 30 03 30 02 32 32 30 03 32 32 3F";
+    assert_eq!(brought_back(documents(filled), 60_000), refused(15, 4, 0));
+}
+
+/// Where the path goes on through a second optional choice, that one is not
+/// left empty.
+#[test]
+fn only_the_first_optional_choice_is_left_empty() {
+    let documents =
+        |tree| ["17 15 01 11 1F", "17 15 01 17 15 02 11 1F", "20 00 21 22 01 22 01 20 02 2F", tree];
+    assert_image(documents("30 00 32 3F"), "30 00 32 3F", 0);
+    assert_image(documents("30 00 30 01 32 32 3F"), "30 00 30 01 30 02 32 32 32 3F", 0);
+    assert_eq!(brought_back(documents("30 00 30 01 32 32 3F"), 60_000), refused(15, 4, 0));
+}
+
+/// A needed choice through an optional one: nothing is no image.
+#[test]
+fn a_needed_choice_through_an_optional_one() {
+    let documents = |tree| {
+        ["13 15 01 15 02 11 11 1F", "17 15 01 15 02 11 11 1F", "20 00 21 22 02 21 22 01 20 02 20 01 2F", tree]
+    };
+    assert_image(documents("30 00 30 01 32 32 3F"), "30 00 30 02 32 32 3F", 0);
+    assert_eq!(brought_back(documents("30 00 32 3F"), 60_000), refused(15, 4, 0));
+}
+
+/// The filler of an optional choice is empty, of height 1: a filler choice
+/// takes it though its only member is high.
+#[test]
+fn filler_of_an_optional_choice() {
+    let target = "13 15 01 15 02 12 15 03 17 15 01 11 1F";
+    assert_image(["11 1F", target, "20 00 2F", "30 00 32 3F"], "30 00 30 02 32 32 3F", 1);
 }

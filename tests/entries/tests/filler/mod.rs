@@ -1,8 +1,7 @@
 //! Where the filler of an image stands.
 
 use lafindry_reference::generate::World;
-use lafindry_reference::image::{Mapping, Place};
-use lafindry_reference::table::ContentModel;
+use lafindry_reference::image::{alternative, Mapping, Place};
 use lafindry_reference::tree::Element;
 
 /// The filler elements in the image of a world's tree that stand in no other
@@ -32,13 +31,8 @@ impl Search<'_> {
     /// Goes through what the image of a source element holds.
     fn content(&mut self, element: &Element) {
         let t = element.element_type as usize;
-        let taken = match (&self.mapping.models[t], element.children.first()) {
-            (ContentModel::Choice(members), Some(child)) => {
-                members.iter().position(|&member| member == child.element_type).unwrap_or(0)
-            }
-            _ => 0,
-        };
         let mapping = self.mapping;
+        let taken = alternative(&mapping.models[t], element);
         self.place(&mapping.types[t].alternatives[taken], &element.children);
     }
 
@@ -46,7 +40,7 @@ impl Search<'_> {
     /// these children.
     fn place(&mut self, place: &Place, children: &[Element]) {
         match place {
-            Place::Characters => {}
+            Place::Characters | Place::Nothing => {}
             Place::Child(edge) => self.content(&children[*edge]),
             Place::Filler(types) => (0..types.len()).for_each(|number| self.filler(number)),
             Place::Sequence(members) => {

@@ -4,6 +4,7 @@ use lafindry_reference::embedding::walk;
 use lafindry_reference::generate::World;
 use lafindry_reference::table::ContentModel;
 use lafindry_reference::tree::Element;
+use lafindry_reference::MOST_MEMBERS;
 
 /// What the image of a tree shows; each is true where some element shows it.
 #[derive(Debug, Default, Clone, Copy, PartialEq, Eq)]
@@ -19,6 +20,19 @@ pub struct Traits {
     pub list_in_list: bool,
     /// A choice has a path of two steps or more.
     pub long_choice: bool,
+    /// An optional choice holds nothing.
+    pub empty_optional: bool,
+    /// An optional choice holds a member.
+    pub full_optional: bool,
+    /// An optional choice that holds nothing has paths with steps before their
+    /// first choice, so that elements are built above the one left empty.
+    pub nothing_below: bool,
+    /// An optional choice holds another one at some depth.
+    pub nested_optional: bool,
+    /// An optional choice has as many members as there may be.
+    pub sixteen_optional: bool,
+    /// A needed choice has a path through an optional choice.
+    pub through_optional: bool,
 }
 
 impl Traits {
@@ -46,17 +60,44 @@ impl Traits {
                 let filled = |item: &Element| is_list(item) && !item.children.is_empty();
                 self.list_in_list |= element.children.iter().any(filled);
             }
-            ContentModel::Choice(_) => self.long_choice |= paths.iter().any(|path| path.steps.len() > 1),
+            ContentModel::Choice(_) => {
+                self.long_choice |= paths.iter().any(|path| path.steps.len() > 1);
+                self.through_optional |= paths.iter().any(|path| path.leaves_optional.contains(&true));
+            }
+            ContentModel::OptionalChoice(_) => self.add_optional(world, element, &paths),
             _ => {}
         }
         element.children.iter().for_each(|child| self.add(world, child));
     }
+
+    /// Adds what the image of an optional choice shows.
+    fn add_optional(&mut self, world: &World, element: &Element, paths: &[Path]) {
+        let is_empty = element.children.is_empty();
+        self.empty_optional |= is_empty;
+        self.full_optional |= !is_empty;
+        // The first choice on a path of an optional choice is an optional one.
+        self.nothing_below |= is_empty && !paths[0].leaves_optional[0];
+        self.nested_optional |= element.children.iter().any(|child| holds_optional(world, child));
+        self.sixteen_optional |= paths.len() == MOST_MEMBERS;
+    }
 }
 
-/// The steps of a path, and which of them leave a list.
+/// Whether an element is an optional choice or holds one at some depth.
+fn holds_optional(world: &World, element: &Element) -> bool {
+    is_optional(&world.embedded.source.types[element.element_type as usize])
+        || element.children.iter().any(|child| holds_optional(world, child))
+}
+
+/// Whether a type is an optional choice.
+fn is_optional(model: &ContentModel) -> bool {
+    matches!(model, ContentModel::OptionalChoice(_))
+}
+
+/// The steps of a path, and which of them leave a list or an optional choice.
 struct Path {
     steps: Vec<u8>,
     leaves_list: Vec<bool>,
+    leaves_optional: Vec<bool>,
 }
 
 /// The paths of a source type.
@@ -65,8 +106,12 @@ fn paths_of(world: &World, t: u8) -> Vec<Path> {
     let map = &world.embedded.embedding.maps[t as usize];
     let path = |steps: &Vec<u8>| {
         let along = walk(target, map.target, steps).expect("a valid path");
-        let is_list = |&t: &u8| matches!(target.types[t as usize], ContentModel::List(_));
-        Path { steps: steps.clone(), leaves_list: along[..steps.len()].iter().map(is_list).collect() }
+        let left = along[..steps.len()].iter().map(|&t| &target.types[t as usize]);
+        Path {
+            steps: steps.clone(),
+            leaves_list: left.clone().map(|model| matches!(model, ContentModel::List(_))).collect(),
+            leaves_optional: left.map(is_optional).collect(),
+        }
     };
     map.paths.iter().map(|path_map| path(&path_map.steps)).collect()
 }

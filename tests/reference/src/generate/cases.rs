@@ -3,10 +3,12 @@
 use super::damage::{
     alter, damage_bytes, damage_commands, damage_embedding, damage_table, damage_tree, make_too_long,
 };
+use super::detours::change_path;
 use super::embeddings::{random_embedded, Embedded};
 use super::tables::{random_table, TableSize};
 use super::trees::{pad, random_tree, recursive_types, Shape};
 use super::Rng;
+use crate::clauses::has_optional;
 use crate::image::Mapping;
 use crate::table::ContentModel;
 use crate::tree::{self, commands, Command, Element};
@@ -26,7 +28,7 @@ impl World {
         loop {
             let source = random_table(rng, size);
             if let Some(tree) = random_tree(rng, &source, shape) {
-                return World { embedded: random_embedded(rng, &source), tree };
+                return World { embedded: random_embedded(rng, &source, size.optional), tree };
             }
         }
     }
@@ -42,6 +44,19 @@ impl World {
             _ => return World::at_most_bytes(rng, size),
         };
         World::random(rng, size, shape)
+    }
+
+    /// A world of mixed size with an optional choice in one of its tables.
+    pub fn optional(rng: &mut Rng) -> World {
+        let mut size = TableSize::random(rng);
+        size.optional = rng.pick(&[40, 70, 100]);
+        let shape = if rng.chance(90) { Shape::small(rng) } else { Shape::deep(rng) };
+        loop {
+            let world = World::random(rng, size, shape);
+            if world.embedded.has_optional() {
+                return world;
+            }
+        }
     }
 
     /// The first of some random worlds for which a test holds, else the last.
@@ -161,7 +176,7 @@ pub fn random_case(rng: &mut Rng) -> Case {
 pub fn random_small_case(rng: &mut Rng) -> Case {
     loop {
         let bytes = rng.pick(&[4, 8, 12, 20]);
-        let size = TableSize { types: rng.between(1, 4), members: 2 };
+        let size = TableSize { types: rng.between(1, 4), members: 2, optional: rng.pick(&[0, 0, 40]) };
         let shape = Shape { levels: 6, bytes, deep: rng.chance(30), wide: false };
         let world = World::random(rng, size, shape);
         // Tables of one type would else be most of those that fit.
@@ -176,9 +191,33 @@ pub fn random_small_case(rng: &mut Rng) -> Case {
     }
 }
 
-/// A case of an entry in a world; about half of them have damage.
+/// A case with an optional choice in one of its tables, whose documents have at
+/// most 60 bytes each and 110 together.
+pub fn random_small_optional_case(rng: &mut Rng) -> Case {
+    loop {
+        let bytes = rng.pick(&[4, 8, 12, 20]);
+        let size = TableSize { types: rng.between(1, 5), members: rng.pick(&[2, 3]), optional: 80 };
+        let shape = Shape { levels: 6, bytes, deep: rng.chance(30), wide: false };
+        let world = World::random(rng, size, shape);
+        let entry = Entry::ALL[rng.weighted(&[6, 24, 12, 30, 28])];
+        let case = case_of(rng, &world, entry);
+        let lengths = || case.documents.iter().map(Vec::len);
+        if has_optional(&case) && lengths().all(|length| length <= 60) && lengths().sum::<usize>() <= 110 {
+            return case;
+        }
+    }
+}
+
+/// A case of an entry in a world; about half of them have damage. In some a
+/// path is changed together with the target table.
 pub fn case_of(rng: &mut Rng, world: &World, entry: Entry) -> Case {
     let mut documents = world.documents(rng, entry);
+    if documents.len() > 2 && rng.chance(15) {
+        if let Some(changed) = change_path(rng, &world.embedded) {
+            documents[1] = changed.target.to_bytes();
+            documents[2] = changed.embedding.to_bytes();
+        }
+    }
     for _ in 0..rng.pick(&[0, 0, 0, 0, 0, 1, 1, 1, 1, 2]) {
         // Later documents are damaged more often than tables.
         let at = rng.weighted(&[20, 20, 35, 30][..documents.len()]);
@@ -220,7 +259,7 @@ fn damage(rng: &mut Rng, world: &World, entry: Entry, documents: &mut [Vec<u8>],
 /// with small operands and mostly the command that ends it.
 fn soup(rng: &mut Rng, kind: usize) -> Vec<u8> {
     let codes: [&[u8]; 3] = [
-        &[0x10, 0x11, 0x12, 0x13, 0x14, 0x15, 0x15, 0x15],
+        &[0x10, 0x11, 0x12, 0x13, 0x14, 0x17, 0x15, 0x15, 0x15],
         &[0x20, 0x21, 0x21, 0x22, 0x22],
         &[0x30, 0x30, 0x31, 0x32, 0x32],
     ];

@@ -10,8 +10,8 @@ use crate::tree::Element;
 use crate::{MOST_BYTES, MOST_LEVELS, MOST_MEMBERS, MOST_STEPS, MOST_TYPES};
 
 /// All command bytes.
-const COMMANDS: [u8; 15] =
-    [0x10, 0x11, 0x12, 0x13, 0x14, 0x15, 0x1F, 0x20, 0x21, 0x22, 0x2F, 0x30, 0x31, 0x32, 0x3F];
+const COMMANDS: [u8; 16] =
+    [0x10, 0x11, 0x12, 0x13, 0x14, 0x15, 0x17, 0x1F, 0x20, 0x21, 0x22, 0x2F, 0x30, 0x31, 0x32, 0x3F];
 
 /// Changes a few bytes of a document: changed, inserted, deleted, cut off or
 /// appended.
@@ -94,20 +94,21 @@ fn change_operand(rng: &mut Rng, commands: &mut [Vec<u8>]) {
     };
 }
 
-/// A table with an error of refusal 3, 4, 5 or 6, or another valid one.
+/// A table with an error of refusal 2, 3, 4, 5 or 6, or another valid one.
 pub fn damage_table(rng: &mut Rng, table: &Table) -> Vec<u8> {
     let mut table = table.clone();
     let count = table.types.len();
-    let t = rng.below(count);
-    match rng.below(6) {
+    let t = type_to_damage(rng, &table);
+    match rng.below(9) {
         0 => {
             let types = MOST_TYPES + rng.below(3);
             table.types.resize(types.max(count), ContentModel::Empty);
         }
         1 => lengthen(rng, &mut table.types[t], count),
         2 => set_named(rng, &mut table.types[t], count as u8),
+        3 if table.types[t].is_choice() => repeat_member(rng, &mut table.types[t]),
         3 => {
-            if let Some(model) = table.types.iter_mut().find(|m| matches!(m, ContentModel::Choice(_))) {
+            if let Some(model) = table.types.iter_mut().find(|model| model.is_choice()) {
                 repeat_member(rng, model);
             } else {
                 table.types[t] = ContentModel::Choice(vec![0, 0]);
@@ -118,6 +119,8 @@ pub fn damage_table(rng: &mut Rng, table: &Table) -> Vec<u8> {
             table.types[t] = ContentModel::Sequence(vec![other as u8]);
             table.types[other] = ContentModel::Sequence(vec![t as u8]);
         }
+        5 => drop_members(rng, &mut table.types[t]),
+        6 | 7 => change_kind(rng, &mut table.types[t]),
         _ => {
             let other = rng.below(count) as u8;
             set_named(rng, &mut table.types[t], other);
@@ -126,11 +129,51 @@ pub fn damage_table(rng: &mut Rng, table: &Table) -> Vec<u8> {
     table.to_bytes()
 }
 
+/// A type of a table; an optional choice in half of the cases where there is
+/// one.
+fn type_to_damage(rng: &mut Rng, table: &Table) -> usize {
+    let is_optional = |&t: &usize| matches!(table.types[t], ContentModel::OptionalChoice(_));
+    let optional: Vec<usize> = (0..table.types.len()).filter(is_optional).collect();
+    match !optional.is_empty() && rng.chance(50) {
+        true => rng.pick(&optional),
+        false => rng.below(table.types.len()),
+    }
+}
+
+/// Takes members from a type, up to all of them.
+fn drop_members(rng: &mut Rng, model: &mut ContentModel) {
+    if let ContentModel::Sequence(members)
+    | ContentModel::Choice(members)
+    | ContentModel::OptionalChoice(members) = model
+    {
+        let left = rng.pick(&[0, 0, 1, 2]);
+        members.truncate(left);
+    }
+}
+
+/// Makes a type of another kind of the types that it names. Repeated members
+/// of a sequence are then repeated in a choice.
+fn change_kind(rng: &mut Rng, model: &mut ContentModel) {
+    let named = model.named().to_vec();
+    if named.is_empty() {
+        *model = ContentModel::Empty;
+        return;
+    }
+    *model = match rng.below(5) {
+        0 => ContentModel::Sequence(named),
+        1 | 2 if named.len() > 1 => ContentModel::Choice(named),
+        3 => ContentModel::List(named[0]),
+        _ => ContentModel::OptionalChoice(named),
+    };
+}
+
 /// Gives a type 16 or more members.
 fn lengthen(rng: &mut Rng, model: &mut ContentModel, count: usize) {
     let length = MOST_MEMBERS + rng.below(3);
+    let in_order = || (0..length).map(|t| (t % count) as u8).collect();
     *model = match model {
-        ContentModel::Choice(_) => ContentModel::Choice((0..length).map(|t| (t % count) as u8).collect()),
+        ContentModel::Choice(_) => ContentModel::Choice(in_order()),
+        ContentModel::OptionalChoice(_) => ContentModel::OptionalChoice(in_order()),
         _ => ContentModel::Sequence((0..length).map(|_| rng.below(count) as u8).collect()),
     };
 }
@@ -138,7 +181,9 @@ fn lengthen(rng: &mut Rng, model: &mut ContentModel, count: usize) {
 /// Replaces one of the types named in a model.
 fn set_named(rng: &mut Rng, model: &mut ContentModel, t: u8) {
     match model {
-        ContentModel::Sequence(members) | ContentModel::Choice(members) => {
+        ContentModel::Sequence(members)
+        | ContentModel::Choice(members)
+        | ContentModel::OptionalChoice(members) => {
             let place = rng.below(members.len());
             members[place] = t;
         }
@@ -147,9 +192,9 @@ fn set_named(rng: &mut Rng, model: &mut ContentModel, t: u8) {
     }
 }
 
-/// Names a member of a choice a second time.
+/// Names a member of a choice of either kind a second time.
 fn repeat_member(rng: &mut Rng, model: &mut ContentModel) {
-    if let ContentModel::Choice(members) = model {
+    if let ContentModel::Choice(members) | ContentModel::OptionalChoice(members) = model {
         let member = rng.pick(members);
         let place = rng.between(1, members.len());
         members.insert(place, member);
@@ -289,7 +334,7 @@ pub fn damage_tree(rng: &mut Rng, table: &Table, root: &Element) -> Vec<u8> {
     let element = random_descendant(rng, &mut root);
     let count = element.children.len();
     let at = rng.below(count);
-    match rng.below(6) {
+    match rng.below(7) {
         0 if count > 0 => {
             element.children.remove(at);
         }
@@ -299,6 +344,10 @@ pub fn damage_tree(rng: &mut Rng, table: &Table, root: &Element) -> Vec<u8> {
         4 => {
             let character = rng.pick(&[0x00, 0x08, 0x0B, 0x0D, 0x1F, 0x7F, 0x80, 0xFF]);
             element.characters.push(character);
+        }
+        5 => {
+            let added = rng.below(table.types.len()) as u8;
+            element.children.insert(at, Element::new(added));
         }
         _ => element.element_type = rng.below(table.types.len() + 1) as u8,
     }
@@ -326,14 +375,17 @@ fn random_descendant<'a>(rng: &mut Rng, element: &'a mut Element) -> &'a mut Ele
 
 /// A tree that conforms to the table as the given one does, but differs in
 /// some place: other characters, items added or dropped, another member of a
-/// choice, or another element of the same type.
+/// choice, an optional choice emptied, or another element of the same type.
 pub fn alter(rng: &mut Rng, table: &Table, root: &Element) -> Element {
     let mut root = root.clone();
     let element = random_descendant(rng, &mut root);
     match &table.types[element.element_type as usize] {
         ContentModel::Text => alter_characters(rng, &mut element.characters),
         ContentModel::List(item) if rng.chance(70) => alter_items(rng, table, *item, &mut element.children),
-        ContentModel::Choice(members) if rng.chance(70) => {
+        ContentModel::OptionalChoice(_) if !element.children.is_empty() && rng.chance(40) => {
+            element.children.clear();
+        }
+        ContentModel::Choice(members) | ContentModel::OptionalChoice(members) if rng.chance(70) => {
             let member = rng.pick(members);
             if let Some(child) = other_element(rng, table, member) {
                 element.children = vec![child];

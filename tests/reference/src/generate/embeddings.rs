@@ -3,7 +3,7 @@
 
 use super::tables::{random_table, tower, TableSize};
 use super::Rng;
-use crate::embedding::{self, Embedding, Path, TypeMap};
+use crate::embedding::{self, before_choice, walk, Embedding, Path, TypeMap};
 use crate::table::{self, ContentModel, Table};
 use crate::{MOST_MEMBERS, MOST_STEPS, MOST_TYPES, TARGET};
 
@@ -16,18 +16,25 @@ pub struct Embedded {
 }
 
 impl Embedded {
+    /// Whether one of the tables has an optional choice.
+    pub fn has_optional(&self) -> bool {
+        let types = self.source.types.iter().chain(&self.target.types);
+        types.into_iter().any(|model| matches!(model, ContentModel::OptionalChoice(_)))
+    }
+
     /// Whether the embedding is valid.
     fn is_valid(&self) -> bool {
         embedding::accept(&self.source, &self.target, &self.embedding.to_bytes()).is_ok()
     }
 }
 
-/// A target table and a valid embedding for a source table.
-pub fn random_embedded(rng: &mut Rng, source: &Table) -> Embedded {
+/// A target table and a valid embedding for a source table. So many of 100
+/// choices of the target are optional where the source leaves that open.
+pub fn random_embedded(rng: &mut Rng, source: &Table, optional: usize) -> Embedded {
     for _ in 0..8 {
         let wrap = rng.pick(&[0, 20, 40, 60, 85]);
         let extra = rng.pick(&[0, 15, 30, 50]);
-        if let Some(mut embedded) = derive(rng, source, wrap, extra) {
+        if let Some(mut embedded) = derive(rng, source, Chances { wrap, extra, optional }) {
             vary(rng, &mut embedded);
             return embedded;
         }
@@ -54,13 +61,20 @@ fn type_map(target: u8, paths: Vec<Vec<u8>>) -> TypeMap {
     TypeMap { offset: 0, target, paths }
 }
 
-/// Builds a target table around the maps of a source table. `wrap` and
-/// `extra` are the chances of longer paths and of filler members.
+/// How many of 100 paths are longer, members are filler and choices are
+/// optional.
+#[derive(Debug, Clone, Copy)]
+struct Chances {
+    wrap: usize,
+    extra: usize,
+    optional: usize,
+}
+
+/// Builds a target table around the maps of a source table.
 struct Derivation<'a> {
     rng: &'a mut Rng,
     source: &'a Table,
-    wrap: usize,
-    extra: usize,
+    chances: Chances,
     /// The target type of each source type.
     maps: Vec<u8>,
     /// The models of the target types; `None` while not yet decided.
@@ -73,9 +87,9 @@ struct Derivation<'a> {
 type Paths = Vec<Vec<u8>>;
 
 /// A derived target table and embedding; `None` where the limits are passed.
-fn derive(rng: &mut Rng, source: &Table, wrap: usize, extra: usize) -> Option<Embedded> {
+fn derive(rng: &mut Rng, source: &Table, chances: Chances) -> Option<Embedded> {
     let mut derivation =
-        Derivation { rng, source, wrap, extra, maps: vec![0], target: vec![None], fillers: Vec::new() };
+        Derivation { rng, source, chances, maps: vec![0], target: vec![None], fillers: Vec::new() };
     derivation.add_fillers()?;
     derivation.choose_maps()?;
     let paths = derivation.define_types()?;
@@ -105,7 +119,7 @@ impl Derivation<'_> {
             0 => tower(self.rng.between(2, 40), self.rng.between(1, MOST_MEMBERS)),
             1..=5 => tower(self.rng.between(2, 7), self.rng.between(1, 8)),
             6..=12 => return Some(()),
-            _ => random_table(self.rng, TableSize { types: 4, members: 3 }),
+            _ => random_table(self.rng, TableSize { types: 4, members: 3, optional: self.chances.optional }),
         };
         let first = self.target.len() as u8;
         for model in &table.types {
@@ -185,9 +199,18 @@ impl Derivation<'_> {
             0 => ContentModel::Text,
             1 => ContentModel::List(self.filler_type()),
             2 => ContentModel::Sequence(vec![self.filler_type(), self.filler_type()]),
+            3 if !self.fillers.is_empty() && self.draws_optional() => {
+                ContentModel::OptionalChoice(self.distinct_fillers(&[], 3))
+            }
             3 if self.fillers.len() > 1 => ContentModel::Choice(self.distinct_fillers(&[], 2)),
             _ => ContentModel::Empty,
         }
+    }
+
+    /// Whether a choice is to be an optional one. Nothing is drawn where none
+    /// is, so that such tables stay the same for a seed.
+    fn draws_optional(&mut self) -> bool {
+        self.chances.optional > 0 && self.rng.chance(self.chances.optional)
     }
 
     /// Some distinct filler types besides the given ones.
@@ -206,10 +229,12 @@ impl Derivation<'_> {
         let mut route = Route { model: &model, paths: vec![Vec::new(); model.edges()] };
         let edges: Vec<usize> = (0..model.edges()).collect();
         match model {
-            ContentModel::Text if !self.rng.chance(self.wrap / 2) => {
+            ContentModel::Text if !self.rng.chance(self.chances.wrap / 2) => {
                 self.target[at as usize] = Some(ContentModel::Text);
             }
-            ContentModel::Choice(_) => self.lay_choice(&mut route, at, &edges, Vec::new(), false)?,
+            ContentModel::Choice(_) | ContentModel::OptionalChoice(_) => {
+                self.lay_choice(&mut route, at, &edges, Vec::new(), false)?
+            }
             ContentModel::List(_) => self.lay(&mut route, at, &edges, Vec::new(), true)?,
             _ => self.lay(&mut route, at, &edges, Vec::new(), false)?,
         }
@@ -258,7 +283,7 @@ impl Derivation<'_> {
     /// type that the paths go on from.
     fn next(&mut self, route: &mut Route, edges: &[usize], prefix: Vec<u8>, list: bool) -> Option<u8> {
         let full = prefix.len() >= MOST_STEPS;
-        if edges.len() == 1 && !list && (full || !self.rng.chance(self.wrap)) {
+        if edges.len() == 1 && !list && (full || !self.rng.chance(self.chances.wrap)) {
             route.paths[edges[0]] = prefix;
             return self.end_type(route, edges[0]);
         }
@@ -283,28 +308,54 @@ impl Derivation<'_> {
         let last = prefix.len() + 1 >= MOST_STEPS;
         let may_wait = !last || (passed && edges.len() == 1);
         if may_wait && self.rng.chance(30) {
-            let members = self.with_fillers(vec![edges.to_vec()]);
-            let mut types = Vec::new();
-            for (place, group) in members.iter().enumerate() {
-                types.push(match group {
-                    Some(group) => self.next_choice(route, group, longer(&prefix, place), passed, &[])?,
-                    None => self.filler_type(),
-                });
-            }
-            self.target[at as usize] = Some(ContentModel::Sequence(types));
-            return Some(());
+            return self.lay_beside(route, at, edges, prefix, passed);
         }
+        // The first choice on the paths of an optional choice is optional.
+        let must = !passed && matches!(route.model, ContentModel::OptionalChoice(_));
+        let optional = must || self.draws_optional();
         let groups = self.split(edges, last);
         let mut types: Vec<u8> = Vec::new();
         for (place, group) in groups.iter().enumerate() {
             let t = self.next_choice(route, group, longer(&prefix, place), true, &types)?;
             types.push(t);
         }
-        let others = if types.len() < 2 { 1 } else { self.rng.below(3) * self.extra / 50 };
+        let alone = types.len() < 2 && !optional;
+        let others = if alone { 1 } else { self.rng.below(3) * self.chances.extra / 50 };
         let others = self.distinct_fillers(&types, others.min(MOST_MEMBERS - types.len()));
         types.extend(others);
-        self.target[at as usize] = (types.len() >= 2).then_some(ContentModel::Choice(types));
+        self.target[at as usize] = match optional {
+            true => Some(ContentModel::OptionalChoice(types)),
+            false => (types.len() >= 2).then_some(ContentModel::Choice(types)),
+        };
         self.target[at as usize].as_ref().map(|_| ())
+    }
+
+    /// Makes `at` a sequence that the paths of some members of a choice leave
+    /// by one step. Where optional choices are drawn, sometimes another member
+    /// is of the type that they go through.
+    fn lay_beside(
+        &mut self,
+        route: &mut Route,
+        at: u8,
+        edges: &[usize],
+        prefix: Vec<u8>,
+        passed: bool,
+    ) -> Option<()> {
+        let members = self.with_fillers(vec![edges.to_vec()]);
+        let mut types = Vec::new();
+        let mut through = None;
+        for (place, group) in members.iter().enumerate() {
+            types.push(match group {
+                Some(group) => self.next_choice(route, group, longer(&prefix, place), passed, &[])?,
+                None => self.filler_type(),
+            });
+            through = through.or(group.as_ref().map(|_| types[place]));
+        }
+        if self.chances.optional > 0 && types.len() < MOST_MEMBERS && self.rng.chance(30) {
+            types.extend(through);
+        }
+        self.target[at as usize] = Some(ContentModel::Sequence(types));
+        Some(())
     }
 
     /// As `next`, for members of a choice; the type isn't one of `taken`.
@@ -317,7 +368,7 @@ impl Derivation<'_> {
         taken: &[u8],
     ) -> Option<u8> {
         let full = prefix.len() >= MOST_STEPS;
-        if edges.len() == 1 && passed && (full || !self.rng.chance(self.wrap)) {
+        if edges.len() == 1 && passed && (full || !self.rng.chance(self.chances.wrap)) {
             let end = self.end_type(route, edges[0])?;
             if !taken.contains(&end) {
                 route.paths[edges[0]] = prefix;
@@ -335,7 +386,7 @@ impl Derivation<'_> {
     /// Splits edges into groups that go through one member each; groups of
     /// one where `single`.
     fn split(&mut self, edges: &[usize], single: bool) -> Vec<Vec<usize>> {
-        let apart = single || self.rng.chance(100 - self.wrap);
+        let apart = single || self.rng.chance(100 - self.chances.wrap);
         let count = if apart { edges.len() } else { self.rng.between(1, edges.len()) };
         let mut groups = vec![Vec::new(); count];
         for (place, &edge) in edges.iter().enumerate() {
@@ -348,7 +399,7 @@ impl Derivation<'_> {
     /// Adds places for filler members and puts all in random order.
     fn with_fillers(&mut self, groups: Vec<Vec<usize>>) -> Vec<Option<Vec<usize>>> {
         let mut members: Vec<Option<Vec<usize>>> = groups.into_iter().map(Some).collect();
-        while members.len() < MOST_MEMBERS && self.rng.chance(self.extra) {
+        while members.len() < MOST_MEMBERS && self.rng.chance(self.chances.extra) {
             members.push(None);
         }
         if self.rng.chance(50) {
@@ -376,6 +427,9 @@ fn rename(model: &ContentModel, name: impl Fn(u8) -> u8) -> ContentModel {
     match model {
         ContentModel::Sequence(members) => ContentModel::Sequence(members.iter().map(|&t| name(t)).collect()),
         ContentModel::Choice(members) => ContentModel::Choice(members.iter().map(|&t| name(t)).collect()),
+        ContentModel::OptionalChoice(members) => {
+            ContentModel::OptionalChoice(members.iter().map(|&t| name(t)).collect())
+        }
         ContentModel::List(item) => ContentModel::List(name(*item)),
         other => other.clone(),
     }
@@ -404,14 +458,15 @@ pub enum Steps {
 }
 
 /// Whether a path of an edge of `source` may leave a target type, and whether
-/// that is the step it must have.
-fn may_leave(source: &ContentModel, target: &ContentModel, steps: Steps) -> Option<bool> {
+/// that is the step it must have. `needs` says that this step is still to come.
+fn may_leave(source: &ContentModel, target: &ContentModel, steps: Steps, needs: bool) -> Option<bool> {
     match (source, target) {
         (_, ContentModel::Text | ContentModel::Empty) => None,
         _ if steps == Steps::Any => Some(true),
-        (ContentModel::Choice(_), ContentModel::Choice(_)) => Some(true),
-        (ContentModel::Choice(_), ContentModel::List(_)) => None,
-        (_, ContentModel::Choice(_)) => None,
+        (ContentModel::OptionalChoice(_), ContentModel::Choice(_)) if needs => None,
+        _ if source.is_choice() && target.is_choice() => Some(true),
+        (ContentModel::Choice(_) | ContentModel::OptionalChoice(_), ContentModel::List(_)) => None,
+        (_, ContentModel::Choice(_) | ContentModel::OptionalChoice(_)) => None,
         (ContentModel::List(_), ContentModel::List(_)) => Some(true),
         _ => Some(false),
     }
@@ -427,7 +482,7 @@ pub fn random_path(
     end: Option<u8>,
     steps: Steps,
 ) -> Option<Vec<u8>> {
-    let needs = matches!(source, ContentModel::Choice(_) | ContentModel::List(_)) && steps == Steps::Valid;
+    let needs = (source.is_choice() || matches!(source, ContentModel::List(_))) && steps == Steps::Valid;
     let search = PathSearch::new(target, source, end, steps);
     let least = if *source == ContentModel::Text || steps == Steps::Any { 0 } else { 1 };
     let lengths: Vec<usize> =
@@ -476,7 +531,7 @@ impl<'a> PathSearch<'a> {
     /// what is still needed after it.
     fn choices(&self, length: usize, needs: bool, t: u8) -> Vec<(u8, u8, bool)> {
         let model = &self.target.types[t as usize];
-        let Some(satisfies) = may_leave(self.source, model, self.steps) else {
+        let Some(satisfies) = may_leave(self.source, model, self.steps, needs) else {
             return Vec::new();
         };
         let needs = needs && !satisfies;
@@ -515,16 +570,27 @@ fn vary(rng: &mut Rng, embedded: &mut Embedded) {
 }
 
 /// Replaces the path of an edge by a random one to the same end, if there is
-/// such an edge.
+/// such an edge. Where the steps are to be valid, paths of an optional choice
+/// go on beginning alike.
 pub fn reroute(rng: &mut Rng, embedded: &mut Embedded, t: usize, edge: usize, steps: Steps) {
     let model = &embedded.source.types[t];
+    if edge >= model.edges() {
+        return;
+    }
+    let target = &embedded.target;
     let maps = &mut embedded.embedding.maps;
     let end = model.named().get(edge).map(|&named| maps[named as usize].target);
-    let start = maps[t].target;
-    if edge < model.edges() {
-        if let Some(path) = random_path(rng, &embedded.target, model, start, end, steps) {
-            maps[t].paths[edge].steps = path;
-        }
+    let begins_alike = matches!(model, ContentModel::OptionalChoice(_)) && model.edges() > 1;
+    let first = &maps[t].paths[0].steps;
+    let beginning = match before_choice(target, maps[t].target, first) {
+        Some(beginning) if begins_alike && steps == Steps::Valid => beginning.to_vec(),
+        _ => Vec::new(),
+    };
+    let along = walk(target, maps[t].target, &beginning).unwrap_or_default();
+    let start = along.last().copied().unwrap_or(maps[t].target);
+    let path = random_path(rng, target, model, start, end, steps).map(|path| [beginning, path].concat());
+    if let Some(path) = path.filter(|path| path.len() <= MOST_STEPS) {
+        maps[t].paths[edge].steps = path;
     }
 }
 

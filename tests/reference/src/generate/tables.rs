@@ -3,11 +3,13 @@
 use super::Rng;
 use crate::table::{ContentModel, Table};
 
-/// The greatest number of types and of members a type.
+/// The greatest number of types and of members a type, and how many of 100
+/// choices are optional.
 #[derive(Debug, Clone, Copy)]
 pub struct TableSize {
     pub types: usize,
     pub members: usize,
+    pub optional: usize,
 }
 
 impl TableSize {
@@ -15,7 +17,7 @@ impl TableSize {
     pub fn random(rng: &mut Rng) -> TableSize {
         let (types, members) =
             rng.pick(&[(3, 3), (5, 3), (6, 4), (6, 4), (8, 4), (12, 6), (20, 8), (64, 16)]);
-        TableSize { types, members }
+        TableSize { types, members, optional: rng.pick(&[0, 0, 40]) }
     }
 }
 
@@ -24,7 +26,7 @@ pub fn random_table(rng: &mut Rng, size: TableSize) -> Table {
     let count = rng.between(1, size.types);
     let mut table = Table { types: Vec::new() };
     for number in 0..count {
-        let model = random_model(rng, number, count, size.members);
+        let model = random_model(rng, number, count, size);
         table.types.push(model);
     }
     if count < size.types && rng.chance(25) {
@@ -35,7 +37,7 @@ pub fn random_table(rng: &mut Rng, size: TableSize) -> Table {
 }
 
 /// The content model of a type in a table of `count` types.
-fn random_model(rng: &mut Rng, number: usize, count: usize, most: usize) -> ContentModel {
+fn random_model(rng: &mut Rng, number: usize, count: usize, size: TableSize) -> ContentModel {
     // The root and the first types rather have children.
     let late = 2 * number > count;
     let weights = if late { [25, 20, 20, 15, 20] } else { [4, 3, 45, 28, 20] };
@@ -43,10 +45,15 @@ fn random_model(rng: &mut Rng, number: usize, count: usize, most: usize) -> Cont
         0 => ContentModel::Text,
         1 => ContentModel::Empty,
         2 => {
-            let members = rng.between(1, most);
+            let members = rng.between(1, size.members);
             ContentModel::Sequence((0..members).map(|_| random_type(rng, number, count)).collect())
         }
-        3 => random_choice(rng, number, count, most),
+        // The chance is drawn only where there is one, so that tables without
+        // optional choices stay the same for a seed.
+        3 if size.optional > 0 && rng.chance(size.optional) => {
+            random_optional_choice(rng, number, count, size.members)
+        }
+        3 => random_choice(rng, number, count, size.members),
         _ => ContentModel::List(random_type(rng, number, count)),
     }
 }
@@ -62,17 +69,36 @@ fn random_type(rng: &mut Rng, number: usize, count: usize) -> u8 {
 
 /// A choice of distinct types, or a list where there are too few types.
 fn random_choice(rng: &mut Rng, number: usize, count: usize, most: usize) -> ContentModel {
+    let tries = rng.between(2, most.max(2));
+    let members = distinct_types(rng, number, count, tries);
+    match members.len() {
+        1 => ContentModel::List(members[0]),
+        _ => ContentModel::Choice(members),
+    }
+}
+
+/// Some distinct types to name in type `number`, from so many tries.
+fn distinct_types(rng: &mut Rng, number: usize, count: usize, tries: usize) -> Vec<u8> {
     let mut members: Vec<u8> = Vec::new();
-    for _ in 0..rng.between(2, most.max(2)) {
+    for _ in 0..tries {
         let member = random_type(rng, number, count);
         if !members.contains(&member) {
             members.push(member);
         }
     }
-    match members.len() {
-        1 => ContentModel::List(members[0]),
-        _ => ContentModel::Choice(members),
+    members
+}
+
+/// An optional choice of distinct types: sometimes of as many as there may be.
+fn random_optional_choice(rng: &mut Rng, number: usize, count: usize, most: usize) -> ContentModel {
+    if rng.chance(15) {
+        let mut members: Vec<u8> = (0..count as u8).collect();
+        rng.shuffle(&mut members);
+        members.truncate(most);
+        return ContentModel::OptionalChoice(members);
     }
+    let tries = rng.between(1, most);
+    ContentModel::OptionalChoice(distinct_types(rng, number, count, tries))
 }
 
 /// Adds a type of the same content model as another one, and names it in some
@@ -83,7 +109,9 @@ fn repeat_type(rng: &mut Rng, table: &mut Table) {
     table.types.push(table.types[old as usize].clone());
     for model in &mut table.types {
         match model {
-            ContentModel::Sequence(members) | ContentModel::Choice(members) => {
+            ContentModel::Sequence(members)
+            | ContentModel::Choice(members)
+            | ContentModel::OptionalChoice(members) => {
                 let place = members.iter().position(|&member| member == old);
                 if let (Some(place), true) = (place, rng.chance(60)) {
                     members[place] = new;

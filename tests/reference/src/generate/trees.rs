@@ -94,6 +94,11 @@ impl Grower<'_> {
                 let member = self.member(t, members, levels - 1);
                 element.children = vec![self.element(member, levels - 1)];
             }
+            ContentModel::OptionalChoice(members) => {
+                let member = self.optional_member(members, levels - 1);
+                element.children =
+                    member.map(|member| self.element(member, levels - 1)).into_iter().collect();
+            }
             ContentModel::List(item) => {
                 for _ in 0..self.items(*item) {
                     if self.pay(*item, 0, levels - 1) {
@@ -147,6 +152,18 @@ impl Grower<'_> {
             }
         }
         default
+    }
+
+    /// The member of an optional choice to take, if any: in half of the cases,
+    /// and wherever the tree is to be deep, a random one that fits.
+    fn optional_member(&mut self, members: &[u8], levels: u64) -> Option<u8> {
+        if !self.shape.deep && self.rng.chance(50) {
+            return None;
+        }
+        let tries: Vec<u8> = (0..4).map(|_| self.rng.pick(members)).collect();
+        let wanted = |&member: &u8| !self.shape.deep || self.recursive[member as usize];
+        let member = tries.iter().copied().find(wanted).unwrap_or(tries[0]);
+        self.pay(member, 0, levels).then_some(member)
     }
 }
 

@@ -1,0 +1,165 @@
+//! The clauses about optional choices are told apart as they should be: cases
+//! worked by hand, each with its answer and what it shows.
+
+use lafindry_reference::clauses::{has_optional, shown, Clause};
+use lafindry_reference::vectors::check_line;
+
+/// An optional choice of a text and an empty type, and a needed one.
+const OPTIONAL: &str = "171501150210111f";
+const NEEDED: &str = "131501150210111f";
+/// A sequence that has that optional choice as both of its members.
+const TWICE: &str = "1215031503101117150115021f";
+/// Both paths go through the second member.
+const SECOND: &str = "20002122022201212202220220012120022f";
+
+/// Asserts the answer of a line and the clauses that it shows.
+fn assert_shows(line: &str, clauses: &[Clause]) {
+    let (case, answer) = check_line(line).unwrap_or_else(|message| panic!("{line}: {message}"));
+    assert_eq!(shown(&case, &answer), clauses, "{line}");
+}
+
+/// Asserts the refusal of an embedding and its clause.
+fn assert_embedding(source: &str, target: &str, embedding: &str, refusal: &str, clauses: &[Clause]) {
+    assert_shows(&format!("judge_embedding {source} {target} {embedding} -> refused {refusal}"), clauses);
+}
+
+#[test]
+fn table_clauses() {
+    assert_shows("judge_table 171f -> refused 2 1 1", &[Clause::NoMember]);
+    assert_shows("judge_table 121f -> refused 2 1 1", &[]);
+    assert_shows("judge_table 17150010 -> refused 2 1 4", &[]);
+    assert_shows("judge_table 1715011f -> refused 4 1 1", &[Clause::MemberWithoutType]);
+    assert_shows("judge_table 17150014021f -> refused 4 1 3", &[]);
+    assert_shows("judge_table 17150015001f -> refused 5 1 3", &[Clause::RepeatedMember]);
+    assert_shows("judge_table 171500131500150015011f -> refused 5 1 6", &[]);
+    let members = "1500".repeat(17);
+    assert_shows(&format!("judge_table 17{members}1f -> refused 3 1 33"), &[Clause::SeventeenthMember]);
+    assert_shows(&format!("judge_table 17150012{members}1f -> refused 3 1 36"), &[]);
+    assert_shows("judge_table 17150117150015011f -> ok 2 0 -", &[Clause::OnlyInstance]);
+    assert_shows("judge_table 171501101f -> ok 2 0 -", &[]);
+}
+
+#[test]
+fn steps_and_ends() {
+    let no_step = "200021220321220220012120022f";
+    assert_embedding(OPTIONAL, OPTIONAL, no_step, "4 3 3", &[Clause::NoSuchStep]);
+    assert_embedding(OPTIONAL, NEEDED, no_step, "4 3 3", &[]);
+    let wrong_end = "200021220221220220012120022f";
+    assert_embedding(OPTIONAL, OPTIONAL, wrong_end, "8 3 2", &[Clause::WrongEnd]);
+    assert_embedding(NEEDED, OPTIONAL, wrong_end, "8 3 2", &[]);
+}
+
+#[test]
+fn clauses_of_check_9() {
+    let apart = "20002122012201212202220220012120022f";
+    assert_embedding(OPTIONAL, TWICE, apart, "9 3 7", &[Clause::OtherBeginning]);
+    let needed = TWICE.replace("17", "13");
+    assert_embedding(OPTIONAL, &needed, SECOND, "9 3 2", &[Clause::NeededChoiceFirst]);
+    let below = "20002122012201212201220220022120032f";
+    let list = "1401171502150310111f";
+    assert_embedding(OPTIONAL, list, below, "9 3 2", &[Clause::ListOnPath]);
+    assert_embedding(NEEDED, list, below, "9 3 2", &[Clause::ChoiceThroughList]);
+    let sequence = "121501150210111f";
+    let no_choice = "200021220121220220012120022f";
+    assert_embedding(OPTIONAL, sequence, no_choice, "9 3 2", &[Clause::NoChoiceOnPath]);
+    assert_embedding(NEEDED, sequence, no_choice, "9 3 2", &[]);
+    // The second path begins otherwise, and its first choice is needed.
+    let both_kinds = "12150115021715031504131503150410111f";
+    let at_once = "20002122012201212202220220032120042f";
+    assert_embedding(OPTIONAL, both_kinds, at_once, "9 3 7", &[]);
+}
+
+#[test]
+fn other_types_through_an_optional_choice() {
+    let target = "171501121502101f";
+    let member = "200021220122012002212f";
+    assert_embedding("121501101f", target, member, "9 3 2", &[Clause::SequenceThrough]);
+    assert_embedding("1401101f", "1715011402101f", member, "9 3 2", &[Clause::ListThrough]);
+    // Without a list on the path the optional choice is not the only fault.
+    assert_embedding("1401101f", target, member, "9 3 2", &[]);
+    assert_embedding("101f", target, "200021220122012f", "9 3 2", &[Clause::TextThrough]);
+}
+
+#[test]
+fn clauses_of_check_10() {
+    let source = "171501150211111f";
+    let target = "1715011215021502131503150411111f";
+    let clash = |embedding: &str, mark: usize, clause| {
+        assert_embedding(source, target, embedding, &format!("10 3 {mark}"), &[clause]);
+    };
+    clash("20002122012201220121220122012201200320032f", 9, Clause::EqualPaths);
+    clash("20002122012122012201200120022f", 5, Clause::EarlierBeginsLater);
+    clash("20002122012201212201200220012f", 7, Clause::LaterBeginsEarlier);
+    clash("20002122012201220121220122022202200320042f", 9, Clause::PartingAtSequence);
+    let apart = "20002122012201212202220220012120022f";
+    assert_embedding(NEEDED, TWICE, apart, "10 3 7", &[Clause::ChoicePartingBefore]);
+    assert_embedding(NEEDED, &TWICE.replace("17", "13"), apart, "10 3 7", &[]);
+}
+
+#[test]
+fn tree_clauses() {
+    let tree = |tree: &str, answer: &str, clauses: &[Clause]| {
+        assert_shows(&format!("judge_tree {OPTIONAL} {tree} -> {answer}"), clauses);
+    };
+    tree("3000300032323f", "refused 11 4 2", &[Clause::WrongMember]);
+    tree("3000300232300132323f", "refused 11 4 5", &[Clause::SecondMember]);
+    tree("30003141323f", "refused 11 4 2", &[Clause::Character]);
+    tree("30003002314132323f", "refused 11 4 4", &[]);
+    tree("3002323f", "refused 11 4 0", &[]);
+    tree("3000323f", "ok 1 0 -", &[Clause::ConformsEmpty]);
+    tree("3000300232323f", "ok 2 0 -", &[]);
+}
+
+#[test]
+fn no_image_clauses() {
+    let refused = |documents: &str, clauses: &[Clause]| {
+        assert_shows(&format!("bring_back {documents} 60 -> refused 15 4 0"), clauses);
+    };
+    // The first member is filler, and holds an empty element.
+    refused(&format!("{OPTIONAL} {TWICE} {SECOND} 3000300330023232300332323f"), &[Clause::FullForNothing]);
+    // Two such faults.
+    let three = TWICE.replace("1215031503", "12150315031503");
+    refused(&format!("{OPTIONAL} {three} {SECOND} 3000300330023232300332300330023232323f"), &[]);
+    // A needed choice of two of the three members of an optional one.
+    let (source, target) = ("131501150211111f", "171501150215031111111f");
+    let needed = format!("{source} {target} 2000212201212202200120022f");
+    refused(&format!("{needed} 3000323f"), &[Clause::EmptyForMember]);
+    refused(&format!("{needed} 3000300332323f"), &[Clause::FullForOther]);
+}
+
+#[test]
+fn carried_and_brought_back() {
+    let image = "3000300332300332323f";
+    let setting = format!("{OPTIONAL} {TWICE} {SECOND}");
+    assert_shows(
+        &format!("carry {setting} 3000323f 60 -> ok 10 1 {image}"),
+        &[Clause::CarriedEmpty, Clause::CarriedShared],
+    );
+    assert_shows(&format!("bring_back {setting} {image} 60 -> ok 4 0 3000323f"), &[Clause::BroughtBackEmpty]);
+    assert_shows(
+        &format!("carry {setting} 3000300232323f 60 -> ok 13 1 3000300332300330023232323f"),
+        &[Clause::CarriedFull],
+    );
+    // An optional choice of itself: a full one, which holds an empty one.
+    let nested = "1715001f 1715001f 200021220122012f";
+    assert_shows(
+        &format!("carry {nested} 3000300032323f 60 -> ok 10 0 3000300030003232323f"),
+        &[Clause::CarriedEmpty, Clause::CarriedFull, Clause::CarriedNested, Clause::CarriedThenOptional],
+    );
+    let needed = "131501150211111f 171501150211111f 2000212201212202200120022f";
+    assert_shows(
+        &format!("carry {needed} 3000300132323f 60 -> ok 7 0 3000300132323f"),
+        &[Clause::CarriedThrough],
+    );
+}
+
+/// Only a command 17 of a table counts, not an operand or another document.
+#[test]
+fn cases_with_an_optional_choice() {
+    let has = |line: &str| has_optional(&check_line(line).unwrap().0);
+    assert!(has("judge_table 171f -> refused 2 1 1"));
+    assert!(has("judge_embedding 101f 101015171717 - -> refused 2 2 2"));
+    assert!(!has("judge_table 14171f -> refused 4 1 0"));
+    assert!(!has("judge_tree 101f 17 -> refused 2 4 0"));
+    assert!(!has("judge_embedding 101f 101f 17 -> refused 2 3 0"));
+}
