@@ -1,6 +1,6 @@
 /*
  * Lafindry: judging tables, embeddings and tree documents of paper 01, carrying a source document into its image, and
- * bringing an image back.
+ * bringing an image back. Tables may have optional choices, for what a document may leave out (paper 02, N3).
  *
  * Every function takes any bytes and always answers. A document is lent as a pointer and a length; nothing is read
  * beyond it, nothing is kept, and nothing is allocated. A pointer may be anything where its length is 0. The most
@@ -37,11 +37,12 @@ enum {
     LAFINDRY_BAD_FORM = 2,            /* a command that can't stand there, or bytes run out */
     LAFINDRY_OVER_LIMIT = 3,          /* 65th type, 17th member, 13th step, 129th level */
     LAFINDRY_BAD_OPERAND = 4,         /* no such type, no such step, character not allowed */
-    LAFINDRY_REPEATED_MEMBER = 5,     /* a choice names a type twice */
+    LAFINDRY_REPEATED_MEMBER = 5,     /* a choice, optional or not, names a type twice */
     LAFINDRY_NO_FINITE_INSTANCE = 6,  /* a type has no finite instance */
     LAFINDRY_ROOT_MOVED = 7,          /* the root is not mapped to the root */
     LAFINDRY_WRONG_END = 8,           /* a path ends at the wrong type */
-    LAFINDRY_WRONG_STEPS = 9,         /* a path has the wrong kind of steps, or too few */
+    LAFINDRY_WRONG_STEPS = 9,         /* a path has the wrong kind of steps, or too few; or, from an optional choice,
+                                         the steps before its first choice step are not the type's first path's */
     LAFINDRY_PATH_CLASH = 10,         /* a path clashes with an earlier one of the same type */
     LAFINDRY_UNEXPECTED = 11,         /* no conforming document has this command after the same beginning */
     LAFINDRY_IMAGE_TOO_DEEP = 12,     /* the image to be written has a 129th level */

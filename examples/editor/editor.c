@@ -61,6 +61,29 @@ static const struct {
     [LAFINDRY_NO_IMAGE] = {NOTHING, "not the image of any source tree"},
 };
 
+/* The words for LAFINDRY_WRONG_STEPS where the path belongs to an optional choice, such as of modules that a patch may
+   leave out. */
+static const char optional_steps[] =
+    "a path of an optional choice leads through sequences and choices only, the first choice on it is an optional one, "
+    "and up to there it takes the same steps as the first member's path";
+
+/* Whether the path at an offset of the embedding belongs to an optional choice of the source table. Both documents have
+   passed the checks of form, so each byte that is looked at is a command. */
+static int is_of_optional(uint64_t offset)
+{
+    enum { LIST = 0x14, MEMBER = 0x15, OPTIONAL = 0x17, MAPS_TO = 0x20, PATH = 0x21 };
+    const struct document *table = &documents[0], *embedding = &documents[2];
+    /* The path's source type is the last that is mapped before it. */
+    size_t types = 0;
+    for (size_t i = 0; i < offset && i < embedding->length; i += embedding->bytes[i] == PATH ? 1 : 2)
+        types += embedding->bytes[i] == MAPS_TO;
+    /* Every command of the table but a member begins a type. */
+    for (size_t i = 0; i < table->length; i += table->bytes[i] == LIST || table->bytes[i] == MEMBER ? 2 : 1)
+        if (table->bytes[i] != MEMBER && --types == 0)
+            return table->bytes[i] == OPTIONAL;
+    return 0;
+}
+
 /* Prints a refusal: the document, the place in it if there is one, and the reason. */
 static void print_refusal(struct lafindry_answer answer)
 {
@@ -74,7 +97,8 @@ static void print_refusal(struct lafindry_answer answer)
         printf(", offset %" PRIu64, answer.mark);
     if (refusals[answer.refusal].mark == TYPES)
         printf(", type %" PRIu64, answer.mark);
-    printf(": %s (refusal %" PRIu64 ")\n", refusals[answer.refusal].words, answer.refusal);
+    int optional = answer.refusal == LAFINDRY_WRONG_STEPS && is_of_optional(answer.mark);
+    printf(": %s (refusal %" PRIu64 ")\n", optional ? optional_steps : refusals[answer.refusal].words, answer.refusal);
 }
 
 /* Loads a file; whether that succeeded. */
