@@ -12,16 +12,18 @@ use Prim.Native.Nat.{ℕ, suc, _+_, _*_, _≤_, _<_, max}
 use lib.ListN.{length, drop}
 use lib.Dec.{leb}
 use Rattle.model.specs.Definitions.Basics.{passes, fails}
-use Rattle.model.specs.Definitions.Table.{Kind, Table, kindOf, tableOf}
+use Rattle.model.specs.Definitions.Commands.{optional}
+use Rattle.model.specs.Definitions.Table.{Kind, choice, Table, kindOf, tableOf}
 use Rattle.model.specs.Definitions.Heights.{heights, heightIn, heightOf, hasInstance, endlessType}
 use Rattle.model.specs.Definitions.TableChecks.{tableForm, tableOperands, tableRepeats}
-use Rattle.model.specs.Definitions.Content.{Content, bytes, document, contentOf, levels}
+use Rattle.model.specs.Definitions.Content.{Content, end, bytes, document, contentOf, levels}
 use Rattle.model.specs.Definitions.Conformance.{Holds, Conforming, Instance, conforms}
 use Rattle.model.specs.Definitions.TreeChecks.{treeForm, treeOperands, treeExpected, maxLevels}
 use Rattle.model.specs.Definitions.Filler.{content, known, fillers}
 use Rattle.model.specs.Definitions.Image.{Setting, image, imageBy, imageLevels, imageLength, imageFiller}
 use Rattle.model.specs.Definitions.Templates.{Hole, template, fillerRow, fillerBytes, filledRow, writes, firstIn, heldBy, ownLength, ownFiller, ownLevels, sumLength, sumFiller, deepest}
-use Rattle.model.specs.Definitions.Inverse.{readBack}
+use Rattle.model.specs.Definitions.Embedding.{targetOf, pathsOf, firstPath, beforeChoice}
+use Rattle.model.specs.Definitions.Inverse.{follow, readTo, readBack}
 use Rattle.model.specs.Definitions.Refusals.{Refusal, output-too-short, no-image, maxLength}
 use Rattle.model.specs.Definitions.Entries.{accepted, refused, settingOf, carry, bringWithin, bringBack}
 use Rattle.model.specs.Theorems.Terms.{AcceptedTable, AcceptedEmbedding, AcceptedTree, imageOf, fillerOf, levelsIn}
@@ -35,6 +37,7 @@ use Rattle.model.specs.Theorems.Measures.{image-levels, image-length, ma
 use Rattle.model.specs.Theorems.Templates.{filler-written, write-image, writes-again}
 use Rattle.model.specs.Theorems.TemplateSizes.{image-length-rows, image-filler-rows, image-levels-rows}
 use Rattle.model.specs.Theorems.BringingBack.{read-conforms}
+use Rattle.model.specs.Theorems.ReadConforms.{nothing-exactly}
 use Rattle.model.specs.Theorems.EntryLaws.{judges-accept, judge-accepts, judges-valid}
 use Rattle.model.specs.Theorems.OnBytes.{conforming-content, conform, equal-exactly, read-gives-back, shorter, refused-15, brought, brought-only, carried, not-carried, brought-back, not-brought-back, carry-beyond}
 use Rattle.model.specs.Theorems.RulesNeeded.{PrefixRuleTooWeak, prefix-rule-too-weak, FirstMemberEndless, first-member-endless}
@@ -141,6 +144,12 @@ brings-only-sources = brought-only
 pub reading-conforms : (s t e : List ℕ) → AcceptedEmbedding s t e → (j k : Content) → Holds (tableOf t) (kindOf (tableOf t) 0) j
     → readBack (settingOf s t e) j ≡ some k → Holds (tableOf s) (kindOf (tableOf s) 0) k
 reading-conforms s t e a = read-conforms (settingOf s t e) (judges-valid s t e (judges-accept s t e (a .1)))
+
+-- A source optional choice reads as nothing exactly where the optional choice that its paths agree on is there and empty.
+pub nothing-read-exactly : (X : Setting) (n s : ℕ) (ms : List ℕ) (k : Content) → kindOf (X .source) s ≡ choice optional ms
+    → (readTo X (suc n) s k ≡ some end)
+    ↔ (follow (X .target) (targetOf (X .embedding) s) (beforeChoice (X .target) (targetOf (X .embedding) s) (firstPath (pathsOf (X .embedding) s))) k ≡ some end)
+nothing-read-exactly = nothing-exactly
 
 -- ---- 9. measures
 

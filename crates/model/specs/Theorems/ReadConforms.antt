@@ -3,8 +3,10 @@
 use mathlib.Core.Path.{_≡_, refl, sym, ap, _∙_, subst}
 use mathlib.Core.Bool.{Bool, true, false}
 use mathlib.Core.List.{List, [], _∷_, List·Memᴰ, List·Memᴰ·head, List·Memᴰ·tail}
+use mathlib.Core.Logic.{_↔_}
 use mathlib.Core.Option.{Option, none, some}
 use Prim.Native.Nat.{ℕ, zero, suc, _<_}
+use native.Mathlib.Omega.{arith}
 use lib.ListN.{length}
 use lib.Dec.{eqb}
 use borrow.Author.Tests.{eqb-true}
@@ -13,7 +15,7 @@ use Rattle.model.specs.Definitions.Commands.{Need, needed, optional}
 use Rattle.model.specs.Definitions.Table.{Kind, text, empty, sequence, choice, list, Table, kindOf, membersOf, stepFrom}
 use Rattle.model.specs.Definitions.Content.{Content, end, char, elem}
 use Rattle.model.specs.Definitions.Conformance.{Holds, nothing, no-member, one-member, chosen, left-out, no-item, one-item}
-use Rattle.model.specs.Definitions.Embedding.{targetOf, firstPath, next, endOf, divide, Divided}
+use Rattle.model.specs.Definitions.Embedding.{targetOf, pathsOf, firstPath, next, endOf, divide, Divided, beforeChoice}
 use Rattle.model.specs.Definitions.EmbeddingChecks.{maxSteps}
 use Rattle.model.specs.Definitions.Image.{Setting}
 use Rattle.model.specs.Definitions.Inverse.{childAt, childOfType, enter, follow, readOne, readMembers, readIfThere, readChoice, unlessEmpty, readItems, readList, readKind, readTo}
@@ -204,3 +206,47 @@ read-holds X v zero s k j exists h e = some-none e refl
 read-holds X v (suc n) s k j exists h e =
     kind-read X (λ t i. readTo X n t i) (targetOf (X .embedding) s) k j (v .edges s exists) h
     (λ m there a i. read-holds X v n m a i (v .source-sound .well-formed .members-exist s m there)) e
+
+-- ---- an optional choice that reads as nothing
+
+-- an element that is read is something
+one-some : (read : ℕ → Content → Option Content) (m : ℕ) (found rest : Option Content) → readOne read m found rest ≡ some end → ⊥
+unfolding readOne
+one-some read m found rest e =
+    let inner = and-then found _ e in
+    let inside = and-then (read m (inner .0)) _ (inner .2) in
+    let after = and-then rest _ (inside .2) in
+    let z : _≡_ {A = ℕ} 0 1 = (let same = after .2 in cc) in
+    absurd (omega arith)
+
+-- and so is the member of a choice
+member-some : (read : ℕ → Content → Option Content) (at : List ℕ → Option Content) (ms : List ℕ) (pss : List (List ℕ)) → readChoice read at ms pss ≡ some end → ⊥
+unfolding readChoice
+member-some read at [] pss e = some-none e refl
+member-some read at (m ∷ ms) [] e = some-none e refl
+member-some read at (m ∷ ms) (p ∷ pss) e = go (at p) e (member-some read at ms pss)
+  where
+    go : (found : Option Content) → readIfThere read m found (readChoice read at ms pss) ≡ some end → (readChoice read at ms pss ≡ some end → ⊥) → ⊥
+    go none e later = unfold readIfThere in later e
+    go (some k) e later = unfold readIfThere in one-some read m (some k) (some end) e
+
+-- It reads as nothing exactly where the optional choice that its paths agree on is there and empty.
+pub nothing-exactly : (X : Setting) (n s : ℕ) (ms : List ℕ) (k : Content) → kindOf (X .source) s ≡ choice optional ms
+    → (readTo X (suc n) s k ≡ some end)
+    ↔ (follow (X .target) (targetOf (X .embedding) s) (beforeChoice (X .target) (targetOf (X .embedding) s) (firstPath (pathsOf (X .embedding) s))) k ≡ some end)
+unfolding readTo readKind
+nothing-exactly X n s ms k kind =
+    (λ e. go (follow (X .target) τ shared k) (rw kind at e), λ e. rw (kind, e) (unfold unlessEmpty in refl))
+  where
+    τ : ℕ
+    τ = targetOf (X .embedding) s
+
+    shared : List ℕ
+    shared = beforeChoice (X .target) τ (firstPath (pathsOf (X .embedding) s))
+
+    go : (found : Option Content)
+        → unlessEmpty found (readChoice (λ t inside. readTo X n t inside) (λ p. follow (X .target) τ p k) ms (pathsOf (X .embedding) s)) ≡ some end → found ≡ some end
+    go none e = unfold unlessEmpty in absurd (member-some _ _ ms _ e)
+    go (some end) e = refl
+    go (some (char c r)) e = unfold unlessEmpty in absurd (member-some _ _ ms _ e)
+    go (some (elem t j r)) e = unfold unlessEmpty in absurd (member-some _ _ ms _ e)
