@@ -7,7 +7,7 @@ use Prim.Native.Nat.{ℕ, _+_, _-_, _*_, _≤_, _<_}
 use lib.ListN.{length, take, drop, getD}
 use Rattle.model.specs.Definitions.Content.{Content}
 use Rattle.model.specs.Definitions.Inverse.{follow}
-use Rattle.loaded_table.specs.Loaded.{typesIn, kindsOf, countsOf, membersIn, tableBy}
+use Rattle.loaded_table.specs.Loaded.{typesIn, kindsOf, countsOf, membersIn, tableBy, sequenceKind}
 use Rattle.loaded_table.specs.Kinds.{choiceCode}
 use Rattle.loaded_embedding.specs.Loaded.{targetsOf, stepsFrom}
 use Rattle.paths.specs.Following.{Followable, pathsFrom}
@@ -44,7 +44,7 @@ along target map σ k path = follow (tableBy target) (getD (targetsOf map) σ 0)
 
 -- of a sequence those from edge i on are left
 pub record LeftEdges (source target map em : List ℕ) (σ : ℕ) (k : Content) (i : ℕ) (parts : Parts) : Type 0 where
-  pub is-sequence : getD (kindsOf source) σ 0 ≡ 2
+  pub is-sequence : getD (kindsOf source) σ 0 ≡ sequenceKind
   pub high : i ≤ getD (countsOf source) σ 0
   pub are : parts ≡ memberParts (along target map σ k) (membersLeft source σ i) (pathsLeft source map em σ i)
 

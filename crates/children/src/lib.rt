@@ -22,7 +22,7 @@ ghost use mathlib.Core.Path.{_≡_};
 ghost use mathlib.Core.List.{List};
 ghost use Prim.Native.Nat.{ℕ, _+_, _-_, _*_, _≤_, _<_};
 ghost use lib.ListN.{getD, length};
-ghost use Rattle.loaded_table.specs.Loaded.{kindsOf, tableBy};
+ghost use Rattle.loaded_table.specs.Loaded.{kindsOf, tableBy, optionalKind, listKind};
 ghost use Rattle.loaded_embedding.specs.Loaded.{targetsOf, startsOf, lengthsOf};
 ghost use Rattle.paths.specs.Following.{Followable, pathAt};
 ghost use Rattle.children.specs.Parts.{Parts};
@@ -218,7 +218,7 @@ fn begin_list<'a>(
     image: Image,
 ) -> Cursor
     requires image { ⌜ ImageThere (now source) (now target) (now map) (now em) (now tr) (now sp) image ⌝ }
-    requires list { ⌜ 5 ≤ getD (kindsOf (now source)) (image .sigma) 0 ⌝ }
+    requires list { ⌜ listKind ≤ getD (kindsOf (now source)) (image .sigma) 0 ⌝ }
     ensures { λ r. ⌜ ShowsAll (now (source .entry)) (now (target .entry)) (now (map .entry)) (now (em .entry)) (now (tr .entry)) image r ⌝ }
 {
     let sigma = image.sigma;
@@ -256,7 +256,7 @@ fn begin_optional<'a>(
     image: Image,
 ) -> Cursor
     requires image { ⌜ ImageThere (now source) (now target) (now map) (now em) (now tr) (now sp) image ⌝ }
-    requires optional { ⌜ getD (kindsOf (now source)) (image .sigma) 0 ≡ 4 ⌝ }
+    requires optional { ⌜ getD (kindsOf (now source)) (image .sigma) 0 ≡ optionalKind ⌝ }
     ensures { λ r. ⌜ ShowsAll (now (source .entry)) (now (target .entry)) (now (map .entry)) (now (em .entry)) (now (tr .entry)) image r ⌝ }
 {
     let sigma = image.sigma;

@@ -4,7 +4,7 @@ ghost use mathlib.Core.Bool.{true};
 ghost use Prim.Native.Nat.{_+_};
 ghost use lib.ListN.{getD};
 ghost use Rattle.loaded_table.specs.Kinds.{choiceCode};
-ghost use Rattle.loaded_table.specs.Loaded.{kindsOf};
+ghost use Rattle.loaded_table.specs.Loaded.{kindsOf, optionalKind};
 ghost use Rattle.own_rows.specs.Progress.{Progress, NextToMake};
 ghost use Rattle.choice_rows.specs.Choices.{MadeMembers, NothingToMake};
 use codes::MAX_MEMBERS;
@@ -69,7 +69,7 @@ fn nothing_row(
     at: usize,
 ) -> usize
     requires next { ⌜ NothingToMake (now source) (now target) (now map) (now em) (now pool) (now places) s at ⌝ }
-    requires optional { ⌜ getD (kindsOf (now source)) s 0 ≡ 4 ⌝ }
+    requires optional { ⌜ getD (kindsOf (now source)) s 0 ≡ optionalKind ⌝ }
     ensures { λ r. ⌜ Progress (now (source .entry)) (now (target .entry)) (now (map .entry)) (now (em .entry)) (now (pool .entry)) (now (places .entry)) (s + 1) (now (pool .exit)) (now (places .exit)) r ⌝ }
 {
     let start = loaded_embedding::start(map, s * MAX_MEMBERS);

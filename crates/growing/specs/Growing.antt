@@ -9,7 +9,7 @@ use Rattle.model.specs.Definitions.Image.{Placement, placed, isPlaced, grow}
 use Rattle.model.specs.Definitions.Refusals.{maxLength}
 use Rattle.model.specs.Definitions.Templates.{Shape, bare, gap, framed, shaped, Symbol, rowOf}
 use Rattle.model.specs.Theorems.Facts.{WellFormed, Fits}
-use Rattle.loaded_table.specs.Loaded.{Bounded, tableBy, typesIn, kindsOf, countsOf}
+use Rattle.loaded_table.specs.Loaded.{Bounded, tableBy, typesIn, kindsOf, countsOf, sequenceKind}
 use Rattle.loaded_embedding.specs.Loaded.{stepsFrom}
 use Rattle.rows.specs.Rows.{symbolOf, holeOf, IsHole}
 use Rattle.growing.specs.declared.Edges.{Edges}
@@ -63,8 +63,8 @@ pub record Puts (old new : List ℕ) (at : ℕ) (row : List Symbol) (next : ℕ)
 
 -- all members of a sequence, else the one that step q names
 pub record MemberRange (target : List ℕ) (t q : ℕ) (r : Span) : Type 0 where
-  pub of-sequence : getD (kindsOf target) t 0 ≡ 2 → (r .from ≡ 1) × (r .to ≡ getD (countsOf target) t 0 + 1)
-  pub of-other : (getD (kindsOf target) t 0 ≡ 2 → ⊥) → (r .from ≡ q) × (r .to ≡ q + 1)
+  pub of-sequence : getD (kindsOf target) t 0 ≡ sequenceKind → (r .from ≡ 1) × (r .to ≡ getD (countsOf target) t 0 + 1)
+  pub of-other : (getD (kindsOf target) t 0 ≡ sequenceKind → ⊥) → (r .from ≡ q) × (r .to ≡ q + 1)
 
 -- ---- elements
 

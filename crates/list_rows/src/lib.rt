@@ -4,7 +4,7 @@ ghost use mathlib.Core.Option.{none};
 ghost use Prim.Native.Nat.{_+_, _-_, _*_, _≤_, _<_};
 ghost use lib.ListN.{length, getD};
 ghost use Rattle.model.specs.Definitions.Templates.{template, itemTemplate, dividedOf};
-ghost use Rattle.loaded_table.specs.Loaded.{typesIn, kindsOf};
+ghost use Rattle.loaded_table.specs.Loaded.{typesIn, kindsOf, listKind};
 ghost use Rattle.loaded_embedding.specs.Loaded.{startsOf, lengthsOf};
 ghost use Rattle.loaded_setting.specs.Ready.{settingIn, Ready};
 ghost use Rattle.filler_rows.specs.Storing.{RowMade};
@@ -37,7 +37,7 @@ fn list_cut(
     s: usize,
 ) -> Cut
     requires ready { ⌜ Ready (now source) (now target) (now map) (now em) ⌝ }
-    requires list { ⌜ (s < typesIn (now source)) × (5 ≤ getD (kindsOf (now source)) s 0) ⌝ }
+    requires list { ⌜ (s < typesIn (now source)) × (listKind ≤ getD (kindsOf (now source)) s 0) ⌝ }
     ensures { λ r. ⌜ CutAt (now (target .entry)) (now (map .entry)) (now (em .entry)) s r ⌝ }
 {
     let start = loaded_embedding::start(map, s * MAX_MEMBERS);
@@ -80,7 +80,7 @@ fn before_row(
     at: usize,
 ) -> usize
     requires next { ⌜ NextToMake (now source) (now target) (now map) (now em) (now pool) (now places) s at ⌝ }
-    requires list { ⌜ 5 ≤ getD (kindsOf (now source)) s 0 ⌝ }
+    requires list { ⌜ listKind ≤ getD (kindsOf (now source)) s 0 ⌝ }
     ensures made { λ r. ⌜ RowMade (now (pool .entry)) (now (places .entry)) at (rowsBefore s) (template (settingIn (now (source .entry)) (now (target .entry)) (now (map .entry)) (now (em .entry))) s none) 0 (now (pool .exit)) (now (places .exit)) r ⌝ }
     ensures short { λ r. ⌜ r ≤ at + beforeRoom (settingIn (now (source .entry)) (now (target .entry)) (now (map .entry)) (now (em .entry))) s ⌝ }
 {
@@ -111,7 +111,7 @@ fn rest_row(
     at: usize,
 ) -> usize
     requires makeable { ⌜ Makeable (now source) (now target) (now map) (now em) (now pool) (now places) s ⌝ }
-    requires list { ⌜ 5 ≤ getD (kindsOf (now source)) s 0 ⌝ }
+    requires list { ⌜ listKind ≤ getD (kindsOf (now source)) s 0 ⌝ }
     requires room { ⌜ at + restRoom (now map) (settingIn (now source) (now target) (now map) (now em)) s ≤ length (now pool) ⌝ }
     ensures made { λ r. ⌜ RowMade (now (pool .entry)) (now (places .entry)) at (typeRow s maxMembers) (itemTemplate (settingIn (now (source .entry)) (now (target .entry)) (now (map .entry)) (now (em .entry))) s) (length (dividedOf (settingIn (now (source .entry)) (now (target .entry)) (now (map .entry)) (now (em .entry))) s .before)) (now (pool .exit)) (now (places .exit)) r ⌝ }
     ensures short { λ r. ⌜ r ≤ at + restRoom (now (map .entry)) (settingIn (now (source .entry)) (now (target .entry)) (now (map .entry)) (now (em .entry))) s ⌝ }
@@ -143,7 +143,7 @@ pub fn list_rows(
     at: usize,
 ) -> usize
     requires next { ⌜ NextToMake (now source) (now target) (now map) (now em) (now pool) (now places) s at ⌝ }
-    requires list { ⌜ 5 ≤ getD (kindsOf (now source)) s 0 ⌝ }
+    requires list { ⌜ listKind ≤ getD (kindsOf (now source)) s 0 ⌝ }
     ensures { λ r. ⌜ Progress (now (source .entry)) (now (target .entry)) (now (map .entry)) (now (em .entry)) (now (pool .entry)) (now (places .entry)) (s + 1) (now (pool .exit)) (now (places .exit)) r ⌝ }
 {
     let end = before_row(source, target, map, em, s, pool, places, at);

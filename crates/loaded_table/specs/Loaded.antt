@@ -17,7 +17,26 @@ use Rattle.model.specs.Definitions.Table.{Kind, text, empty, sequence, choice, 
 use Rattle.model.specs.Definitions.Heights.{heightOf}
 use Rattle.model.specs.Definitions.Filler.{fillerLength}
 
--- a kind from its code, its number of members and the row that begins with them
+-- the codes of kinds
+abbrev pub textKind : ℕ
+textKind = 0
+
+abbrev pub emptyKind : ℕ
+emptyKind = 1
+
+abbrev pub sequenceKind : ℕ
+sequenceKind = 2
+
+abbrev pub choiceKind : ℕ
+choiceKind = 3
+
+abbrev pub optionalKind : ℕ
+optionalKind = 4
+
+abbrev pub listKind : ℕ
+listKind = 5
+
+-- a kind from its code, its number of members and the row that begins with them; a code above is a list's too
 abbrev pub kindFrom : ℕ → ℕ → List ℕ → Kind
 kindFrom zero count row = text
 kindFrom (suc zero) count row = empty

@@ -7,7 +7,7 @@ use lib.ListN.{getD}
 use Rattle.model.specs.Definitions.Filler.{fillers}
 use Rattle.model.specs.Definitions.Image.{Placement, place}
 use Rattle.model.specs.Definitions.Templates.{Shape, shaped, Symbol, rowOf}
-use Rattle.loaded_table.specs.Loaded.{tableBy, kindsOf, countsOf}
+use Rattle.loaded_table.specs.Loaded.{tableBy, kindsOf, countsOf, textKind, emptyKind, sequenceKind}
 use Rattle.loaded_embedding.specs.Loaded.{startsOf, lengthsOf, PathsBounded}
 use Rattle.growing.specs.declared.Edges.{Edges}
 use Rattle.growing.specs.Growing.{placementOf, placementsOf, PathsReadable}
@@ -33,9 +33,9 @@ pub record EdgesFrom (map : List ℕ) (first hole count : ℕ) (r : Edges) : Typ
 
 -- the paths of a source type that is a text, empty or a sequence
 pub record OwnEdges (source map : List ℕ) (s : ℕ) (r : Edges) : Type 0 where
-  pub of-text : getD (kindsOf source) s 0 ≡ 0 → EdgesFrom map (s * 16) charactersSymbol 1 r
-  pub of-empty : getD (kindsOf source) s 0 ≡ 1 → EdgesFrom map (s * 16) childSymbol 0 r
-  pub of-sequence : getD (kindsOf source) s 0 ≡ 2 → EdgesFrom map (s * 16) childSymbol (getD (countsOf source) s 0) r
+  pub of-text : getD (kindsOf source) s 0 ≡ textKind → EdgesFrom map (s * 16) charactersSymbol 1 r
+  pub of-empty : getD (kindsOf source) s 0 ≡ emptyKind → EdgesFrom map (s * 16) childSymbol 0 r
+  pub of-sequence : getD (kindsOf source) s 0 ≡ sequenceKind → EdgesFrom map (s * 16) childSymbol (getD (countsOf source) s 0) r
 
 -- the row of what an element of type t holds
 unfoldable pub heldRow : List ℕ → List ℕ → Edges → ℕ → List Symbol

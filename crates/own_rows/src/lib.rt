@@ -3,7 +3,7 @@ ghost use mathlib.Core.Path.{_≡_};
 ghost use Prim.Native.Nat.{ℕ, _+_, _≤_, _<_};
 ghost use lib.ListN.{length, getD};
 ghost use Rattle.model.specs.Definitions.Templates.{fillerRow};
-ghost use Rattle.loaded_table.specs.Loaded.{tableBy, kindsOf, countsOf};
+ghost use Rattle.loaded_table.specs.Loaded.{tableBy, kindsOf, countsOf, choiceKind};
 ghost use Rattle.loaded_embedding.specs.Loaded.{startsOf, lengthsOf, edgePlaces};
 ghost use Rattle.growing.specs.Growing.{push, Task, elementRow, stepBound};
 ghost use Rattle.filler_rows.specs.Storing.{Stored, RowMade};
@@ -121,7 +121,7 @@ pub fn one_row(
     at: usize,
 ) -> usize
     requires next { ⌜ NextToMake (now source) (now target) (now map) (now em) (now pool) (now places) s at ⌝ }
-    requires { ⌜ getD (kindsOf (now source)) s 0 < 3 ⌝ }
+    requires { ⌜ getD (kindsOf (now source)) s 0 < choiceKind ⌝ }
     ensures { λ r. ⌜ Progress (now (source .entry)) (now (target .entry)) (now (map .entry)) (now (em .entry)) (now (pool .entry)) (now (places .entry)) (s + 1) (now (pool .exit)) (now (places .exit)) r ⌝ }
 {
     let e = own_edges(source, map, s);

@@ -6,7 +6,7 @@ use native.Mathlib.Omega.{arith}
 use lib.ListN.{getD}
 use lib.Dec.{eqb}
 use Rattle.model.specs.Definitions.Basics.{pick}
-use Rattle.loaded_table.specs.Loaded.{Bounded, typesIn, kindsOf}
+use Rattle.loaded_table.specs.Loaded.{Bounded, typesIn, kindsOf, optionalKind}
 use Rattle.loaded_embedding.specs.Loaded.{lengthsOf}
 
 -- room for the rows of n edges from a place on: 18 times the steps of each and 4
@@ -16,7 +16,7 @@ edgeRoom map i (suc n) = 18 * getD (lengthsOf map) i 0 + 4 + edgeRoom map (suc i
 
 -- room for the row of source type s where it is an optional choice that holds nothing: that of its first edge
 unfoldable pub nothingOf : List ℕ → List ℕ → ℕ → ℕ
-nothingOf source map s = pick (eqb (getD (kindsOf source) s 0) 4) (18 * getD (lengthsOf map) (s * 16) 0 + 4) 0
+nothingOf source map s = pick (eqb (getD (kindsOf source) s 0) optionalKind) (18 * getD (lengthsOf map) (s * 16) 0 + 4) 0
 
 -- and of n source types from type s on
 unfoldable pub nothingRoom : List ℕ → List ℕ → ℕ → ℕ → ℕ

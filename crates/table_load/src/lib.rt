@@ -19,7 +19,7 @@ use table_form::command::width;
 ghost use mathlib.Core.Path.{_≡_};
 ghost use Prim.Native.Nat.{_+_, _≤_, _<_};
 ghost use lib.ListN.{length, getD, set};
-ghost use Rattle.loaded_table.specs.Loaded.{countsOf, countsStart, memberPlace, membersStart, tableSize};
+ghost use Rattle.loaded_table.specs.Loaded.{listKind, countsOf, countsStart, memberPlace, membersStart, tableSize};
 ghost use Rattle.model.specs.Definitions.Basics.{passes};
 ghost use Rattle.model.specs.Definitions.TableChecks.{tableForm, tableLimits, maxMembers, maxTypes};
 ghost use Rattle.table_form.specs.Read.{command};
@@ -39,7 +39,7 @@ fn clear_counts(table: &mut [u16; TABLE])
 
 // One type more, of a kind, behind so many: how many types there are then.
 fn begin(table: &mut [u16; TABLE], types: usize, kind: usize) -> usize
-    requires { ⌜ (types < maxTypes) × (kind ≤ 5) ⌝ }
+    requires { ⌜ (types < maxTypes) × (kind ≤ listKind) ⌝ }
     ensures { λ r. ⌜ (r ≡ types + 1) × (now (table .exit) ≡ set (now (table .entry)) types kind) ⌝ }
 {
     set_kind(table, types, kind as u16);
