@@ -38,5 +38,5 @@ fn optional_choice_vectors_agree() -> Result<(), Failure> {
 
 #[test]
 fn optional_choice_cases_agree() -> Result<(), Failure> {
-    run_file("cases-n3.txt", 279)
+    run_file("cases-n3.txt", 296)
 }
