@@ -19,6 +19,7 @@ use Rattle.loaded_setting.specs.Ready.{Ready}
 use Rattle.paths.specs.Edges.{is-choice, row-length, few}
 use Rattle.rows.specs.Rows.{indexIn, memberIndex, rowIndex, FirstChild, of-choice, of-nothing}
 use Rattle.rows.specs.Laws.{entry-there}
+use Rattle.row_sizes.specs.Sizes.{choice-below}
 use Rattle.growing.specs.declared.Edges.{Edges}
 use Rattle.pools.specs.Room.{edgeRoom, nothingOf}
 use Rattle.own_rows.specs.Making.{edgePlacements, EdgesFrom}
@@ -60,12 +61,6 @@ index-is : (ms : List ℕ) → ((p q m : ℕ) → entry p ms ≡ some m → entr
 index-is ms distinct j less =
     let low = index-within ms j less in
     omega (arith, distinct (suc (indexIn (getD ms j 0) ms)) (suc j) (getD ms j 0) (index-entry (getD ms j 0) ms (omega (arith, low))) (entry-there ms j less))
-
--- the first child of a choice that needs one is among its members
-needed-less : {t : Option ℕ} {need : Need} {ms : List ℕ} → FirstChild t (choice need ms) → need ≡ needed → memberIndex t ms < length ms
-unfolding memberIndex
-needed-less (of-choice less) e = less
-needed-less of-nothing e = let z : _≡_ {A = ℕ} 0 1 = cc in absurd (omega arith)
 
 -- a first child whose place is among the members is one
 member-of : {t : Option ℕ} {need : Need} {ms : List ℕ} → FirstChild t (choice need ms) → memberIndex t ms < length ms → (m : ℕ) × (t ≡ some m) × (indexIn m ms ≡ memberIndex t ms)
@@ -156,7 +151,7 @@ module _ {source target map em : List ℕ} (ready : Ready source target map em) 
   -- a choice that needs a member has no other rows
   pub needed-small : need ≡ needed → (t : Option ℕ) → FirstChild t κ → rowIndex κ t < getD (countsOf source) s 0
   unfolding rowIndex
-  needed-small e t chosen = rw is (omega (arith, needed-less (rw is at chosen) e, long))
+  needed-small e t chosen = rw is (omega (arith, choice-below (rw is at chosen) .1 e, long))
 
   pub needed-rows : (getD (kindsOf source) s 0 ≡ 4 → ⊥) → {pool₀ places₀ pool places : List ℕ} {at : ℕ} → MadeMembers source target map em pool₀ places₀ s pool places at
       → Progress source target map em pool₀ places₀ (s + 1) pool places at

@@ -17,6 +17,7 @@ use Rattle.loaded_setting.specs.Ready.{Ready}
 use Rattle.paths.specs.Following.{Followable, pathsFrom}
 use Rattle.paths.specs.Edges.{is-choice, row-length, few, first-path, first-follows, paths-are}
 use Rattle.rows.specs.Rows.{memberIndex, rowIndex, FirstChild, of-choice, of-nothing}
+use Rattle.row_sizes.specs.Sizes.{choice-below}
 use Rattle.growing.specs.declared.Edges.{Edges}
 use Rattle.growing.specs.Growing.{placementsOf}
 use Rattle.pools.specs.Room.{nothingOf}
@@ -30,11 +31,7 @@ unfolding memberIndex
 last-none (of-choice less) at = absurd (omega (arith, at))
 last-none of-nothing at = refl
 
-first-small : {t : Option ℕ} {need : Need} {ms : List ℕ} → FirstChild t (choice need ms) → memberIndex t ms ≤ length ms
-unfolding memberIndex
-first-small (of-choice less) = omega arith
-first-small of-nothing = omega arith
-
+-- a choice is no list
 no-list : {need : Need} {ms : List ℕ} {m : ℕ} → choice need ms ≡ list m → ⊥
 no-list e = let z : _≡_ {A = ℕ} 0 1 = cc in absurd (omega arith)
 
@@ -81,7 +78,7 @@ module _ {source target map em : List ℕ} (ready : Ready source target map em) 
   -- it is the last row
   pub nothing-small : (t : Option ℕ) → FirstChild t κ → rowIndex κ t < getD (countsOf source) s 0 + 1
   unfolding rowIndex
-  nothing-small t chosen = rw is (omega (arith, first-small (rw is at chosen), long))
+  nothing-small t chosen = rw is (omega (arith, choice-below (rw is at chosen) .0, long))
 
   -- the same, by the numbers that the code has
   module _ {start′ steps′ t : ℕ} (is-start : start′ ≡ start) (is-steps : steps′ ≡ steps) (is-target : t ≡ getD (targetsOf map) s 0) where

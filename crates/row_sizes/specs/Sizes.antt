@@ -75,8 +75,8 @@ row-count-small (suc (suc (suc zero))) count few = omega arith
 row-count-small (suc (suc (suc (suc zero)))) count few = omega arith
 row-count-small (suc (suc (suc (suc (suc code))))) count few = omega arith
 
--- the place of the first child of a choice
-choice-below : {t : Option ℕ} {need : Need} {ms : List ℕ} → FirstChild t (choice need ms) → (memberIndex t ms ≤ length ms) × (need ≡ needed → memberIndex t ms < length ms)
+-- the place of the first child of a choice: among its members, or behind them where it needs none
+pub choice-below : {t : Option ℕ} {need : Need} {ms : List ℕ} → FirstChild t (choice need ms) → (memberIndex t ms ≤ length ms) × (need ≡ needed → memberIndex t ms < length ms)
 unfolding memberIndex
 choice-below (of-choice h) = (omega arith, λ e. h)
 choice-below of-nothing = (omega arith, λ e. let z : _≡_ {A = ℕ} 0 1 = cc in absurd (omega arith))

@@ -9,7 +9,6 @@ ghost use Rattle.loaded_table.specs.Loaded.{Bounded, typesIn, tableBy, heldLeng
 ghost use Rattle.loaded_setting.specs.Ready.{settingIn, Ready};
 ghost use Rattle.rows.specs.Rows.{typeRows, toOf, rowIn, rowIndex, FirstChild, Rows, Sizes, HasRow, HasRows, IsWord};
 ghost use Rattle.row_sizes.specs.Sizing.{Small, AddsSymbol, Measures, Sized, Keeps, TypeSized};
-ghost use Rattle.model.specs.Definitions.TableChecks.{maxMembers};
 use codes::ELEMENT_BYTES;
 use codes::MAX_TYPES;
 use codes::OVER_BYTES;

@@ -61,18 +61,27 @@ fn round_trip(setting: &Setting, tree: &[u8]) -> Result<Result<Image, Refusal>, 
     Ok(Ok(Image { bytes, filler }))
 }
 
+/// The image of a world's tree, if it is within the limits. It comes back, and
+/// both are written exactly where the output is long enough.
+fn comes_back(rng: &mut Rng, world: &World) -> Result<Option<Image>, Failure> {
+    let (setting, tree) = (Setting::of(world), world.tree.to_bytes());
+    let Ok(image) = round_trip(&setting, &tree)? else {
+        return Ok(None);
+    };
+    ensure_output_lengths(rng, &setting, Entry::Carry, &tree, &image.bytes)?;
+    ensure_output_lengths(rng, &setting, Entry::BringBack, &image.bytes, &tree)?;
+    Ok(Some(image))
+}
+
 #[test]
 fn images_come_back() -> Result<(), Failure> {
     let mut rng = Rng::new(seed().wrapping_add(100));
     let mut counts = Counts::default();
     for _ in 0..2500 {
         let world = World::mixed(&mut rng);
-        let (setting, tree) = (Setting::of(&world), world.tree.to_bytes());
-        let Ok(image) = round_trip(&setting, &tree)? else {
+        let Some(image) = comes_back(&mut rng, &world)? else {
             continue;
         };
-        ensure_output_lengths(&mut rng, &setting, Entry::Carry, &tree, &image.bytes)?;
-        ensure_output_lengths(&mut rng, &setting, Entry::BringBack, &image.bytes, &tree)?;
         let traits = Traits::of(&world);
         counts.add("images", true);
         counts.add("with filler", image.filler > 0);
@@ -91,12 +100,9 @@ fn images_with_optional_choices_come_back() -> Result<(), Failure> {
     let mut counts = Counts::default();
     for _ in 0..2500 {
         let world = World::optional(&mut rng);
-        let (setting, tree) = (Setting::of(&world), world.tree.to_bytes());
-        let Ok(image) = round_trip(&setting, &tree)? else {
+        if comes_back(&mut rng, &world)?.is_none() {
             continue;
-        };
-        ensure_output_lengths(&mut rng, &setting, Entry::Carry, &tree, &image.bytes)?;
-        ensure_output_lengths(&mut rng, &setting, Entry::BringBack, &image.bytes, &tree)?;
+        }
         let traits = Traits::of(&world);
         counts.add("of an empty optional choice", traits.empty_optional);
         counts.add("of one left empty below its image", traits.nothing_below);

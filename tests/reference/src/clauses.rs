@@ -8,7 +8,7 @@ mod images;
 
 use crate::generate::damage::split_commands;
 use crate::table::{self, ContentModel, Table};
-use crate::tree::{self, commands, Command, Element};
+use crate::tree::{self, commands, open_elements, Command, Element};
 use crate::vectors::{Answer, Case, Entry};
 use crate::{Refusal, EMBEDDING, SOURCE, TARGET, TREE};
 
@@ -173,31 +173,16 @@ fn tree_clause(table: &Table, bytes: &[u8], refusal: Refusal) -> Option<Clause> 
     if refusal.number != 11 {
         return None;
     }
-    // The open elements: the type of each and its number of children so far.
-    let mut open: Vec<(u8, usize)> = Vec::new();
-    for (offset, command) in commands(bytes) {
-        if offset == refusal.mark as usize {
-            let &(t, children) = open.last()?;
-            return match command {
-                _ if !is_optional(&table.types[t as usize]) => None,
-                Command::Open(_) if children == 0 => Some(Clause::WrongMember),
-                Command::Open(_) => Some(Clause::SecondMember),
-                Command::Character(_) => Some(Clause::Character),
-                _ => None,
-            };
-        }
-        match command {
-            Command::Open(t) => {
-                open.iter_mut().last().into_iter().for_each(|(_, children)| *children += 1);
-                open.push((t, 0));
-            }
-            Command::Close => {
-                open.pop();
-            }
-            _ => {}
-        }
+    let mark = refusal.mark as usize;
+    let &(t, children) = open_elements(&bytes[..mark]).last()?;
+    let (_, command) = commands(bytes).find(|&(offset, _)| offset == mark)?;
+    match command {
+        _ if !is_optional(&table.types[t as usize]) => None,
+        Command::Open(_) if children == 0 => Some(Clause::WrongMember),
+        Command::Open(_) => Some(Clause::SecondMember),
+        Command::Character(_) => Some(Clause::Character),
+        _ => None,
     }
-    None
 }
 
 /// What an accepted case shows.

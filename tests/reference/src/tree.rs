@@ -76,6 +76,25 @@ pub fn commands(bytes: &[u8]) -> impl Iterator<Item = (usize, Command)> + '_ {
     })
 }
 
+/// The elements that a beginning of a tree leaves open, the root first: the
+/// type of each and its number of children so far.
+pub fn open_elements(beginning: &[u8]) -> Vec<(u8, usize)> {
+    let mut open: Vec<(u8, usize)> = Vec::new();
+    for (_, command) in commands(beginning) {
+        match command {
+            Command::Open(t) => {
+                open.iter_mut().last().into_iter().for_each(|(_, children)| *children += 1);
+                open.push((t, 0));
+            }
+            Command::Close => {
+                open.pop();
+            }
+            _ => {}
+        }
+    }
+    open
+}
+
 /// Whether a byte is an allowed character.
 pub fn is_character(byte: u8) -> bool {
     matches!(byte, 0x09 | 0x0A | 0x20..=0x7E)

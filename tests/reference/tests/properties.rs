@@ -8,7 +8,7 @@ use lafindry_reference::generate::{
 };
 use lafindry_reference::image::fillers;
 use lafindry_reference::table::{ContentModel, Table};
-use lafindry_reference::tree::{self, commands, levels, Command, Element};
+use lafindry_reference::tree::{self, levels, open_elements, Element};
 use lafindry_reference::vectors::{Answer, Case, Entry};
 use lafindry_reference::{bring_back, carry, judge_embedding, judge_table, judge_tree};
 use lafindry_reference::{Carried, Refusal, MOST_BYTES, MOST_LEVELS, OUTPUT, TREE};
@@ -408,19 +408,7 @@ fn beginnings_before_the_mark_can_be_completed() {
 /// A beginning with all open elements completed, if that isn't too large.
 fn complete(table: &Table, beginning: &[u8]) -> Option<Vec<u8>> {
     let fillers = fillers(table);
-    let mut open: Vec<(u8, usize)> = Vec::new();
-    for (_, command) in commands(beginning) {
-        match command {
-            Command::Open(t) => {
-                open.iter_mut().last().into_iter().for_each(|(_, children)| *children += 1);
-                open.push((t, 0));
-            }
-            Command::Close => {
-                open.pop();
-            }
-            _ => {}
-        }
-    }
+    let mut open = open_elements(beginning);
     let mut bytes = beginning.to_vec();
     if open.is_empty() {
         open.push((0, 0));

@@ -29,7 +29,7 @@ pub data Holds (S : Table) : Kind → Content → Type 0 where
       → Holds S (kindOf S m) k → Holds S (sequence ms) r → Holds S (sequence (m ∷ ms)) (elem m k r)
   -- choice: exactly one member
   chosen : {need : Need} {m : ℕ} {ms : List ℕ} {k : Content} → List·Memᴰ m ms → Holds S (kindOf S m) k → Holds S (choice need ms) (elem m k end)
-  -- optional choice: one member, or nothing
+  -- optional choice (02, N3): one member, or nothing
   left-out : {ms : List ℕ} → Holds S (choice optional ms) end
   -- list: zero or more items of its type
   no-item : {m : ℕ} → Holds S (list m) end

@@ -112,7 +112,7 @@ unfoldable pub divide : Table → ℕ → List ℕ → Divided
 divide T τ [] = record { before = []; item = 0; rest = [] }
 divide T τ (p ∷ ps) = divideAt (kindOf T τ) p ps (divide T (next T τ p) ps)
 
--- the steps of a path before the first that leaves a choice
+-- 02, N3: the steps of a path before the first that leaves a choice of either kind
 unfoldable pub beforeChoice : Table → ℕ → List ℕ → List ℕ
 beforeChoice T τ [] = []
 beforeChoice T τ (p ∷ ps) = pick (isChoice (kindOf T τ)) [] (p ∷ beforeChoice T (next T τ p) ps)

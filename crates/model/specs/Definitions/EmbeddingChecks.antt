@@ -131,7 +131,7 @@ sequenceOrList κ = isSequence κ || isList κ
 unfoldable pub sequenceOrChoice : Kind → Bool
 sequenceOrChoice κ = isSequence κ || isChoice κ
 
--- whether some choice is left, and the first of them is an optional one
+-- 02, N3: whether some choice is left, and the first of them is an optional one
 unfoldable pub optionalFirst : List Kind → Bool
 optionalFirst [] = false
 optionalFirst (κ ∷ κs) = pick (isChoice κ) (isOptional κ) (optionalFirst κs)
@@ -148,7 +148,7 @@ rightSteps (choice needed ms) κs = leavesOnly sequenceOrChoice κs && some-of i
 rightSteps (choice optional ms) κs = leavesOnly sequenceOrChoice κs && optionalFirst κs
 rightSteps (list m) κs = leavesOnly sequenceOrList κs && some-of isList κs
 
--- From an optional choice, a path's steps before its first choice step are also those of the type's first path.
+-- 02, N3: from an optional choice, a path's steps before its first choice step are also those of the type's first path.
 unfoldable pub agrees : Table → Kind → ℕ → List ℕ → List ℕ → Bool
 agrees T κ τ first ps = not (isOptional κ) || sameSteps (beforeChoice T τ first) (beforeChoice T τ ps)
 

@@ -48,7 +48,7 @@ unfoldable pub fillMembers : {A : Type 0} → Builder A → List A → List ℕ 
 fillMembers B fs [] = B .none
 fillMembers B fs (m ∷ ms) = B .element false m (known B fs m) (fillMembers B fs ms)
 
--- an empty text, an empty list, nothing of an optional choice, all members of a sequence, and of a choice the member of
+-- an empty text, an empty list, nothing of an optional choice (02, N3), all members of a sequence, and of a choice the member of
 -- least height, the earliest of equals; hs are the heights
 unfoldable pub fillKind : {A : Type 0} → Builder A → List ℕ → List A → Kind → A
 fillKind B hs fs text = B .none

@@ -1,4 +1,5 @@
--- 01 "The image and the filler": heights, and with them "each type must have a finite instance" of "Table".
+-- 01 "The image and the filler": heights, and with them "each type must have a finite instance" of "Table"; of the optional
+-- choice 02, N3.
 --
 -- Heights are the least numbers such that text, empty, list and optional choice types have 1, a sequence 1 more than its
 -- highest member, a choice 1 more than its lowest. `heightsTo T n` are the heights held at n: a height above n counts as n.

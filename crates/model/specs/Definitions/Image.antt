@@ -90,7 +90,7 @@ pathOfMember t [] ps = []
 pathOfMember t (m ∷ ms) [] = []
 pathOfMember t (m ∷ ms) (p ∷ ps) = pick (eqb t m) p (pathOfMember t ms ps)
 
--- The one member of a choice along its path. Where an optional choice holds nothing, the path is built up to the optional
+-- The one member of a choice along its path. Where an optional choice holds nothing (02, N3), the path is built up to the optional
 -- choice that all paths agree on, which stands at the end of `shared` and is left empty.
 unfoldable pub alongChoice : {A : Type 0} → Builder A → List ℕ → List ℕ → List (List ℕ) → List (Child A) → List (Placement A)
 alongChoice B shared ms ps [] = placed shared (B .none) ∷ []

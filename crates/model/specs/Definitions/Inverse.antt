@@ -69,7 +69,7 @@ readChoice read at (m ∷ ms) (p ∷ ps) =
     let later = readChoice read at ms ps in
     readIfThere read m (at p) later
 
--- nothing where an empty element was found, else what the members give
+-- 02, N3: nothing where an empty element was found, else what the members give
 unfoldable pub unlessEmpty : Option Content → Option Content → Option Content
 unlessEmpty none member = member
 unlessEmpty (some end) member = some end

@@ -8,7 +8,7 @@ use Rattle.model.specs.Definitions.Basics.{entry}
 use Rattle.model.specs.Definitions.Commands.{Need, needed, optional, TableCommand, textType, emptyType, sequenceType, choiceType, listType, member, tableEnd, alien, tableCommands}
 
 -- what an element of a type holds: characters; nothing; all members, in order; exactly one member, or of an optional
--- choice one or nothing; items of one type
+-- choice (02, N3) one or nothing; items of one type
 pub data Kind : Type 0 where
   text : Kind
   empty : Kind
@@ -69,6 +69,7 @@ isChoice (sequence ms) = false
 isChoice (choice need ms) = true
 isChoice (list m) = false
 
+-- 02, N3
 unfoldable pub isOptional : Kind → Bool
 isOptional text = false
 isOptional empty = false

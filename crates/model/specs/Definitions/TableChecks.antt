@@ -22,6 +22,7 @@ pub data TableRole : Type 0 where
   finishes : TableRole
   unknown : TableRole
 
+-- a sequence needs one member, a choice two, an optional choice one (02, N3)
 unfoldable pub tableRole : TableCommand → TableRole
 tableRole textType = begins whole
 tableRole emptyType = begins whole
@@ -113,7 +114,7 @@ namesType types u alien = stops
 unfoldable pub tableOperands : ℕ → List ℕ → Verdict
 tableOperands types bs = run tableWidth (namesType types) (λ u. true) tt 0 (tableCommands bs)
 
--- ---- 5, a choice names a type twice
+-- ---- 5, a choice of either kind names a type twice
 
 -- not in a choice, or in one, with the members so far
 pub data Chosen : Type 0 where
