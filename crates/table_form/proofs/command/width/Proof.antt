@@ -13,5 +13,5 @@ unfolding tableWidth
 width-spec =
     tie.close
     (tie.spec
-    (λ c. in-arm enum (λ d. tableWidth (command d)) 2 (5 ∷ 6 ∷ []) (search needs) (c .before .args .c) (c .match .keys1))
-    (λ c. in-arm enum (λ d. tableWidth (command d)) 1 (0 ∷ 1 ∷ 2 ∷ 3 ∷ 4 ∷ 7 ∷ 8 ∷ []) (search needs) (c .before .args .c) (c .match .keys2)))
+    (λ c. in-arm enum (λ d. tableWidth (command d)) 2 (4 ∷ 5 ∷ []) (search needs) (c .before .args .c) (c .match .keys1))
+    (λ c. in-arm enum (λ d. tableWidth (command d)) 1 (0 ∷ 1 ∷ 2 ∷ 3 ∷ 6 ∷ 7 ∷ 8 ∷ []) (search needs) (c .before .args .c) (c .match .keys2)))

@@ -24,4 +24,4 @@ step-spec =
     (λ c. rw (c .enum-told2 .given .1))
     (λ c. rw (c .enum-told3 .given .1))
     (λ c. let at-match = c .before in let n = counts (at-match .before .args .n) in
-    c .type-more .ensures ∙ in-arm enum (λ d. limitStep n (command d)) (oneTypeMore n) (0 ∷ 1 ∷ 2 ∷ 3 ∷ 4 ∷ 5 ∷ []) (search needs) (at-match .before .args .c) (at-match .match .keys4)))
+    c .type-more .ensures ∙ in-arm enum (λ d. limitStep n (command d)) (oneTypeMore n) (0 ∷ 1 ∷ 2 ∷ 3 ∷ 4 ∷ 8 ∷ []) (search needs) (at-match .before .args .c) (at-match .match .keys4)))

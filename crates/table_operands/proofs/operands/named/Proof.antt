@@ -19,5 +19,5 @@ named-spec =
     (λ c. c .match .keys2)
     (λ c. c .match .keys3)
     (λ c. rw (c .enum-told .given .1))
-    (λ c. in-arm enum (λ d. namesType (c .before .args .types) tt (command d)) (goes tt) (0 ∷ 1 ∷ 2 ∷ 3 ∷ 4 ∷ 7 ∷ []) (search needs) (c .before .args .c) (c .match .keys4))
+    (λ c. in-arm enum (λ d. namesType (c .before .args .types) tt (command d)) (goes tt) (0 ∷ 1 ∷ 2 ∷ 3 ∷ 6 ∷ 8 ∷ []) (search needs) (c .before .args .c) (c .match .keys4))
     (λ c. ⊎-elim (λ w. rw (w .3, w .1 .given .1)) (λ w. rw (w .3, w .1 .given .1)) (c .before .match .came)))
