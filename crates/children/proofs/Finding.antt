@@ -47,9 +47,11 @@ unless-not member (some end) other = absurd (other refl)
 unless-not member (some (char c r)) other = refl
 unless-not member (some (elem t k r)) other = refl
 
+-- what is not there is not there and empty
 pub missing-not : {sought : Option Content} → sought ≡ none → sought ≡ some end → ⊥
 missing-not miss is = some-none is miss
 
+-- nor is what does not close at once
 pub held-not : {tr : List ℕ} {o : ℕ} {sought : Option Content} → FoundContent tr o sought → (getD tr o 0 ≡ 0x32 → ⊥) → sought ≡ some end → ⊥
 held-not {tr} {o} found other is =
     let at-end : found .content ≡ end = cc in

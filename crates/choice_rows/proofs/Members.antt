@@ -11,8 +11,7 @@ use borrow.Author.Tests.{eqb-true, eqb-false}
 use Rattle.model.specs.Definitions.Basics.{pick, entry}
 use Rattle.model.specs.Definitions.Commands.{Need, needed}
 use Rattle.model.specs.Definitions.Table.{Kind, choice, kindOf, edgesOf}
-use Rattle.model.specs.Theorems.Tools.{true-false}
-use Rattle.loaded_table.specs.Kinds.{choiceCode, needFrom, choice-range}
+use Rattle.loaded_table.specs.Kinds.{choiceCode, needFrom, choice-codes, choice-range}
 use Rattle.loaded_table.specs.Loaded.{tableBy, typesIn, kindsOf, countsOf, membersIn}
 use Rattle.loaded_embedding.specs.Loaded.{targetsOf}
 use Rattle.loaded_setting.specs.Ready.{Ready}
@@ -31,15 +30,15 @@ use Rattle.choice_rows.specs.Choices.{MadeMembers, NothingToMake}
 
 -- ---- the place of a choice's member
 
-index-within : (ms : List ℕ) (j : ℕ) → j < length ms → indexIn (getD ms j 0) ms ≤ j
+index-at-most : (ms : List ℕ) (j : ℕ) → j < length ms → indexIn (getD ms j 0) ms ≤ j
 unfolding indexIn pick
-index-within [] j less = absurd (omega arith)
-index-within (m ∷ ms) zero less = go (eqb m m) refl
+index-at-most [] j less = absurd (omega arith)
+index-at-most (m ∷ ms) zero less = go (eqb m m) refl
   where
     go : (b : Bool) → eqb m m ≡ b → pick (eqb m m) 0 (suc (indexIn m ms)) ≤ 0
     go true q = rw q (omega arith)
     go false q = absurd (eqb-false m m q refl)
-index-within (m ∷ ms) (suc j) less = go (eqb (getD ms j 0) m) (index-within ms j (omega arith))
+index-at-most (m ∷ ms) (suc j) less = go (eqb (getD ms j 0) m) (index-at-most ms j (omega arith))
   where
     go : (b : Bool) → indexIn (getD ms j 0) ms ≤ j → pick b 0 (suc (indexIn (getD ms j 0) ms)) ≤ suc j
     go true h = omega arith
@@ -59,7 +58,7 @@ index-entry t (m ∷ ms) less = go (eqb t m) refl (index-entry t ms)
 -- members are distinct
 index-is : (ms : List ℕ) → ((p q m : ℕ) → entry p ms ≡ some m → entry q ms ≡ some m → p ≡ q) → (j : ℕ) → j < length ms → indexIn (getD ms j 0) ms ≡ j
 index-is ms distinct j less =
-    let low = index-within ms j less in
+    let low = index-at-most ms j less in
     omega (arith, distinct (suc (indexIn (getD ms j 0) ms)) (suc j) (getD ms j 0) (index-entry (getD ms j 0) ms (omega (arith, low))) (entry-there ms j less))
 
 -- a first child whose place is among the members is one
@@ -70,12 +69,7 @@ member-of of-nothing small = absurd (omega arith)
 
 -- a choice that is not optional needs a member
 needed-code : (code : ℕ) → choiceCode code ≡ true → (code ≡ 4 → ⊥) → needFrom code ≡ needed
-needed-code zero e other = refl
-needed-code (suc zero) e other = refl
-needed-code (suc (suc zero)) e other = refl
-needed-code (suc (suc (suc zero))) e other = refl
-needed-code (suc (suc (suc (suc zero)))) e other = absurd (other refl)
-needed-code (suc (suc (suc (suc (suc code))))) e other = true-false e refl
+needed-code = choice-codes (λ (k : ℕ). (k ≡ 4 → ⊥) → needFrom k ≡ needed) (λ other. refl) (λ other. absurd (other refl))
 
 -- behind the rows of the members that of nothing can be made
 pub nothing-next : {source target map em pool places pool′ places′ : List ℕ} {s at : ℕ} → Makeable source target map em pool places s → MadeMembers source target map em pool places s pool′ places′ at

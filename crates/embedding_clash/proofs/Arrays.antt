@@ -13,7 +13,7 @@ use Rattle.loaded_embedding.specs.Loaded.{targetsOf, startsOf, lengthsOf, steps
 use Rattle.embedding_clash.specs.Paths.{pathOf, Walkable}
 use Rattle.embedding_clash.specs.Ready.{mapOf, Checkable}
 use Rattle.embedding_clash.specs.Edges.{noEdge, edgeOf}
-use Rattle.embedding_form.proofs.Types.{few-edges}
+use Rattle.loaded_table.specs.Kinds.{few-edges}
 use Rattle.embedding_clash.proofs.Following.{path-steps}
 
 -- ---- the arrays

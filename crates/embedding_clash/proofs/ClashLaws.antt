@@ -3,7 +3,7 @@ use mathlib.Core.Path.{_≡_, refl, sym, ap, _∙_}
 use mathlib.Core.Bool.{Bool, true, false, not}
 use mathlib.Core.List.{List, [], _∷_}
 use mathlib.Core.Logic.{_⊎_, inl, inr}
-use Prim.Native.Nat.{ℕ, zero, suc, _+_, _*_, _≤_, _<_, min}
+use Prim.Native.Nat.{ℕ, _+_, _*_, _≤_, _<_, min}
 use native.Mathlib.Omega.{arith}
 use lib.ListN.{length, getD, set, take, drop, length-set}
 use lib.Seq.{getD-set-same, getD-set-other}
@@ -13,9 +13,9 @@ use Rattle.model.specs.Definitions.Table.{Kind, text, empty, sequence, choice, 
 use Rattle.model.specs.Definitions.Embedding.{next, Parting, beginning, apart, parting}
 use Rattle.model.specs.Definitions.EmbeddingChecks.{clashing, clash}
 use Rattle.model.specs.Theorems.Facts.{Walks}
-use Rattle.model.specs.Theorems.Tools.{true-false, pick-true, pick-false}
+use Rattle.model.specs.Theorems.Tools.{pick-true, pick-false}
 use Rattle.loaded_table.specs.Loaded.{kindFrom, tableBy, typesIn, kindsOf, countsOf, membersIn, kind-of}
-use Rattle.loaded_table.specs.Kinds.{choiceCode, choice-code, choice-from}
+use Rattle.loaded_table.specs.Kinds.{choiceCode, each-code, other-codes, choice-code, choice-from}
 use Rattle.loaded_embedding.specs.Loaded.{targetsOf, startsOf, lengthsOf, edgeIn}
 use Rattle.embedding_clash.specs.Paths.{pathOf, PathsAt}
 use Rattle.embedding_clash.specs.Ready.{mapOf, Checkable}
@@ -28,35 +28,20 @@ use Rattle.embedding_clash.proofs.Following.{StepAt, path-steps, goes-o
 -- whether paths clash goes by the code of the source type's kind alone
 pub by-code : (code count : ℕ) (row : List ℕ) (v : Parting) → clashing (kindFrom code count row) v ≡ clashing (kindFrom code 0 []) v
 unfolding clashing
-by-code zero count row v = refl
-by-code (suc zero) count row v = refl
-by-code (suc (suc zero)) count row beginning = refl
-by-code (suc (suc zero)) count row (apart κ) = refl
-by-code (suc (suc (suc zero))) count row beginning = refl
-by-code (suc (suc (suc zero))) count row (apart κ) = refl
-by-code (suc (suc (suc (suc zero)))) count row beginning = refl
-by-code (suc (suc (suc (suc zero)))) count row (apart κ) = refl
-by-code (suc (suc (suc (suc (suc code))))) count row v = refl
+by-code code count row beginning = each-code (λ (k : ℕ). clashing (kindFrom k count row) beginning ≡ clashing (kindFrom k 0 []) beginning) refl refl refl refl refl (λ k. refl) code
+by-code code count row (apart κ) = each-code (λ (k : ℕ). clashing (kindFrom k count row) (apart κ) ≡ clashing (kindFrom k 0 []) (apart κ)) refl refl refl refl refl (λ k. refl) code
 
 -- where one path is a beginning of the other, in kinds other than sequences and choices
 pub joined-other : (code : ℕ) → (code ≡ 2 → ⊥) → (code ≡ 3 → ⊥) → (code ≡ 4 → ⊥) → false ≡ clashing (kindFrom code 0 []) beginning
 unfolding clashing
-joined-other zero a b c = refl
-joined-other (suc zero) a b c = refl
-joined-other (suc (suc zero)) a b c = absurd (a refl)
-joined-other (suc (suc (suc zero))) a b c = absurd (b refl)
-joined-other (suc (suc (suc (suc zero)))) a b c = absurd (c refl)
-joined-other (suc (suc (suc (suc (suc code))))) a b c = refl
+joined-other =
+    each-code (λ (k : ℕ). (k ≡ 2 → ⊥) → (k ≡ 3 → ⊥) → (k ≡ 4 → ⊥) → false ≡ clashing (kindFrom k 0 []) beginning)
+    (λ a b c. refl) (λ a b c. refl) (λ a b c. absurd (a refl)) (λ a b c. absurd (b refl)) (λ a b c. absurd (c refl)) (λ k a b c. refl)
 
 -- where they part, in kinds other than choices
 pub parted-other : (code : ℕ) (κ : Kind) → choiceCode code ≡ false → false ≡ clashing (kindFrom code 0 []) (apart κ)
 unfolding clashing
-parted-other zero κ e = refl
-parted-other (suc zero) κ e = refl
-parted-other (suc (suc zero)) κ e = refl
-parted-other (suc (suc (suc zero))) κ e = true-false refl e
-parted-other (suc (suc (suc (suc zero)))) κ e = true-false refl e
-parted-other (suc (suc (suc (suc (suc code))))) κ e = refl
+parted-other code κ = other-codes (λ (k : ℕ). false ≡ clashing (kindFrom k 0 []) (apart κ)) refl refl refl (λ k. refl) code
 
 -- where they part in a choice of either kind
 pub parted-choice : (code at : ℕ) → choiceCode code ≡ true → not (choiceCode at) ≡ clashing (kindFrom code 0 []) (apart (kindFrom at 0 []))

@@ -1,22 +1,19 @@
 -- Check 9 for two paths of an optional choice: going along both up to their first choice step, and the answer where that ends. And
 -- what check 9 asks of an edge, by what was found of it.
 use mathlib.Core.Path.{_≡_, refl, sym, ap, ap₂, _∙_}
-use mathlib.Core.Bool.{Bool, true, false, not}
-use mathlib.Core.List.{List, [], _∷_, map}
+use mathlib.Core.Bool.{Bool, true, false}
+use mathlib.Core.List.{List, [], _∷_}
 use Prim.Native.Nat.{ℕ, _*_}
 use lib.ListN.{getD, drop}
-use borrow.Author.Tests.{eq-eqb, ne-eqb, not-true, not-false}
+use borrow.Author.Tests.{eq-eqb, ne-eqb}
 use Rattle.model.specs.Definitions.Basics.{pick}
-use Rattle.model.specs.Definitions.Table.{Kind, Table, kindOf, isChoice, isOptional}
-use Rattle.model.specs.Definitions.Embedding.{Edge, TypeMap, next, leaves, firstPath, beforeChoice, sameSteps}
-use Rattle.model.specs.Definitions.EmbeddingChecks.{rightSteps, agrees}
+use Rattle.model.specs.Definitions.Table.{Table, kindOf, isChoice}
+use Rattle.model.specs.Definitions.Embedding.{next, beforeChoice, sameSteps}
 use Rattle.model.specs.Theorems.Facts.{Walks}
 use Rattle.model.specs.Theorems.Tools.{pick-true, pick-false}
 use Rattle.loaded_table.specs.Loaded.{tableBy, kindsOf, countsOf, membersIn, kind-of}
 use Rattle.loaded_table.specs.Kinds.{choiceCode, choice-code}
-use Rattle.embedding_clash.specs.Edges.{noEdge, edgeOf}
 use Rattle.embedding_clash.proofs.Following.{StepAt, goes-on}
-use Rattle.embedding_ends.specs.Tests.{stepsRight}
 
 -- ---- along two paths
 
@@ -87,28 +84,3 @@ pub choice-told : {target : List ℕ} {t p code : ℕ} {r : Bool} → StepAt tar
 choice-told {target} {t} {code = code} {r} s tested told =
     tested ∙ ap choiceCode told ∙ sym (choice-code (getD (kindsOf target) t 0) (getD (countsOf target) t 0) (drop (t * 16) (membersIn target)))
     ∙ ap isChoice (sym (kind-of target t (s .inside)))
-
--- ---- check 9 of an edge
-
--- the type's first path is its first edge's
-first-edge : (es : List Edge) → firstPath (map (λ (e : Edge). e .steps) es) ≡ getD es 0 noEdge .steps
-unfolding firstPath noEdge
-first-edge [] = refl
-first-edge (e ∷ es) = refl
-
-module _ (T : Table) (κ : Kind) (f : TypeMap) (i : ℕ) {kinds : Bool} (found : kinds ≡ rightSteps κ (leaves T (f .target) (edgeOf f i .steps))) where
-  -- a step leaves a wrong kind
-  pub kinds-wrong : not kinds ≡ true → false ≡ stepsRight T κ f i
-  unfolding stepsRight
-  kinds-wrong told = rw (sym found, not-true kinds told)
-
-  module _ (right : not kinds ≡ false) where
-    -- none does, and the source type is no optional choice
-    pub nothing-more : isOptional κ ≡ false → true ≡ stepsRight T κ f i
-    unfolding stepsRight agrees
-    nothing-more e = rw (sym found, not-false kinds right, e)
-
-    -- it is one: the first path decides
-    pub first-decides : isOptional κ ≡ true → {same : Bool} → same ≡ sameSteps (beforeChoice T (f .target) (edgeOf f 0 .steps)) (beforeChoice T (f .target) (edgeOf f i .steps)) → same ≡ stepsRight T κ f i
-    unfolding stepsRight agrees edgeOf
-    first-decides e agreed = rw (sym found, not-false kinds right, e, first-edge (f .edges)) agreed

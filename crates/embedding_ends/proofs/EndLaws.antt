@@ -6,17 +6,17 @@ use native.Mathlib.Omega.{arith}
 use lib.ListN.{length, getD, take, drop, length-take}
 use lib.Seq.{getD-take, getD-drop}
 use lib.Dec.{eqb}
-use borrow.Author.Tests.{eq-eqb, ne-eqb}
 use Rattle.model.specs.Definitions.Commands.{needed, optional}
 use Rattle.model.specs.Definitions.Table.{Kind, sequence, choice, Table, kindOf, membersOf, stepFrom, edgesOf, isText}
 use Rattle.model.specs.Definitions.Embedding.{TypeMap, Embedding, targetOf, next, endOf}
 use Rattle.model.specs.Theorems.Facts.{WellFormed, Walks, arrived, onward}
 use Rattle.model.specs.Theorems.Tools.{entry-member}
+use Rattle.loaded_table.specs.Kinds.{text-code}
 use Rattle.loaded_table.specs.Loaded.{kindFrom, kindIn, tableBy, typesIn, kindsOf, countsOf, membersIn, length-of, kind-of}
 use Rattle.loaded_embedding.specs.Loaded.{targetsOf, edgeIn, embeddingBy}
 use Rattle.embedding_clash.specs.Ready.{mapOf, Checkable}
 use Rattle.embedding_clash.specs.Edges.{edgeOf}
-use Rattle.embedding_ends.specs.Tests.{endRight}
+use Rattle.embedding_ends.specs.Ends.{endRight}
 use Rattle.embedding_clash.proofs.Arrays.{type-at, edge-at}
 
 -- a path whose steps exist ends at a type
@@ -24,16 +24,6 @@ pub end-exists : {T : Table} {τ : ℕ} {ps : List ℕ} → WellFormed T → Wal
 unfolding endOf stepFrom
 end-exists w arrived h = h
 end-exists {T} {τ} w (onward {p = p} e onwards) h = end-exists w onwards (w .members-exist τ (next T τ p) (entry-member p (membersOf (kindOf T τ)) e))
-
--- the text kind is the one with code 0
-text-code : (code count : ℕ) (row : List ℕ) → isText (kindFrom code count row) ≡ eqb code 0
-unfolding isText
-text-code zero count row = sym (eq-eqb 0 0 refl)
-text-code (suc zero) count row = sym (ne-eqb 1 0 (λ e. omega arith))
-text-code (suc (suc zero)) count row = sym (ne-eqb 2 0 (λ e. omega arith))
-text-code (suc (suc (suc zero))) count row = sym (ne-eqb 3 0 (λ e. omega arith))
-text-code (suc (suc (suc (suc zero)))) count row = sym (ne-eqb 4 0 (λ e. omega arith))
-text-code (suc (suc (suc (suc (suc code))))) count row = sym (ne-eqb (suc (suc (suc (suc (suc code))))) 0 (λ e. omega arith))
 
 mem-at : (xs : List ℕ) (i : ℕ) → i < length xs → List·Memᴰ (getD xs i 0) xs
 mem-at [] i h = absurd (omega arith)

@@ -14,6 +14,7 @@ use Rattle.model.specs.Definitions.Embedding.{next, leaves}
 use Rattle.loaded_embedding.specs.Loaded.{targetsOf, startsOf, lengthsOf, stepsFrom, edgeIn}
 use Rattle.model.specs.Definitions.EmbeddingChecks.{rightSteps, leavesOnly, sequenceOrList, sequenceOrChoice, optionalFirst}
 use Rattle.model.specs.Theorems.Facts.{Walks, arrived, onward}
+use Rattle.loaded_table.specs.Kinds.{each-code}
 use Rattle.loaded_table.specs.Loaded.{kindFrom, kindIn, tableBy, typesIn, kindsOf, countsOf, membersIn, kind-of}
 use Rattle.embedding_ends.specs.declared.steps.Left.{Left}
 use Rattle.embedding_clash.specs.Paths.{pathOf}
@@ -36,12 +37,9 @@ or-false false = refl
 more-choice : (code count : ℕ) (row : List ℕ) (left : Left) (b : Bool)
     → (withKind left code .choice || b) ≡ (left .choice || (isChoice (kindFrom code count row) || b))
 unfolding isChoice
-more-choice zero count row left b = refl
-more-choice (suc zero) count row left b = refl
-more-choice (suc (suc zero)) count row left b = refl
-more-choice (suc (suc (suc zero))) count row left b = sym (or-true (left .choice))
-more-choice (suc (suc (suc (suc zero)))) count row left b = sym (or-true (left .choice))
-more-choice (suc (suc (suc (suc (suc code))))) count row left b = refl
+more-choice code count row left b =
+    let a-choice = sym (or-true (left .choice)) in
+    each-code (λ (k : ℕ). (withKind left k .choice || b) ≡ (left .choice || (isChoice (kindFrom k count row) || b))) refl refl refl a-choice a-choice (λ k. refl) code
 
 -- whether the first choice is an optional one: told before, or no choice was left so far and what is left tells it
 abbrev firstOptional : Left → Bool → Bool
@@ -59,22 +57,15 @@ optional-more false optional = sym (or-true optional)
 more-optional : (code count : ℕ) (row : List ℕ) (left : Left) (κs : List Kind)
     → firstOptional (withKind left code) (optionalFirst κs) ≡ firstOptional left (optionalFirst (kindFrom code count row ∷ κs))
 unfolding optionalFirst isChoice isOptional pick
-more-optional zero count row left κs = refl
-more-optional (suc zero) count row left κs = refl
-more-optional (suc (suc zero)) count row left κs = refl
-more-optional (suc (suc (suc zero))) count row left κs = needed-more (left .choice) (left .optional)
-more-optional (suc (suc (suc (suc zero)))) count row left κs = optional-more (left .choice) (left .optional)
-more-optional (suc (suc (suc (suc (suc code))))) count row left κs = refl
+more-optional code count row left κs =
+    each-code (λ (k : ℕ). firstOptional (withKind left k) (optionalFirst κs) ≡ firstOptional left (optionalFirst (kindFrom k count row ∷ κs)))
+    refl refl refl (needed-more (left .choice) (left .optional)) (optional-more (left .choice) (left .optional)) (λ k. refl) code
 
 more-list : (code count : ℕ) (row : List ℕ) (left : Left) (b : Bool)
     → (withKind left code .list || b) ≡ (left .list || (isList (kindFrom code count row) || b))
 unfolding isList
-more-list zero count row left b = refl
-more-list (suc zero) count row left b = refl
-more-list (suc (suc zero)) count row left b = refl
-more-list (suc (suc (suc zero))) count row left b = refl
-more-list (suc (suc (suc (suc zero)))) count row left b = refl
-more-list (suc (suc (suc (suc (suc code))))) count row left b = sym (or-true (left .list))
+more-list code count row left b =
+    each-code (λ (k : ℕ). (withKind left k .list || b) ≡ (left .list || (isList (kindFrom k count row) || b))) refl refl refl refl refl (λ k. sym (or-true (left .list))) code
 
 -- on the way along a path: what was collected, with what is left, is what the whole path leaves
 pub record Leaving (T : Table) (from : ℕ) (whole : List ℕ) (t : ℕ) (rest : List ℕ) (left : Left) : Type 0 where

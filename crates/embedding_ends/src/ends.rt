@@ -10,7 +10,7 @@ ghost use Rattle.model.specs.Definitions.Table.{kindOf, edgesOf};
 ghost use Rattle.model.specs.Definitions.Embedding.{endOf};
 ghost use Rattle.embedding_clash.specs.Edges.{edgeOf};
 ghost use Rattle.embedding_clash.specs.Ready.{mapOf, Checkable};
-ghost use Rattle.embedding_ends.specs.Tests.{endRight};
+ghost use Rattle.embedding_ends.specs.Ends.{endRight};
 
 // Whether the path of edge `i` of source type `s` may end where it does, at type `end`: characters at a text type, a member
 // or an item at the type that it is mapped to.

@@ -7,7 +7,7 @@ use native.Mathlib.Omega.{arith}
 use lib.ListN.{length, drop, getD}
 use lib.Seq.{drop-nil}
 use Rattle.loaded_table.specs.Loaded.{tableBy, length-of, Bounded}
-use Rattle.embedding_form.proofs.Types.{few-edges}
+use Rattle.loaded_table.specs.Kinds.{few-edges}
 use Rattle.embedding_form.proofs.Machines.{form-stops}
 use Rattle.model.specs.Definitions.Basics.{pick, passes}
 use Rattle.model.specs.Definitions.Commands.{mapsTo, path, step, embeddingEnd, alienE, embeddingCommand, embeddingCommands, embeddingWidth}

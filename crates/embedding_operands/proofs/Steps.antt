@@ -7,7 +7,8 @@ use native.Mathlib.Omega.{arith}
 use lib.ListN.{length, take, drop, getD}
 use lib.Seq.{getD-drop}
 use Rattle.loaded_table.specs.Loaded.{kindFrom, tableBy, typesIn, kindsOf, countsOf, membersIn}
-use Rattle.embedding_form.proofs.Types.{row-long, with-row, from-five, kind-told}
+use Rattle.loaded_table.specs.Kinds.{list-codes, row-codes}
+use Rattle.embedding_form.proofs.Types.{row-long, kind-told}
 use Rattle.model.specs.Definitions.Basics.{entry}
 use Rattle.model.specs.Definitions.Table.{kindOf, stepFrom, membersOf}
 
@@ -84,14 +85,14 @@ module _ (rows : List ℕ) (t : ℕ) (here : t < typesIn rows) {code : ℕ} (tol
   unfolding stepFrom membersOf
   row-to p low high =
       rw (sym (kind-told rows t here told))
-      (with-row (λ (k : ℕ). entry p (take (getD (countsOf rows) t 0) (drop (t * 16) (membersIn rows))) ≡ stepFrom (kindFrom k (getD (countsOf rows) t 0) (drop (t * 16) (membersIn rows))) p) refl refl refl code low high)
+      (row-codes (λ (k : ℕ). entry p (take (getD (countsOf rows) t 0) (drop (t * 16) (membersIn rows))) ≡ stepFrom (kindFrom k (getD (countsOf rows) t 0) (drop (t * 16) (membersIn rows))) p) refl refl refl code low high)
 
   module _ (high : 5 ≤ code) (p : ℕ) where
     to-only : entry p (getD (drop (t * 16) (membersIn rows)) 0 0 ∷ []) ≡ stepFrom (kindOf (tableBy rows) t) p
     unfolding stepFrom membersOf
     to-only =
         rw (sym (kind-told rows t here told))
-        (from-five (λ (k : ℕ). entry p (getD (drop (t * 16) (membersIn rows)) 0 0 ∷ []) ≡ stepFrom (kindFrom k (getD (countsOf rows) t 0) (drop (t * 16) (membersIn rows))) p) (λ k. refl) code high)
+        (list-codes (λ (k : ℕ). entry p (getD (drop (t * 16) (membersIn rows)) 0 0 ∷ []) ≡ stepFrom (kindFrom k (getD (countsOf rows) t 0) (drop (t * 16) (membersIn rows))) p) (λ k. refl) code high)
 
     pub list-to : {m : ℕ} → m ≡ getD (membersIn rows) (t * 16 + 0) 0 → p ≡ 1 → some m ≡ stepFrom (kindOf (tableBy rows) t) p
     list-to {m} is e =

@@ -8,7 +8,7 @@ use Rattle.model.specs.Definitions.Content.{Content}
 use Rattle.model.specs.Definitions.Inverse.{enter, childAt, childOfType}
 use Rattle.loaded_table.specs.Loaded.{kindFrom}
 use Rattle.loaded_table.specs.Kinds.{choice-from, choice-between}
-use Rattle.paths.specs.Stepping.{list-code}
+use Rattle.loaded_table.specs.Kinds.{list-code}
 
 -- a text or an empty element leads nowhere
 pub enter-nothing : (code p τ : ℕ) (k : Content) (count : ℕ) (row : List ℕ) → code < 2 → enter (kindFrom code count row) p τ k ≡ none

@@ -18,8 +18,8 @@ use Rattle.model.specs.Theorems.Facts.{WellFormed, Fits, nothing-placed, right-
 use Rattle.model.specs.Theorems.Tools.{entry-member, entry-at, true-false}
 use Rattle.model.specs.Theorems.Placing.{under-same}
 use Rattle.loaded_table.specs.Loaded.{Bounded, kindFrom, tableBy, typesIn, kindsOf, countsOf, membersIn, length-of, kind-of}
-use Rattle.loaded_table.specs.Kinds.{choiceCode, code-choice}
-use Rattle.rows.specs.Laws.{code-sequence, code-list, entry-there}
+use Rattle.loaded_table.specs.Kinds.{choiceCode, code-choice, code-sequence, code-list}
+use Rattle.rows.specs.Laws.{entry-there}
 use Rattle.growing.specs.declared.Span.{Span}
 use Rattle.growing.specs.Growing.{MemberRange}
 

@@ -13,7 +13,8 @@ use Rattle.model.specs.Definitions.Content.{Content, end, char, elem}
 use Rattle.model.specs.Definitions.Embedding.{targetOf, pathsOf, firstPath, Divided, divide, beforeChoice}
 use Rattle.model.specs.Definitions.Image.{Setting}
 use Rattle.model.specs.Definitions.Inverse.{follow, readOne, readMembers, readIfThere, readChoice, unlessEmpty, readItems, readList, readKind, readTo}
-use Rattle.loaded_table.specs.Loaded.{kindFrom, typesIn, kindsOf, countsOf, membersIn}
+use Rattle.loaded_table.specs.Kinds.{code-text}
+use Rattle.loaded_table.specs.Loaded.{typesIn, kindsOf, countsOf, membersIn}
 use Rattle.loaded_embedding.specs.Loaded.{targetsOf, startsOf, lengthsOf}
 use Rattle.loaded_setting.specs.Ready.{settingIn, Ready}
 use Rattle.paths.specs.Following.{Followable, pathAt, pathsFrom}
@@ -84,15 +85,6 @@ unfolding readTo
 read-level X zero σ k other = absurd (other refl)
 read-level X (suc n) σ k other = let less : suc n - 1 ≡ n = omega arith in rw less
 
--- only code 0 is a text's
-text-code : (code count : ℕ) (row : List ℕ) → kindFrom code count row ≡ text → code ≡ 0
-text-code zero count row e = refl
-text-code (suc zero) count row e = cc
-text-code (suc (suc zero)) count row e = cc
-text-code (suc (suc (suc zero))) count row e = cc
-text-code (suc (suc (suc (suc zero)))) count row e = cc
-text-code (suc (suc (suc (suc (suc code))))) count row e = cc
-
 module _ {source target map em : List ℕ} (ready : Ready source target map em) {σ : ℕ} (exists : σ < typesIn source) (n : ℕ) (some-level : n ≡ 0 → ⊥) where
   abbrev X : Setting
   X = settingIn source target map em
@@ -104,7 +96,7 @@ module _ {source target map em : List ℕ} (ready : Ready source target map em) 
   read-children other k =
       read-level X n σ k some-level
       ∙ kind-read (λ m j. readTo X (n - 1) m j) (X .target) (kindOf (X .source) σ) (targetOf (X .embedding) σ) (pathsOf (X .embedding) σ) k
-      (λ e. other (text-code (getD (kindsOf source) σ 0) (getD (countsOf source) σ 0) (drop (σ * 16) (membersIn source)) (sym (kind-is ready exists) ∙ e)))
+      (λ e. other (code-text (getD (kindsOf source) σ 0) (getD (countsOf source) σ 0) (drop (σ * 16) (membersIn source)) (sym (kind-is ready exists) ∙ e)))
 
   -- a text
   module _ (code : getD (kindsOf source) σ 0 ≡ 0) where

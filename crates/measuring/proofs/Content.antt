@@ -1,21 +1,17 @@
 -- Conforming content, read from its start: which children are left.
 use mathlib.Core.Path.{_≡_, refl, sym}
-use mathlib.Core.Bool.{Bool, true, false}
-use mathlib.Core.List.{List, [], _∷_, List·Memᴰ, List·Memᴰ·head, List·Memᴰ·tail}
+use mathlib.Core.List.{List, [], List·Memᴰ, List·Memᴰ·head, List·Memᴰ·tail}
 use mathlib.Core.Option.{none}
 use Prim.Native.Nat.{ℕ, suc, _+_, _<_}
 use native.Mathlib.Omega.{arith}
 use lib.ListN.{length}
-use lib.Dec.{eqb}
-use borrow.Author.Tests.{eq-eqb}
-use Rattle.model.specs.Definitions.Basics.{pick}
 use Rattle.model.specs.Definitions.Commands.{Need}
 use Rattle.model.specs.Definitions.Table.{Kind, text, empty, sequence, choice, list, Table, kindOf, membersOf}
 use Rattle.model.specs.Definitions.Content.{Content, end, char, elem}
 use Rattle.model.specs.Definitions.Conformance.{Holds, no-character, one-character, nothing, no-member, one-member, chosen, left-out, no-item, one-item}
 use Rattle.model.specs.Definitions.Templates.{firstIn}
 use Rattle.model.specs.Theorems.Facts.{WellFormed}
-use Rattle.rows.specs.Rows.{indexIn, FirstChild, of-text, of-empty, of-sequence, of-choice, of-nothing, of-list}
+use Rattle.rows.specs.FirstChildren.{index-within}
 use Rattle.measuring.specs.Measured.{typeAhead}
 use Rattle.measuring.proofs.Edges.{HasEdge, in-sequence, in-choice, in-list}
 
@@ -39,16 +35,6 @@ pub record ChildLeft (S : Table) (κ : Kind) (i t : ℕ) (k r : Content) : Type 
 pub child-of : {S : Table} {κ : Kind} {i t : ℕ} {k r : Content} → ContentLeft S κ i (elem t k r) → ChildLeft S κ i t k r
 child-of (child-left exists holds edge rest) = record { exists = exists; holds = holds; edge = edge; rest = rest }
 
--- a member of a list has a place in it
-member-index : (t : ℕ) (ms : List ℕ) → List·Memᴰ t ms → indexIn t ms < length ms
-unfolding indexIn pick
-member-index t (m ∷ ms) (List·Memᴰ·head e) = rw (eq-eqb t m e) (omega arith)
-member-index t (m ∷ ms) (List·Memᴰ·tail e) = go (eqb t m) (member-index t ms e)
-  where
-    go : (b : Bool) → indexIn t ms < length ms → pick b 0 (suc (indexIn t ms)) < suc (length ms)
-    go true less = omega arith
-    go false less = omega (arith, less)
-
 module _ (S : Table) where
   left-text : {i : ℕ} {k : Content} → Holds S text k → ContentLeft S text i k
   left-text no-character = none-left
@@ -68,7 +54,7 @@ module _ (S : Table) where
 
   -- the member of a choice, or nothing
   left-choice : {need : Need} {ms : List ℕ} {k : Content} → ((m : ℕ) → List·Memᴰ m ms → m < length S) → Holds S (choice need ms) k → ContentLeft S (choice need ms) 0 k
-  left-choice exist (chosen {m = m} {ms = ms} e hk) = child-left (exist m e) hk (in-choice (member-index m ms e)) none-left
+  left-choice exist (chosen {m = m} {ms = ms} e hk) = child-left (exist m e) hk (in-choice (index-within m ms e)) none-left
   left-choice exist left-out = none-left
 
   -- all of conforming content
@@ -79,19 +65,6 @@ module _ (S : Table) where
   left-all (sequence ms) exist h = left-sequence (omega arith) exist h
   left-all (choice need ms) exist h = left-choice exist h
   left-all (list m) exist h = left-list (exist m (List·Memᴰ·head refl)) h
-
-  -- the first child of a choice is a member, or there is none
-  pub first-chosen : {κ : Kind} {k : Content} → Holds S κ k → FirstChild (firstIn k) κ
-  unfolding firstIn
-  first-chosen no-character = of-text
-  first-chosen (one-character a h) = of-text
-  first-chosen nothing = of-empty
-  first-chosen no-member = of-sequence
-  first-chosen (one-member hk hr) = of-sequence
-  first-chosen (chosen {m = m} {ms = ms} e hk) = of-choice (member-index m ms e)
-  first-chosen left-out = of-nothing
-  first-chosen no-item = of-list
-  first-chosen (one-item hk hr) = of-list
 
   -- conforming content has its first child at its start, if it has one
   no-child : {k : Content} → Holds S text k → firstIn k ≡ none

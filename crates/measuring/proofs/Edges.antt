@@ -6,7 +6,7 @@ use mathlib.Core.Option.{some}
 use Prim.Native.Nat.{ℕ, zero, suc, _+_, _*_, _≤_, _<_}
 use native.Mathlib.Nat.{add-zero, add-suc, suc-add}
 use native.Mathlib.Omega.{arith}
-use lib.ListN.{length, drop, getD, length-take}
+use lib.ListN.{length, getD}
 use lib.Dec.{eqb}
 use Rattle.model.specs.Definitions.Basics.{pick}
 use Rattle.model.specs.Definitions.Commands.{Need}
@@ -14,7 +14,8 @@ use Rattle.model.specs.Definitions.Table.{Kind, sequence, choice, list, Table, 
 use Rattle.model.specs.Definitions.Embedding.{Edge, pathsOf, firstPath, noMap}
 use Rattle.model.specs.Definitions.Image.{pathOfMember}
 use Rattle.model.specs.Definitions.Templates.{depthOf, around}
-use Rattle.loaded_table.specs.Loaded.{Bounded, tableBy, typesIn, kindsOf, countsOf, membersIn, kindFrom, kind-of, length-of}
+use Rattle.loaded_table.specs.Kinds.{each-code, below-lists, list-codes, few-edges}
+use Rattle.loaded_table.specs.Loaded.{Bounded, tableBy, typesIn, kindFrom, length-of}
 use Rattle.loaded_embedding.specs.Loaded.{stepsFrom, edgeIn, edgesFrom, mapsFrom, embeddingIn, embeddingBy, lengthsOf}
 use Rattle.rows.specs.Rows.{indexIn, memberIndex, rowIndex}
 use Rattle.measuring.specs.Measured.{edgeNumber}
@@ -29,46 +30,18 @@ number-of-sequence code count row i t e = rw e refl
 pub number-of-other : (code count : ℕ) (row : List ℕ) (i t : ℕ) → (code ≡ 2 → ⊥)
     → edgeNumber (kindFrom code count row) i t ≡ rowIndex (kindFrom code count row) (some t)
 unfolding edgeNumber rowIndex
-number-of-other zero count row i t other = refl
-number-of-other (suc zero) count row i t other = refl
-number-of-other (suc (suc zero)) count row i t other = absurd (other refl)
-number-of-other (suc (suc (suc zero))) count row i t other = refl
-number-of-other (suc (suc (suc (suc zero)))) count row i t other = refl
-number-of-other (suc (suc (suc (suc (suc code))))) count row i t other = refl
+number-of-other code count row i t =
+    each-code (λ (k : ℕ). (k ≡ 2 → ⊥) → edgeNumber (kindFrom k count row) i t ≡ rowIndex (kindFrom k count row) (some t))
+    (λ e. refl) (λ e. refl) (λ e. absurd (e refl)) (λ e. refl) (λ e. refl) (λ k e. refl) code
 
 -- something stands around the items of a list only
 pub around-list : (code count : ℕ) (row : List ℕ) (n : ℕ) → 5 ≤ code → around (kindFrom code count row) n ≡ n
 unfolding around
-around-list zero count row n large = absurd (omega arith)
-around-list (suc zero) count row n large = absurd (omega arith)
-around-list (suc (suc zero)) count row n large = absurd (omega arith)
-around-list (suc (suc (suc zero))) count row n large = absurd (omega arith)
-around-list (suc (suc (suc (suc zero)))) count row n large = absurd (omega arith)
-around-list (suc (suc (suc (suc (suc code))))) count row n large = refl
+around-list code count row n = list-codes (λ (k : ℕ). around (kindFrom k count row) n ≡ n) (λ k. refl) code
 
 pub around-other : (code count : ℕ) (row : List ℕ) (n : ℕ) → code < 5 → around (kindFrom code count row) n ≡ 0
 unfolding around
-around-other zero count row n small = refl
-around-other (suc zero) count row n small = refl
-around-other (suc (suc zero)) count row n small = refl
-around-other (suc (suc (suc zero))) count row n small = refl
-around-other (suc (suc (suc (suc zero)))) count row n small = refl
-around-other (suc (suc (suc (suc (suc code))))) count row n small = absurd (omega arith)
-
--- a type has at most 16 edges
-edges-from : (code count : ℕ) (row : List ℕ) → count ≤ 16 → edgesOf (kindFrom code count row) ≤ 16
-unfolding edgesOf
-edges-from zero count row few = omega arith
-edges-from (suc zero) count row few = omega arith
-edges-from (suc (suc zero)) count row few = omega (arith, length-take count row)
-edges-from (suc (suc (suc zero))) count row few = omega (arith, length-take count row)
-edges-from (suc (suc (suc (suc zero)))) count row few = omega (arith, length-take count row)
-edges-from (suc (suc (suc (suc (suc code))))) count row few = omega arith
-
-few-edges : {source : List ℕ} {s : ℕ} → Bounded source → s < typesIn source → edgesOf (kindOf (tableBy source) s) ≤ 16
-few-edges {source} {s} bounded exists =
-    rw (kind-of source s exists)
-    (edges-from (getD (kindsOf source) s 0) (getD (countsOf source) s 0) (drop (s * 16) (membersIn source)) (bounded .few-members s))
+around-other code count row n = below-lists (λ (k : ℕ). around (kindFrom k count row) n ≡ 0) refl refl refl refl refl code
 
 -- ---- a child's edge
 
@@ -84,9 +57,8 @@ number-below (in-sequence less) = less
 number-below (in-choice less) = less
 number-below in-list = omega arith
 
-pub number-few : {source : List ℕ} {s i t : ℕ} → Bounded source → s < typesIn source → HasEdge i t (kindOf (tableBy source) s)
-    → edgeNumber (kindOf (tableBy source) s) i t < 16
-number-few bounded exists edge = omega (arith, number-below edge, few-edges bounded exists)
+pub number-few : {source : List ℕ} (s : ℕ) {i t : ℕ} → Bounded source → HasEdge i t (kindOf (tableBy source) s) → edgeNumber (kindOf (tableBy source) s) i t < 16
+number-few {source} s bounded edge = omega (arith, number-below edge, few-edges source bounded s)
 
 -- ---- the steps of its path
 

@@ -17,8 +17,9 @@ use Rattle.scanning.specs.Scanning.{ContentAt}
 use Rattle.scanning.specs.Laws.{content-within}
 use Rattle.rows.specs.Rows.{levelsIn, bytesIn, fillerIn, sourceRow, itemRow, SizeAt}
 use Rattle.measuring.specs.Measured.{edgeNumber, typeAhead, Held, Given, Measured}
+use Rattle.rows.specs.FirstChildren.{first-chosen}
 use Rattle.measuring.proofs.Edges.{number-few, child-steps}
-use Rattle.measuring.proofs.Content.{left-of, first-chosen, first-ahead}
+use Rattle.measuring.proofs.Content.{left-of, first-ahead}
 use Rattle.measuring.proofs.Counting.{Counted, Around, counted-within, counted-opens, counted-done, counted-letter, counted-child, counted-next, opened}
 
 -- a size around items that is held, is held
@@ -98,7 +99,7 @@ module _ {source map sizes tr : List ℕ} {s from : ℕ} where
         → SizeAt sizes row (ownLevels (givenSetting g) s (firstIn (g .held))) (ownLength (givenSetting g) s (firstIn (g .held))) (ownFiller (givenSetting g) s (firstIn (g .held)))
     own-at g =
         let same : first ≡ firstIn (g .held) = firsts (g .held) (g .there) ∙ first-ahead (tableBy source) (g .holds) in
-        let own = g .sized .own-size s (firstIn (g .held)) (exists-in g) (first-chosen (tableBy source) (g .holds)) in
+        let own = g .sized .own-size s (firstIn (g .held)) (exists-in g) (first-chosen (g .holds)) in
         rw (is-row, same) own
 
     -- at the start all of the content is left
@@ -181,7 +182,7 @@ module _ {source map sizes tr : List ℕ} {s from : ℕ} where
             rw (type-is given)
             record {
               two = turn-opens;
-              few = number-few (given .bounded) (given .exists) (counted-child (now .counted given) first .edge);
+              few = number-few s (given .bounded) (counted-child (now .counted given) first .edge);
               given = child-given given;
             }
 

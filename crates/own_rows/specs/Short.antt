@@ -14,7 +14,7 @@ use Rattle.model.specs.Definitions.Templates.{closing, rowOf}
 use Rattle.model.specs.Theorems.Facts.{All, all-none, all-more}
 use Rattle.loaded_table.specs.Loaded.{Bounded, tableBy, typesIn, kindsOf, countsOf, membersIn, length-of, kind-of}
 use Rattle.loaded_embedding.specs.Loaded.{startsOf, lengthsOf, stepsFrom}
-use Rattle.rows.specs.Laws.{code-sequence}
+use Rattle.loaded_table.specs.Kinds.{code-sequence}
 use Rattle.growing.specs.declared.Edges.{Edges}
 use Rattle.growing.specs.Growing.{placementOf, placementsOf, Task, elementRow}
 use Rattle.growing.specs.Parts.{held, first-path, row-built}

@@ -16,9 +16,9 @@ use Rattle.loaded_embedding.specs.Loaded.{PathsBounded, targetsOf}
 use Rattle.loaded_setting.specs.Ready.{settingIn, Ready}
 use Rattle.paths.specs.Following.{pathsFrom}
 use Rattle.paths.specs.Edges.{target-is, kind-is, is-sequence, row-edges, few}
-use Rattle.loaded_table.specs.Kinds.{other-code}
+use Rattle.loaded_table.specs.Kinds.{other-code, code-list}
 use Rattle.rows.specs.Rows.{rowIndex, sourceRow, itemRow, FirstChild, HasRow, HasRows, IsWord, typeRow, rowsBefore}
-use Rattle.rows.specs.Laws.{row-of-other, code-list}
+use Rattle.rows.specs.Laws.{row-of-other}
 use Rattle.growing.specs.declared.Edges.{Edges}
 use Rattle.growing.specs.Growing.{placementsFrom, placementsOf, PathsReadable, Task, elementRow, stepBound}
 use Rattle.row_sizes.specs.Sizes.{source-index-small}

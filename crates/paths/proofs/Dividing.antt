@@ -7,11 +7,12 @@ use lib.ListN.{length, drop, getD}
 use Rattle.model.specs.Definitions.Table.{Kind, text, empty, sequence, choice, list, Table, kindOf}
 use Rattle.model.specs.Definitions.Embedding.{next, Divided, divide, divideAt}
 use Rattle.model.specs.Theorems.Placing.{walks-step, list-step, item-next}
+use Rattle.loaded_table.specs.Kinds.{below-lists, list-code}
 use Rattle.loaded_table.specs.Loaded.{kindFrom, kindIn, tableBy, kindsOf, countsOf, membersIn}
 use Rattle.loaded_embedding.specs.Loaded.{stepsFrom}
 use Rattle.paths.specs.declared.Cut.{Cut}
 use Rattle.paths.specs.Following.{Followable, Taken, Cuts}
-use Rattle.paths.specs.Stepping.{list-code, steps-here, walks-here, kind-here, next-here, follow-on, follow-start}
+use Rattle.paths.specs.Stepping.{steps-here, walks-here, kind-here, next-here, follow-on, follow-start}
 
 -- ---- the parts of a path, by the number of steps before the division
 
@@ -68,12 +69,9 @@ record Same (d e : Divided) : Type 0 where
 
 divide-other : (code count : ℕ) (row : List ℕ) (p : ℕ) (ps : List ℕ) (d : Divided) → code < 5 → Same (divideAt (kindFrom code count row) p ps d) d
 unfolding divideAt
-divide-other zero count row p ps d h = record { longer = refl; item = refl }
-divide-other (suc zero) count row p ps d h = record { longer = refl; item = refl }
-divide-other (suc (suc zero)) count row p ps d h = record { longer = refl; item = refl }
-divide-other (suc (suc (suc zero))) count row p ps d h = record { longer = refl; item = refl }
-divide-other (suc (suc (suc (suc zero)))) count row p ps d h = record { longer = refl; item = refl }
-divide-other (suc (suc (suc (suc (suc code))))) count row p ps d h = absurd (omega arith)
+divide-other code count row p ps d =
+    let longer : Same (record { before = p ∷ d .before; item = d .item; rest = d .rest }) d = record { longer = refl; item = refl } in
+    below-lists (λ (k : ℕ). Same (divideAt (kindFrom k count row) p ps d) d) longer longer longer longer longer code
 
 -- ---- the loop
 

@@ -16,11 +16,10 @@ use Rattle.model.specs.Theorems.Facts.{Walks, MemberPath, Along, along-none, al
 use Rattle.model.specs.Theorems.Tools.{true-false}
 use Rattle.model.specs.Theorems.ImageConforms.{list-left}
 use Rattle.loaded_table.specs.Loaded.{kindFrom, kindIn, typesIn, kindsOf, countsOf, membersIn, length-of, kind-of}
-use Rattle.loaded_table.specs.Kinds.{choiceCode, needFrom, choice-from, choice-range}
+use Rattle.loaded_table.specs.Kinds.{choiceCode, needFrom, row-codes, choice-from, choice-range, list-code}
 use Rattle.loaded_embedding.specs.Loaded.{targetsOf, startsOf, lengthsOf, stepsFrom, edgesFrom, edgeIn, mapsFrom, embeddingIn}
 use Rattle.loaded_setting.specs.Ready.{settingIn, Ready}
 use Rattle.paths.specs.Following.{Followable, pathAt, pathsFrom}
-use Rattle.paths.specs.Stepping.{list-code}
 
 -- ---- what a loaded embedding says of one source type
 
@@ -99,12 +98,8 @@ in-row (m ∷ row) (suc n) (suc i) less few = List·Memᴰ·tail (in-row row n i
 -- the members and edges of a sequence or a choice
 row-code : (code count : ℕ) (row : List ℕ) → 2 ≤ code → code < 5 → (edgesOf (kindFrom code count row) ≡ length (take count row)) × (membersOf (kindFrom code count row) ≡ take count row)
 unfolding edgesOf membersOf
-row-code zero count row low high = absurd (omega arith)
-row-code (suc zero) count row low high = absurd (omega arith)
-row-code (suc (suc zero)) count row low high = (refl, refl)
-row-code (suc (suc (suc zero))) count row low high = (refl, refl)
-row-code (suc (suc (suc (suc zero)))) count row low high = (refl, refl)
-row-code (suc (suc (suc (suc (suc code))))) count row low high = absurd (omega arith)
+row-code code count row =
+    row-codes (λ (k : ℕ). (edgesOf (kindFrom k count row) ≡ length (take count row)) × (membersOf (kindFrom k count row) ≡ take count row)) (refl, refl) (refl, refl) (refl, refl) code
 
 module _ {source target map em : List ℕ} (ready : Ready source target map em) {σ : ℕ} (exists : σ < typesIn source) where
   abbrev X : Setting

@@ -1,28 +1,19 @@
 -- One step of a path that can be followed: by a loaded table, and in the model.
-use mathlib.Core.Path.{_≡_, refl, sym, _∙_}
+use mathlib.Core.Path.{_≡_, sym, _∙_}
 use mathlib.Core.List.{List, [], _∷_, List·Memᴰ}
-use Prim.Native.Nat.{ℕ, zero, suc, _+_, _-_, _*_, _≤_, _<_}
+use Prim.Native.Nat.{ℕ, suc, _+_, _-_, _*_, _≤_, _<_}
 use native.Mathlib.Omega.{arith}
 use lib.ListN.{length, drop, getD}
 use lib.Seq.{getD-drop}
-use Rattle.model.specs.Definitions.Table.{list, Table, kindOf, membersOf, stepFrom}
+use Rattle.model.specs.Definitions.Table.{Table, kindOf, membersOf, stepFrom}
 use Rattle.model.specs.Definitions.Embedding.{next}
 use Rattle.model.specs.Theorems.Facts.{Walks}
 use Rattle.model.specs.Theorems.Tools.{entry-member}
 use Rattle.model.specs.Theorems.Placing.{walks-step, walks-rest}
-use Rattle.loaded_table.specs.Loaded.{kindFrom, kindIn, tableBy, kindsOf, countsOf, membersIn, length-of, kind-of}
+use Rattle.loaded_table.specs.Loaded.{kindIn, tableBy, kindsOf, countsOf, membersIn, length-of, kind-of}
 use Rattle.loaded_table.specs.Steps.{step-in-row}
 use Rattle.loaded_embedding.specs.Loaded.{stepsFrom}
 use Rattle.paths.specs.Following.{Followable, Taken}
-
--- a code above the others is a list's
-pub list-code : (code count : ℕ) (row : List ℕ) → 5 ≤ code → kindFrom code count row ≡ list (getD row 0 0)
-list-code zero count row h = absurd (omega arith)
-list-code (suc zero) count row h = absurd (omega arith)
-list-code (suc (suc zero)) count row h = absurd (omega arith)
-list-code (suc (suc (suc zero))) count row h = absurd (omega arith)
-list-code (suc (suc (suc (suc zero)))) count row h = absurd (omega arith)
-list-code (suc (suc (suc (suc (suc code))))) count row h = refl
 
 -- ---- a turn of a loop over the steps of a path: d steps are taken, which led to type t
 

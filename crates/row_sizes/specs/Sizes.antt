@@ -13,6 +13,7 @@ use Rattle.model.specs.Definitions.Filler.{fillerLength}
 use Rattle.model.specs.Definitions.Templates.{Symbol, opening, closing, filler, hole, rowLength, rowLevels, rowFiller, template, itemTemplate, dividedOf, ownLength, ownFiller, ownLevels, itemLength, itemFiller, itemLevels}
 use Rattle.model.specs.Theorems.Facts.{All, all-none, all-more}
 use Rattle.model.specs.Theorems.Templates.{TypeBelow, template-types, item-types}
+use Rattle.loaded_table.specs.Kinds.{each-code}
 use Rattle.loaded_table.specs.Loaded.{Bounded, Kept, kindFrom, tableBy, typesIn, kindsOf, countsOf, membersIn, length-of, kind-of}
 use Rattle.loaded_setting.specs.Ready.{settingIn, Ready}
 use Rattle.rows.specs.Rows.{memberIndex, rowIndex, sourceRow, itemRow, FirstChild, of-choice, of-nothing, Rows, SizeAt, Sizes, HasRows, rowsBefore}
@@ -68,12 +69,8 @@ rowCount (suc (suc (suc (suc zero)))) count = count + 1
 rowCount (suc (suc (suc (suc (suc code))))) count = 1
 
 pub row-count-small : (code count : ℕ) → count ≤ 16 → rowCount code count ≤ 17
-row-count-small zero count few = omega arith
-row-count-small (suc zero) count few = omega arith
-row-count-small (suc (suc zero)) count few = omega arith
-row-count-small (suc (suc (suc zero))) count few = omega arith
-row-count-small (suc (suc (suc (suc zero)))) count few = omega arith
-row-count-small (suc (suc (suc (suc (suc code))))) count few = omega arith
+row-count-small code count few =
+    each-code (λ (k : ℕ). rowCount k count ≤ 17) (omega arith) (omega arith) (omega arith) (omega arith) (omega arith) (λ k. omega arith) code
 
 -- the place of the first child of a choice: among its members, or behind them where it needs none
 pub choice-below : {t : Option ℕ} {need : Need} {ms : List ℕ} → FirstChild t (choice need ms) → (memberIndex t ms ≤ length ms) × (need ≡ needed → memberIndex t ms < length ms)
@@ -83,12 +80,10 @@ choice-below of-nothing = (omega arith, λ e. let z : _≡_ {A = ℕ} 0 1 = cc i
 
 index-below : (code count : ℕ) {t : Option ℕ} (row : List ℕ) → FirstChild t (kindFrom code count row) → rowIndex (kindFrom code count row) t < rowCount code count
 unfolding rowIndex
-index-below zero count row chosen = omega arith
-index-below (suc zero) count row chosen = omega arith
-index-below (suc (suc zero)) count row chosen = omega arith
-index-below (suc (suc (suc zero))) count row chosen = omega (arith, choice-below chosen .1 refl, length-take count row)
-index-below (suc (suc (suc (suc zero)))) count row chosen = omega (arith, choice-below chosen .0, length-take count row)
-index-below (suc (suc (suc (suc (suc code))))) count row chosen = omega arith
+index-below code count {t} row =
+    each-code (λ (k : ℕ). FirstChild t (kindFrom k count row) → rowIndex (kindFrom k count row) t < rowCount k count)
+    (λ chosen. omega arith) (λ chosen. omega arith) (λ chosen. omega arith)
+    (λ chosen. omega (arith, choice-below chosen .1 refl, length-take count row)) (λ chosen. omega (arith, choice-below chosen .0, length-take count row)) (λ k chosen. omega arith) code
 
 -- which of its rows a source type takes
 pub source-index-below : (source : List ℕ) (s : ℕ) (t : Option ℕ) → s < typesIn source → FirstChild t (kindOf (tableBy source) s)

@@ -19,7 +19,7 @@ use Rattle.model.specs.Theorems.Templates.{writes-again}
 use Rattle.row_traversal.specs.Model.{item-symbols}
 use Rattle.row_traversal.specs.Contents.{partFrom, at-part, inside-part, ChildThere, Behind, element-behind, RowIs}
 use Rattle.row_traversal.specs.Asked.{Prepared, preparedSetting, ChildAsked, ElementAsked, ListOf, itemBytes, own-row, item-row, RowAsked}
-use Rattle.row_traversal.specs.RowNumbers.{first-chosen}
+use Rattle.rows.specs.FirstChildren.{first-chosen}
 use Rattle.row_traversal.specs.Turns.{filled-same}
 
 -- ---- the row of an element

@@ -1,51 +1,24 @@
 -- The numbers of rows: which row an element takes, and the order of calls.
 use mathlib.Core.Path.{_≡_, refl, sym, ap, _∙_}
 use mathlib.Core.Bool.{Bool, true, false}
-use mathlib.Core.List.{List, [], _∷_, List·Memᴰ, List·Memᴰ·head, List·Memᴰ·tail}
+use mathlib.Core.List.{List, []}
 use mathlib.Core.Option.{Option}
-use Prim.Native.Nat.{ℕ, suc, _+_, _-_, _*_, _≤_, _<_, _%_}
+use Prim.Native.Nat.{ℕ, _+_, _-_, _*_, _≤_, _<_, _%_}
 use native.Mathlib.Nat.{mul-add-mod-self-right, mod-eq-of-lt}
 use native.Mathlib.Omega.{arith}
 use lib.ListN.{length, drop, getD, length-take}
 use lib.Dec.{eqb}
-use borrow.Author.Tests.{eq-eqb}
 use Rattle.model.specs.Definitions.Basics.{pick}
 use Rattle.model.specs.Definitions.Commands.{Need}
 use Rattle.model.specs.Definitions.Table.{Kind, text, empty, sequence, choice, list, Table, kindOf}
-use Rattle.model.specs.Definitions.Content.{Content}
-use Rattle.model.specs.Definitions.Conformance.{Holds, no-character, one-character, nothing, no-member, one-member, chosen, left-out, no-item, one-item}
-use Rattle.model.specs.Definitions.Templates.{firstIn}
 use Rattle.loaded_table.specs.Loaded as loaded_table
 use Rattle.loaded_table.specs.Loaded.{tableBy, kindsOf, countsOf, membersIn, kindFrom, kind-of, length-of}
 use Rattle.loaded_table.specs.Kinds.{code-choice}
-use Rattle.rows.specs.Rows.{indexIn, memberIndex, rowIndex, sourceRow, itemRow, FirstChild, of-text, of-empty, of-sequence, of-choice, of-nothing, of-list}
+use Rattle.rows.specs.Rows.{memberIndex, rowIndex, sourceRow, itemRow, FirstChild, of-choice, of-nothing}
 
 -- a choice has at most 16 members
 few-members : (code count : ℕ) (row : List ℕ) {need : Need} {ms : List ℕ} → kindFrom code count row ≡ choice need ms → count ≤ 16 → length ms ≤ 16
 few-members code count row e few = omega (arith, ap length (code-choice code count row e .2), length-take count row)
-
--- a member's index is below the number of members
-index-within : (t : ℕ) (ms : List ℕ) → List·Memᴰ t ms → indexIn t ms < length ms
-unfolding indexIn
-index-within t (m ∷ ms) (List·Memᴰ·head e) = rw (eq-eqb t m e) (unfold pick in omega arith)
-index-within t (m ∷ ms) (List·Memᴰ·tail later) = go (eqb t m) (index-within t ms later)
-  where
-    go : (b : Bool) → indexIn t ms < length ms → pick b 0 (suc (indexIn t ms)) < suc (length ms)
-    go true less = unfold pick in omega arith
-    go false less = unfold pick in omega arith
-
--- the first child of conforming content is one that can be first
-pub first-chosen : {S : Table} {κ : Kind} {k : Content} → Holds S κ k → FirstChild (firstIn k) κ
-unfolding firstIn
-first-chosen no-character = of-text
-first-chosen (one-character ok later) = of-text
-first-chosen nothing = of-empty
-first-chosen no-member = of-sequence
-first-chosen (one-member h later) = of-sequence
-first-chosen (chosen {m = m} {ms = ms} mem h) = of-choice (index-within m ms mem)
-first-chosen left-out = of-nothing
-first-chosen no-item = of-list
-first-chosen (one-item h later) = of-list
 
 -- the row of a choice is that of a member, or the one behind them
 choice-index : {t : Option ℕ} {need : Need} {ms : List ℕ} → FirstChild t (choice need ms) → memberIndex t ms ≤ length ms

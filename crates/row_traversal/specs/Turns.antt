@@ -23,7 +23,8 @@ use Rattle.row_traversal.specs.Contents.{afterFirst, SomeChild, sequence
 use Rattle.row_traversal.specs.Asked.{preparedSetting, FillerAsked, PlainAsked, an-opening, a-filler, the-characters, a-closing, ChildAsked, ItemsAsked, RowOf, own-row, item-row, RowAsked}
 use Rattle.row_traversal.specs.Symbols.{Meaning, opens, fills, child-there, text-there, items-there, closes, meaning, filler-symbol, child-symbol, characters-symbol, items-symbol, symbolBytes, row-first, row-done, symbol-in, opening-bytes, filler-bytes, child-bytes, characters-bytes, items-bytes, closing-bytes}
 use Rattle.row_traversal.specs.FillerRows.{fillers-of}
-use Rattle.row_traversal.specs.RowNumbers.{first-chosen, index-small, rank, list-rank}
+use Rattle.rows.specs.FirstChildren.{first-chosen}
+use Rattle.row_traversal.specs.RowNumbers.{index-small, rank, list-rank}
 
 -- ---- the symbols of a row
 

@@ -1,18 +1,16 @@
--- Laws of rows by number, of kinds by their codes, and of the three numbers that are stored for a row.
+-- Laws of rows by number, and of the three numbers that are stored for a row.
 use mathlib.Core.Path.{_≡_, refl, sym, ap, _∙_}
 use mathlib.Core.List.{List, [], _∷_}
 use mathlib.Core.Option.{Option, none, some}
 use mathlib.Core.Bool.{true, false}
-use Prim.Native.Nat.{ℕ, zero, suc, _+_, _-_, _*_, _≤_, _<_, min}
+use Prim.Native.Nat.{ℕ, zero, suc, _+_, _-_, _*_, _<_, min}
 use native.Mathlib.Omega.{arith}
 use lib.ListN.{length, take, drop, getD, set, length-set}
 use lib.Seq.{drop-cons, getD-set-same, getD-set-other}
 use borrow.Author.Tests.{eq-eqb, ne-eqb}
 use Rattle.model.specs.Definitions.Basics.{pick, entry}
-use Rattle.model.specs.Definitions.Table.{sequence, list}
-use Rattle.model.specs.Theorems.Tools.{true-false}
 use Rattle.loaded_table.specs.Loaded.{kindFrom}
-use Rattle.loaded_table.specs.Kinds.{choiceCode, choice-from}
+use Rattle.loaded_table.specs.Kinds.{choiceCode, other-codes, choice-from}
 use Rattle.rows.specs.Rows.{indexIn, memberIndex, firstFrom, rowIndex, SizeAt, HasRow, setRow}
 
 -- the place of t in a part of a list: none are left; it stands first; another does
@@ -43,12 +41,7 @@ row-of-choice t code count row e = rw (choice-from code count row e) refl
 
 pub row-of-other : (t : Option ℕ) (code count : ℕ) (row : List ℕ) → choiceCode code ≡ false → rowIndex (kindFrom code count row) t ≡ 0
 unfolding rowIndex
-row-of-other t zero count row e = refl
-row-of-other t (suc zero) count row e = refl
-row-of-other t (suc (suc zero)) count row e = refl
-row-of-other t (suc (suc (suc zero))) count row e = true-false refl e
-row-of-other t (suc (suc (suc (suc zero)))) count row e = true-false refl e
-row-of-other t (suc (suc (suc (suc (suc code))))) count row e = refl
+row-of-other t code count row = other-codes (λ (k : ℕ). rowIndex (kindFrom k count row) t ≡ 0) refl refl refl (λ k. refl) code
 
 -- the type of the first child, as the code holds it
 pub first-none : (n : ℕ) → n ≡ 256 → firstFrom n ≡ none
@@ -58,24 +51,6 @@ first-none n e = rw (eq-eqb n 256 e) refl
 pub first-some : (n : ℕ) → (n ≡ 256 → ⊥) → firstFrom n ≡ some n
 unfolding firstFrom pick
 first-some n e = rw (ne-eqb n 256 e) refl
-
--- ---- kinds by their codes
-
-pub code-sequence : (code count : ℕ) (row ms : List ℕ) → kindFrom code count row ≡ sequence ms → (code ≡ 2) × (take count row ≡ ms)
-code-sequence zero count row ms e = let z : _≡_ {A = ℕ} 0 1 = cc in absurd (omega arith)
-code-sequence (suc zero) count row ms e = let z : _≡_ {A = ℕ} 0 1 = cc in absurd (omega arith)
-code-sequence (suc (suc zero)) count row ms e = (refl, cc)
-code-sequence (suc (suc (suc zero))) count row ms e = let z : _≡_ {A = ℕ} 0 1 = cc in absurd (omega arith)
-code-sequence (suc (suc (suc (suc zero)))) count row ms e = let z : _≡_ {A = ℕ} 0 1 = cc in absurd (omega arith)
-code-sequence (suc (suc (suc (suc (suc code))))) count row ms e = let z : _≡_ {A = ℕ} 0 1 = cc in absurd (omega arith)
-
-pub code-list : (code count : ℕ) (row : List ℕ) (m : ℕ) → kindFrom code count row ≡ list m → (5 ≤ code) × (getD row 0 0 ≡ m)
-code-list zero count row m e = let z : _≡_ {A = ℕ} 0 1 = cc in absurd (omega arith)
-code-list (suc zero) count row m e = let z : _≡_ {A = ℕ} 0 1 = cc in absurd (omega arith)
-code-list (suc (suc zero)) count row m e = let z : _≡_ {A = ℕ} 0 1 = cc in absurd (omega arith)
-code-list (suc (suc (suc zero))) count row m e = let z : _≡_ {A = ℕ} 0 1 = cc in absurd (omega arith)
-code-list (suc (suc (suc (suc zero)))) count row m e = let z : _≡_ {A = ℕ} 0 1 = cc in absurd (omega arith)
-code-list (suc (suc (suc (suc (suc code))))) count row m e = (omega arith, cc)
 
 -- what stands at a place of a list is the entry of the next number
 pub entry-there : (ms : List ℕ) (j : ℕ) → j < length ms → entry (suc j) ms ≡ some (getD ms j 0)

@@ -1,3 +1,4 @@
 pub mod Rows
 pub mod Symbols
 pub mod Laws
+pub mod FirstChildren

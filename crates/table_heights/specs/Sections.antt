@@ -2,10 +2,11 @@
 use mathlib.Core.Path.{_≡_, refl, sym, ap, _∙_, subst}
 use mathlib.Core.List.{List}
 use mathlib.Core.Logic.{_⊎_, inl, inr, ⊎-elim}
-use Prim.Native.Nat.{ℕ, zero, suc, _+_, _-_, _*_, _≤_, _<_, min}
+use Prim.Native.Nat.{ℕ, _+_, _-_, _*_, _≤_, _<_, min}
 use native.Mathlib.Omega.{arith}
-use lib.ListN.{length, take, drop, getD, set, length-set, length-take, length-drop}
+use lib.ListN.{length, drop, getD, set, length-set, length-take, length-drop}
 use lib.Seq.{ext-getD, getD-set-other}
+use Rattle.loaded_table.specs.Kinds.{each-code}
 use Rattle.loaded_table.specs.Loaded.{kindFrom, typesIn, section, kindsOf, countsOf, membersIn, tableBy, Bounded, in-section, section-long, kind-of}
 use Rattle.model.specs.Definitions.Commands.{needed, optional}
 use Rattle.model.specs.Definitions.Table.{Kind, text, empty, sequence, choice, list, kindOf}
@@ -42,15 +43,12 @@ module _ (rows : List ℕ) (t : ℕ) {code : ℕ} (exists : t < typesIn rows) (i
   pub kind-other : (P : Kind → Type 0) → (code ≡ 2 → ⊥) → (code ≡ 3 → ⊥) → P text → P empty → ((ms : List ℕ) → P (choice optional ms)) → ((m : ℕ) → P (list m))
       → P (kindOf (tableBy rows) t)
   kind-other P no-sequence no-choice of-text of-empty of-optional of-list =
-      subst P (sym kind-by) (go code (getD (countsOf rows) t 0) (drop (t * 16) (membersIn rows)) no-sequence no-choice)
+      subst P (sym kind-by) (go code no-sequence no-choice)
     where
-      go : (k count : ℕ) (row : List ℕ) → (k ≡ 2 → ⊥) → (k ≡ 3 → ⊥) → P (kindFrom k count row)
-      go zero count row s c = of-text
-      go (suc zero) count row s c = of-empty
-      go (suc (suc zero)) count row s c = absurd (s refl)
-      go (suc (suc (suc zero))) count row s c = absurd (c refl)
-      go (suc (suc (suc (suc zero)))) count row s c = of-optional (take count row)
-      go (suc (suc (suc (suc (suc k))))) count row s c = of-list (getD row 0 0)
+      go : (k : ℕ) → (k ≡ 2 → ⊥) → (k ≡ 3 → ⊥) → P (kindFrom k (getD (countsOf rows) t 0) (drop (t * 16) (membersIn rows)))
+      go =
+          each-code (λ (k : ℕ). (k ≡ 2 → ⊥) → (k ≡ 3 → ⊥) → P (kindFrom k (getD (countsOf rows) t 0) (drop (t * 16) (membersIn rows))))
+          (λ s c. of-text) (λ s c. of-empty) (λ s c. absurd (s refl)) (λ s c. absurd (c refl)) (λ s c. of-optional _) (λ k s c. of-list _)
 
 -- ---- the same but for a section
 

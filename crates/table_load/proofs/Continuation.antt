@@ -8,6 +8,7 @@ use native.Mathlib.Numerals.{add-one}
 use native.Mathlib.Omega.{arith}
 use lib.ListN.{length, take, drop, getD, set, length-drop}
 use lib.Seq.{getD-set-same, getD-set-other, take-set-le, drop-set-add, take-suc-set}
+use Rattle.loaded_table.specs.Kinds.{each-code}
 use Rattle.loaded_table.specs.Loaded.{kindFrom, kindIn, tableFrom}
 use Rattle.model.specs.Definitions.Commands.{needed, optional}
 use Rattle.model.specs.Definitions.Table.{Kind, text, empty, sequence, choice, list, Table, TableTail}
@@ -29,21 +30,14 @@ continued (suc n) kinds counts members r =
 
 -- a kind whose members don't go on is what is loaded
 kind-more-none : (code count : ℕ) (row : List ℕ) → kindMore code count row [] ≡ kindFrom code count row
-kind-more-none zero count row = refl
-kind-more-none (suc zero) count row = refl
-kind-more-none (suc (suc zero)) count row = ap sequence (append-nil (take count row))
-kind-more-none (suc (suc (suc zero))) count row = ap (choice needed) (append-nil (take count row))
-kind-more-none (suc (suc (suc (suc zero)))) count row = ap (choice optional) (append-nil (take count row))
-kind-more-none (suc (suc (suc (suc (suc code))))) count row = refl
+kind-more-none code count row =
+    let none-more : take count row ++ [] ≡ take count row = append-nil (take count row) in
+    each-code (λ (k : ℕ). kindMore k count row [] ≡ kindFrom k count row) refl refl (ap sequence none-more) (ap (choice needed) none-more) (ap (choice optional) none-more) (λ k. refl) code
 
 -- a kind is the same in rows with the same first entries
 kind-from-same : (code count : ℕ) (row other : List ℕ) → take count row ≡ take count other → getD row 0 0 ≡ getD other 0 0 → kindFrom code count row ≡ kindFrom code count other
-kind-from-same zero count row other p q = refl
-kind-from-same (suc zero) count row other p q = refl
-kind-from-same (suc (suc zero)) count row other p q = ap sequence p
-kind-from-same (suc (suc (suc zero))) count row other p q = ap (choice needed) p
-kind-from-same (suc (suc (suc (suc zero)))) count row other p q = ap (choice optional) p
-kind-from-same (suc (suc (suc (suc (suc code))))) count row other p q = ap list q
+kind-from-same code count row other p q =
+    each-code (λ (k : ℕ). kindFrom k count row ≡ kindFrom k count other) refl refl (ap sequence p) (ap (choice needed) p) (ap (choice optional) p) (λ k. ap list q) code
 
 module _ (kinds counts members : List ℕ) where
   -- one type more at the end

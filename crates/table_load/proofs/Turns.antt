@@ -19,6 +19,8 @@ use Rattle.model.specs.Definitions.TableChecks.{TableState, noType, whole, memb
 use Rattle.model.specs.Theorems.JudgedTables.{goes-if}
 use Rattle.model.specs.Theorems.Runs.{passes-fails, goes-stops}
 use Rattle.model.specs.Theorems.Reading.{rawAt, ReadsAt, left-stops, left-goes, table-reads, no-table-commands}
+use Rattle.table_form.proofs.FormMachine.{form-stops}
+use Rattle.table_form.proofs.Loop.{some-width}
 use Rattle.table_load.specs.Loading.{TableArrays, loadedIn, CountsCleared, begun, joined, puts, TypeMayBegin, MemberMayJoin, TableRoom, TablePut, TableLoaded}
 use Rattle.table_load.proofs.Continuation.{kindMore, TakesMembers, continued, continued-types, continued-begun, continued-joined, continued-list}
 use Rattle.table_load.proofs.Shapes.{TableShaped, shaped-cleared, shaped-begun, shaped-joined}
@@ -26,15 +28,7 @@ use Rattle.table_load.proofs.Rooms.{begun-joins}
 
 -- ---- the two machines
 
--- both refuse an alien command
-form-stops : (s : TableState) → tableStep s alien ≡ stops
-unfolding tableStep tableRole tableMove
-form-stops noType = refl
-form-stops whole = refl
-form-stops (members zero) = refl
-form-stops (members (suc k)) = refl
-form-stops tableEnded = refl
-
+-- the machine of the limits refuses an alien command, as that of the form does
 limit-stops : (n : TableCount) → limitStep n alien ≡ stops
 unfolding limitStep
 limit-stops n = refl
@@ -295,18 +289,6 @@ pub record TableTurn (bs : List ℕ) (a : TableArrays) (at : ℕ) (c : TableComm
   pub moves : 0 < tableWidth c
   pub next : TableLoading bs (puts a c) (at + tableWidth c)
 
--- a command has bytes
-width-some : (c : TableCommand) → 0 < tableWidth c
-unfolding tableWidth
-width-some textType = omega arith
-width-some emptyType = omega arith
-width-some sequenceType = omega arith
-width-some (choiceType need) = omega arith
-width-some (listType t) = omega arith
-width-some (member t) = omega arith
-width-some tableEnd = omega arith
-width-some alien = omega arith
-
 -- a command that the form's machine takes is not alien
 not-alien : (s then : TableState) (c : TableCommand) → tableStep s c ≡ goes then → c ≡ alien → ⊥
 not-alien s then c e same = goes-stops (rw same at e) (form-stops s)
@@ -323,7 +305,7 @@ turn-at bs a at c reads h =
     let put = put-loaded c (form .1) (limits .1) (subst (λ r. TableSoFar (h .form-state) (h .count-state) a r (tableOf bs)) rest-is (h .loaded)) in
     record {
       room = put .0;
-      moves = width-some c;
+      moves = some-width c refl;
       next =
           record {
             within = reads .within known;

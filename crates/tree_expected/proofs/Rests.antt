@@ -15,7 +15,7 @@ use Rattle.model.specs.Definitions.Basics.{memberOf}
 use Rattle.model.specs.Definitions.Commands.{Need, needed, optional}
 use Rattle.model.specs.Definitions.Table.{empty, sequence, list, isText}
 use Rattle.model.specs.Definitions.Conformance.{admits, after, complete}
-use Rattle.loaded_table.specs.Kinds.{needFrom}
+use Rattle.loaded_table.specs.Kinds.{needFrom, each-code, list-codes, choice-codes, choice-between}
 use Rattle.loaded_table.specs.Loaded.{kindFrom, kindsOf, countsOf, membersIn}
 use Rattle.tree_expected.specs.Expected.{restOfChoice, restFrom, restOf, TypeReadable, Opening}
 
@@ -38,12 +38,7 @@ row-long rows t r =
 
 -- before the first element it is the kind
 pub rest-none : (code count : ℕ) (row : List ℕ) → restFrom code count row 0 ≡ kindFrom code count row
-rest-none zero count row = refl
-rest-none (suc zero) count row = refl
-rest-none (suc (suc zero)) count row = refl
-rest-none (suc (suc (suc zero))) count row = refl
-rest-none (suc (suc (suc (suc zero)))) count row = refl
-rest-none (suc (suc (suc (suc (suc code))))) count row = refl
+rest-none code count row = each-code (λ (k : ℕ). restFrom k count row 0 ≡ kindFrom k count row) refl refl refl refl refl (λ k. refl) code
 
 -- the members of a sequence behind one more of them
 sequence-suc : (l : List ℕ) (had : ℕ) → sequence (drop (suc had) l) ≡ after (sequence (drop had l))
@@ -62,12 +57,7 @@ none-admits (suc (suc c)) n l h x low = absurd (omega arith)
 
 -- a choice of either kind
 choice-rest : (c n : ℕ) (l : List ℕ) (h : ℕ) → 3 ≤ c → c < 5 → restFrom c n l h ≡ restOfChoice (needFrom c) (take n l) h
-choice-rest zero n l h low high = absurd (omega arith)
-choice-rest (suc zero) n l h low high = absurd (omega arith)
-choice-rest (suc (suc zero)) n l h low high = absurd (omega arith)
-choice-rest (suc (suc (suc zero))) n l h low high = refl
-choice-rest (suc (suc (suc (suc zero)))) n l h low high = refl
-choice-rest (suc (suc (suc (suc (suc c))))) n l h low high = absurd (omega arith)
+choice-rest c n l h low high = choice-codes (λ (k : ℕ). restFrom k n l h ≡ restOfChoice (needFrom k) (take n l) h) refl refl c (choice-between c low high)
 
 -- after its member nothing may follow
 rest-chosen : (need : Need) (ms : List ℕ) (had : ℕ) → (had ≡ 0 → ⊥) → restOfChoice need ms had ≡ empty
@@ -76,12 +66,7 @@ rest-chosen need ms (suc had) h = refl
 
 -- a list stays what it is
 list-rest : (c n : ℕ) (l : List ℕ) (h : ℕ) → 5 ≤ c → restFrom c n l h ≡ list (getD l 0 0)
-list-rest zero n l h high = absurd (omega arith)
-list-rest (suc zero) n l h high = absurd (omega arith)
-list-rest (suc (suc zero)) n l h high = absurd (omega arith)
-list-rest (suc (suc (suc zero))) n l h high = absurd (omega arith)
-list-rest (suc (suc (suc (suc zero)))) n l h high = absurd (omega arith)
-list-rest (suc (suc (suc (suc (suc c))))) n l h high = refl
+list-rest c n l h = list-codes (λ (k : ℕ). restFrom k n l h ≡ list (getD l 0 0)) (λ k. refl) c
 
 -- ---- what the answer to an opening says, by the kind of the type
 
@@ -206,15 +191,10 @@ complete-optional ms (suc h) = refl
 -- anything else may
 pub complete-other : (rows : List ℕ) (m h : ℕ) → (getD (kindsOf rows) m 0 ≡ 2 → ⊥) → (getD (kindsOf rows) m 0 ≡ 3 → ⊥) → true ≡ complete (restOf rows m h)
 unfolding complete
-complete-other rows m h p q = go (getD (kindsOf rows) m 0) p q
-  where
-    go : (c : ℕ) → (c ≡ 2 → ⊥) → (c ≡ 3 → ⊥) → true ≡ complete (restFrom c (getD (countsOf rows) m 0) (drop (m * 16) (membersIn rows)) h)
-    go zero p q = refl
-    go (suc zero) p q = refl
-    go (suc (suc zero)) p q = absurd (p refl)
-    go (suc (suc (suc zero))) p q = absurd (q refl)
-    go (suc (suc (suc (suc zero)))) p q = complete-optional (take (getD (countsOf rows) m 0) (drop (m * 16) (membersIn rows))) h
-    go (suc (suc (suc (suc (suc c))))) p q = refl
+complete-other rows m h =
+    each-code (λ (k : ℕ). (k ≡ 2 → ⊥) → (k ≡ 3 → ⊥) → true ≡ complete (restFrom k (getD (countsOf rows) m 0) (drop (m * 16) (membersIn rows)) h))
+    (λ p q. refl) (λ p q. refl) (λ p q. absurd (p refl)) (λ p q. absurd (q refl)) (λ p q. complete-optional (take (getD (countsOf rows) m 0) (drop (m * 16) (membersIn rows))) h) (λ k p q. refl)
+    (getD (kindsOf rows) m 0)
 
 -- a choice is no text
 choice-text : (need : Need) (ms : List ℕ) (had : ℕ) → false ≡ isText (restOfChoice need ms had)
@@ -225,12 +205,9 @@ choice-text need ms (suc had) = refl
 -- only the code 0 is text
 rest-text : (code count : ℕ) (row : List ℕ) (had : ℕ) → eqb code 0 ≡ isText (restFrom code count row had)
 unfolding isText
-rest-text zero count row had = refl
-rest-text (suc zero) count row had = refl
-rest-text (suc (suc zero)) count row had = refl
-rest-text (suc (suc (suc zero))) count row had = choice-text needed (take count row) had
-rest-text (suc (suc (suc (suc zero)))) count row had = choice-text optional (take count row) had
-rest-text (suc (suc (suc (suc (suc code))))) count row had = eqb·suc-zero (suc (suc (suc (suc code))))
+rest-text code count row had =
+    each-code (λ (k : ℕ). eqb k 0 ≡ isText (restFrom k count row had))
+    refl refl refl (choice-text needed (take count row) had) (choice-text optional (take count row) had) (λ k. eqb·suc-zero (suc (suc (suc (suc k))))) code
 
 -- so it says whether an element of a type holds text
 pub text-here : (rows : List ℕ) (m h : ℕ) → eqb (getD (kindsOf rows) m 0) 0 ≡ isText (restOf rows m h)

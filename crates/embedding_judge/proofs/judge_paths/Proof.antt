@@ -6,8 +6,8 @@ use Rattle.loaded_table.specs.Loaded.{tableBy}
 use Rattle.loaded_embedding.specs.Loaded.{embeddingBy}
 use Rattle.model.specs.Definitions.EmbeddingChecks.{rootToRoot}
 use Rattle.answers.specs.declared.Judged.{Judged}
-use Rattle.embedding_ends.specs.declared.checks.Check.the-variants.{Ends, Steps, Clashes}
-use Rattle.embedding_ends.proofs.Each.{all-right}
+use Rattle.embedding_checks.specs.declared.Check.the-variants.{Ends, Steps, Clashes}
+use Rattle.embedding_checks.proofs.Each.{all-right}
 use Rattle.embedding_judge.proofs.Checks.{verdict-is, root-moved, root-kept, paths-right}
 use borrow.Author.Needs.{needs}
 use Rattle.embedding_judge.proofs.judge_paths.Statement.{statement}

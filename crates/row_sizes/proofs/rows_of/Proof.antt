@@ -1,11 +1,12 @@
 -- `rows_of` meets its contract: by the code of the kind.
-use mathlib.Core.Path.{_≡_, sym, ap, _∙_}
+use mathlib.Core.Path.{_≡_, refl, sym, ap, _∙_}
 use mathlib.Core.List.{List}
 use mathlib.Core.Option.{Option}
-use Prim.Native.Nat.{ℕ, zero, suc, _+_, _≤_, _<_}
+use Prim.Native.Nat.{ℕ, _+_, _≤_, _<_}
 use native.Mathlib.Omega.{arith}
 use lib.ListN.{getD}
 use Rattle.model.specs.Definitions.Table.{kindOf}
+use Rattle.loaded_table.specs.Kinds.{other-codes, other-code}
 use Rattle.loaded_table.specs.Loaded.{Bounded, tableBy, typesIn, kindsOf, countsOf}
 use Rattle.rows.specs.Rows.{rowIndex, FirstChild}
 use Rattle.row_sizes.specs.Sizes.{rowCount, row-count-small, source-index-below}
@@ -20,12 +21,7 @@ all-rows {source} bounded s exists e =
 
 -- a type that is no choice has one row
 one-row : (code count : ℕ) → (code ≡ 3 → ⊥) → (code ≡ 4 → ⊥) → 1 ≡ rowCount code count
-one-row zero count a b = omega arith
-one-row (suc zero) count a b = omega arith
-one-row (suc (suc zero)) count a b = omega arith
-one-row (suc (suc (suc zero))) count a b = absurd (a (omega arith))
-one-row (suc (suc (suc (suc zero)))) count a b = absurd (b (omega arith))
-one-row (suc (suc (suc (suc (suc code))))) count a b = omega arith
+one-row code count a b = other-codes (λ (k : ℕ). 1 ≡ rowCount k count) refl refl refl (λ k. refl) code (other-code code a b)
 
 returns : tie.Need-returns
 returns c =

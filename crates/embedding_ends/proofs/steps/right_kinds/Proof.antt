@@ -3,18 +3,16 @@ use mathlib.Core.Path.{_≡_}
 use mathlib.Core.Bool.{false}
 use Prim.Native.Nat.{ℕ}
 use Rattle.embedding_ends.specs.Kinds.{rightBy}
-use Rattle.embedding_form.proofs.Types.{past-four}
+use Rattle.loaded_table.specs.Kinds.{unmatched-code}
 use borrow.Author.Needs.{needs}
 use Rattle.embedding_ends.proofs.steps.right_kinds.Statement.{statement}
 use Rattle.embedding_ends.proofs.steps.right_kinds.Tie as tie
 
 returns-4 : tie.Need-returns-4
-returns-4 c = past-four (λ (k : ℕ). false ≡ rightBy k (c .before .before .args .left) (c .before .before .args .count)) (λ code. rw (c .if4 .taken)) _
-    (c .before .match .rest .0 .0 .0 .0 .1) (c .before .match .rest .0 .0 .0 .1) (c .before .match .rest .0 .0 .1) (c .before .match .rest .0 .1) (c .before .match .rest .1)
+returns-4 c = unmatched-code (λ (k : ℕ). false ≡ rightBy k (c .before .before .args .left) (c .before .before .args .count)) (λ code. rw (c .if4 .taken)) _ (c .before .match .rest)
 
 returns-10 : tie.Need-returns-10
-returns-10 c = past-four (λ (k : ℕ). c .before .before .args .left .list ≡ rightBy k (c .before .before .args .left) (c .before .before .args .count)) (λ code. rw (c .if4 .left)) _
-    (c .before .match .rest .0 .0 .0 .0 .1) (c .before .match .rest .0 .0 .0 .1) (c .before .match .rest .0 .0 .1) (c .before .match .rest .0 .1) (c .before .match .rest .1)
+returns-10 c = unmatched-code (λ (k : ℕ). c .before .before .args .left .list ≡ rightBy k (c .before .before .args .left) (c .before .before .args .count)) (λ code. rw (c .if4 .left)) _ (c .before .match .rest)
 
 pub right-kinds-spec : {M : Type 1} → statement M
 right-kinds-spec =

@@ -4,14 +4,13 @@ use mathlib.Core.Bool.{true}
 use Rattle.embedding_ends.specs.declared.steps.Left.{Left}
 use Prim.Native.Nat.{ℕ}
 use Rattle.embedding_ends.specs.Kinds.{withKind}
-use Rattle.embedding_form.proofs.Types.{past-four}
+use Rattle.loaded_table.specs.Kinds.{unmatched-code}
 use borrow.Author.Needs.{needs}
 use Rattle.embedding_ends.proofs.steps.with_kind.Statement.{statement}
 use Rattle.embedding_ends.proofs.steps.with_kind.Tie as tie
 
 returns-6 : tie.Need-returns-6
-returns-6 c = past-four (λ (k : ℕ). _≡_ {A = Left} (record { choice = c .before .args .left .choice; optional = c .before .args .left .optional; list = true }) (withKind (c .before .args .left) k)) (λ code. refl) _
-    (c .match .rest .0 .0 .0 .0 .1) (c .match .rest .0 .0 .0 .1) (c .match .rest .0 .0 .1) (c .match .rest .0 .1) (c .match .rest .1)
+returns-6 c = unmatched-code (λ (k : ℕ). _≡_ {A = Left} (record { choice = c .before .args .left .choice; optional = c .before .args .left .optional; list = true }) (withKind (c .before .args .left) k)) (λ code. refl) _ (c .match .rest)
 
 pub with-kind-spec : {M : Type 1} → statement M
 with-kind-spec =

@@ -1,14 +1,15 @@
-// Checks 8 to 10: each edge of each source type, in order.
-use super::agreement::agree;
-use super::ends::right_end;
-use super::steps::kinds_left;
-use super::steps::right_kinds;
+// Checks 8 to 10 of an embedding in loaded form: each edge of each source type, in order. specs/Tests.antt says what is asked of
+// an edge.
 use answers::Verdict;
 use codes::MAX_MEMBERS;
 use codes::MAX_STEPS;
 use embedding_clash::clash::clashes_before;
 use embedding_clash::path::paths_of;
 use embedding_clash::walk::end_of;
+use embedding_ends::agreement::agree;
+use embedding_ends::ends::right_end;
+use embedding_ends::steps::kinds_left;
+use embedding_ends::steps::right_kinds;
 use embedding_form::edges::edges_of;
 use loaded_embedding::MAP;
 use loaded_table::OPTIONAL;
@@ -20,8 +21,8 @@ ghost use Rattle.loaded_table.specs.Loaded.{tableBy, typesIn};
 ghost use Rattle.loaded_embedding.specs.Loaded.{embeddingBy};
 ghost use Rattle.model.specs.Definitions.Table.{kindOf};
 ghost use Rattle.embedding_clash.specs.Ready.{mapOf, Checkable, CheckableAt};
-ghost use Rattle.embedding_ends.specs.declared.checks.Check.the-variants as check;
-ghost use Rattle.embedding_ends.specs.Tests.{edgeRight, typeFault, firstFault};
+ghost use Rattle.embedding_checks.specs.declared.Check.the-variants as check;
+ghost use Rattle.embedding_checks.specs.Tests.{edgeRight, typeFault, firstFault};
 
 // What is asked of each edge: where its path ends, which kinds its steps leave, that it clashes with no earlier one; or all three,
 // which says whether every check passes, but not which one fails first.

@@ -14,10 +14,10 @@ use Rattle.loaded_embedding.specs.Loaded.{targetsOf, startsOf, lengthsOf, embed
 use Rattle.embedding_clash.specs.Ready.{mapOf}
 use Rattle.embedding_clash.specs.Edges.{edgeOf, clashesAt}
 use Rattle.embedding_clash.proofs.Arrays.{TypeAt, EdgeAt, in-length}
-use Rattle.embedding_ends.specs.declared.checks.Check.{Check}
-use Rattle.embedding_ends.specs.declared.checks.Check.the-variants.{Ends, Steps, All}
-use Rattle.embedding_ends.specs.Tests.{eachFrom, edgeRight, typeFault, firstFault}
-use Rattle.embedding_ends.proofs.Each.{edgeVerdict, each-starts, each-passes, each-fails, each-ends, right-passes, wrong-fails, type-each, all-each}
+use Rattle.embedding_checks.specs.declared.Check.{Check}
+use Rattle.embedding_checks.specs.declared.Check.the-variants.{Ends, Steps, All}
+use Rattle.embedding_checks.specs.Tests.{eachFrom, edgeRight, typeFault, firstFault}
+use Rattle.embedding_checks.proofs.Each.{edgeVerdict, each-starts, each-passes, each-fails, each-ends, right-passes, wrong-fails, type-each, all-each}
 
 -- ---- a check, on loaded tables and a loaded embedding
 

@@ -9,13 +9,13 @@ use Rattle.loaded_table.specs.Loaded.{tableBy}
 use Rattle.embedding_clash.specs.Edges.{edgeOf}
 use Rattle.embedding_clash.specs.Ready.{mapOf}
 use Rattle.embedding_clash.proofs.ClashLaws.{same-steps}
-use Rattle.embedding_ends.proofs.Here.{type-here, edge-here, few-before, path-here, walkable-here, first-here, count-first, optional-here}
+use Rattle.embedding_checks.proofs.Here.{type-here, edge-here, few-before, path-here, walkable-here, first-here, count-first, optional-here}
 use Rattle.embedding_ends.proofs.StepLaws.{kinds-right}
-use Rattle.embedding_ends.proofs.AgreeLaws.{kinds-wrong, nothing-more, first-decides}
+use Rattle.embedding_checks.proofs.StepsRight.{kinds-wrong, nothing-more, first-decides}
 use borrow.Author.Needs.{needs}
-use Rattle.embedding_ends.specs.Tests.{edgeRight}
-use Rattle.embedding_ends.proofs.checks.steps_right.Statement.{statement}
-use Rattle.embedding_ends.proofs.checks.steps_right.Tie as tie
+use Rattle.embedding_checks.specs.Tests.{edgeRight}
+use Rattle.embedding_checks.proofs.steps_right.Statement.{statement}
+use Rattle.embedding_checks.proofs.steps_right.Tie as tie
 
 -- the entry of the function, seen from where the kinds have been judged
 abbrev startOf : tie.After-right-kinds → tie.Start

@@ -3,10 +3,10 @@ use mathlib.Core.Path.{ap}
 use Prim.Native.Nat.{_-_}
 use native.Mathlib.Omega.{arith}
 use Rattle.answers.specs.Answers.{verdict}
-use Rattle.embedding_ends.proofs.Loops.{TypesLeft, types-start, type-passes, type-fails, types-end}
+use Rattle.embedding_checks.proofs.Loops.{TypesLeft, types-start, type-passes, type-fails, types-end}
 use borrow.Author.Needs.{needs}
-use Rattle.embedding_ends.proofs.checks.first_fault.Statement.{statement}
-use Rattle.embedding_ends.proofs.checks.first_fault.Tie as tie
+use Rattle.embedding_checks.proofs.first_fault.Statement.{statement}
+use Rattle.embedding_checks.proofs.first_fault.Tie as tie
 
 abbrev Inv-loop : tie.InvT-loop
 Inv-loop check source target em map types s₀ s = TypesLeft check source target em map types s

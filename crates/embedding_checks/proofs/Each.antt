@@ -18,9 +18,10 @@ use Rattle.loaded_embedding.specs.Loaded.{targetsOf, startsOf, lengthsOf, embed
 use Rattle.embedding_clash.specs.Ready.{Checkable}
 use Rattle.embedding_clash.proofs.Arrays.{in-length, type-at}
 use Rattle.embedding_clash.specs.Edges.{noEdge, edgeOf, passed, clashesBelow, clashesAt}
-use Rattle.embedding_ends.specs.declared.checks.Check.{Check}
-use Rattle.embedding_ends.specs.declared.checks.Check.the-variants.{Ends, Steps, Clashes, All}
-use Rattle.embedding_ends.specs.Tests.{eachFrom, endRight, stepsRight, edgeRight, typeFault, firstFault}
+use Rattle.embedding_checks.specs.declared.Check.{Check}
+use Rattle.embedding_checks.specs.declared.Check.the-variants.{Ends, Steps, Clashes, All}
+use Rattle.embedding_ends.specs.Ends.{endRight}
+use Rattle.embedding_checks.specs.Tests.{eachFrom, stepsRight, edgeRight, typeFault, firstFault}
 
 -- ---- a loop over checks i to n
 

@@ -1,29 +1,20 @@
 -- The checks of edges, edge by edge: what the code asks of edge i of a source type.
-use mathlib.Core.Bool.{Bool, true, not, _&&_}
-use mathlib.Core.List.{[], _∷_, map}
+use mathlib.Core.Bool.{Bool, not, _&&_}
+use mathlib.Core.List.{map}
 use Prim.Native.Nat.{ℕ, zero, suc}
-use lib.ListN.{getD}
-use lib.Dec.{eqb}
 use Rattle.model.specs.Definitions.Basics.{Verdict, passes, fails, pick, orElse}
-use Rattle.model.specs.Definitions.Table.{Kind, text, empty, sequence, choice, list, Table, kindOf, isText, edgesOf}
-use Rattle.model.specs.Definitions.Embedding.{Edge, TypeMap, Embedding, targetOf, endOf, leaves, firstPath}
+use Rattle.model.specs.Definitions.Table.{Kind, Table, edgesOf}
+use Rattle.model.specs.Definitions.Embedding.{Edge, TypeMap, Embedding, leaves, firstPath}
 use Rattle.model.specs.Definitions.EmbeddingChecks.{eachType, rightSteps, agrees, endsOf, stepsOf, clashesOf, wrongEnd, wrongSteps, pathClash}
 use Rattle.embedding_clash.specs.Edges.{edgeOf, clashesAt}
-use Rattle.embedding_ends.specs.declared.checks.Check.{Check}
-use Rattle.embedding_ends.specs.declared.checks.Check.the-variants.{Ends, Steps, Clashes, All}
+use Rattle.embedding_ends.specs.Ends.{endRight}
+use Rattle.embedding_checks.specs.declared.Check.{Check}
+use Rattle.embedding_checks.specs.declared.Check.the-variants.{Ends, Steps, Clashes, All}
 
 -- the verdict of k checks, the first of them check i
 unfoldable pub eachFrom : (ℕ → Verdict) → ℕ → ℕ → Verdict
 eachFrom check i zero = passes
 eachFrom check i (suc k) = orElse (check i) (eachFrom check (suc i) k)
-
--- check 8 for edge i of a source type of a kind: a character path ends at a text type, any other at what the member is mapped to
-unfoldable pub endRight : Embedding → Table → Kind → TypeMap → ℕ → Bool
-endRight E T text f i = isText (kindOf T (endOf T (f .target) (edgeOf f i .steps)))
-endRight E T empty f i = true
-endRight E T (sequence ms) f i = eqb (endOf T (f .target) (edgeOf f i .steps)) (targetOf E (getD ms i 0))
-endRight E T (choice need ms) f i = eqb (endOf T (f .target) (edgeOf f i .steps)) (targetOf E (getD ms i 0))
-endRight E T (list m) f i = eqb (endOf T (f .target) (edgeOf f i .steps)) (targetOf E (getD (m ∷ []) i 0))
 
 -- check 9 for edge i of a source type of a kind: which kinds its steps leave, and that it agrees with the type's first path
 unfoldable pub stepsRight : Table → Kind → TypeMap → ℕ → Bool

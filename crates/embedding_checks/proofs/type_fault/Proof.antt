@@ -4,9 +4,9 @@ use native.Mathlib.Omega.{arith}
 use Rattle.loaded_table.specs.Loaded.{tableBy}
 use Rattle.model.specs.Definitions.Table.{kindOf, edgesOf}
 use Rattle.embedding_clash.proofs.Arrays.{TypeAt, EdgeAt, type-at, edge-at}
-use Rattle.embedding_ends.proofs.Loops.{EdgesLeft, edges-start, edge-passes, edge-fails, edges-end}
-use Rattle.embedding_ends.proofs.checks.type_fault.Statement.{statement}
-use Rattle.embedding_ends.proofs.checks.type_fault.Tie as tie
+use Rattle.embedding_checks.proofs.Loops.{EdgesLeft, edges-start, edge-passes, edge-fails, edges-end}
+use Rattle.embedding_checks.proofs.type_fault.Statement.{statement}
+use Rattle.embedding_checks.proofs.type_fault.Tie as tie
 
 abbrev Inv-loop : tie.InvT-loop
 Inv-loop check source target em map s n paths i₀ i = EdgesLeft check source target em map s n i

@@ -2,10 +2,10 @@
 use mathlib.Core.Path.{ap}
 use mathlib.Core.Bool.{not}
 use borrow.Author.Needs.{needs}
-use Rattle.embedding_ends.specs.Tests.{edgeRight}
-use Rattle.embedding_ends.proofs.Loops.{end-wrong, step-wrong, clash-decides}
-use Rattle.embedding_ends.proofs.checks.edge_right.Statement.{statement}
-use Rattle.embedding_ends.proofs.checks.edge_right.Tie as tie
+use Rattle.embedding_checks.specs.Tests.{edgeRight}
+use Rattle.embedding_checks.proofs.Loops.{end-wrong, step-wrong, clash-decides}
+use Rattle.embedding_checks.proofs.edge_right.Statement.{statement}
+use Rattle.embedding_checks.proofs.edge_right.Tie as tie
 
 -- where all are asked for, the end is wrong
 returns : tie.Need-returns

@@ -2,11 +2,11 @@
 use mathlib.Core.Path.{sym, _∙_}
 use native.Mathlib.Omega.{arith}
 use Rattle.embedding_clash.proofs.ClashLaws.{same-steps}
-use Rattle.embedding_ends.proofs.Here.{type-here, edge-here, few-before, path-here, walkable-here}
+use Rattle.embedding_checks.proofs.Here.{type-here, edge-here, few-before, path-here, walkable-here}
 use borrow.Author.Needs.{needs}
-use Rattle.embedding_ends.specs.Tests.{edgeRight}
-use Rattle.embedding_ends.proofs.checks.ends_right.Statement.{statement}
-use Rattle.embedding_ends.proofs.checks.ends_right.Tie as tie
+use Rattle.embedding_checks.specs.Tests.{edgeRight}
+use Rattle.embedding_checks.proofs.ends_right.Statement.{statement}
+use Rattle.embedding_checks.proofs.ends_right.Tie as tie
 
 right-end-requires : tie.Need-right-end-requires
 right-end-requires c κs =

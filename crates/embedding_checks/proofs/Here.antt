@@ -1,28 +1,18 @@
 -- What a check of one edge knows of it.
-use mathlib.Core.Path.{_≡_, refl, sym, ap, _∙_}
+use mathlib.Core.Path.{_≡_, sym, ap, _∙_}
 use mathlib.Core.List.{List, []}
-use Prim.Native.Nat.{ℕ, zero, suc, _+_, _*_, _<_}
+use Prim.Native.Nat.{ℕ, _+_, _*_, _<_}
 use native.Mathlib.Nat.{add-zero}
 use native.Mathlib.Omega.{arith}
 use lib.ListN.{getD, drop}
 use lib.Dec.{eqb}
-use borrow.Author.Tests.{eq-eqb, ne-eqb}
 use Rattle.model.specs.Definitions.Table.{kindOf, isOptional}
-use Rattle.loaded_table.specs.Loaded.{kindFrom, tableBy, kindsOf, countsOf, membersIn}
+use Rattle.loaded_table.specs.Kinds.{optional-code}
+use Rattle.loaded_table.specs.Loaded.{tableBy, kindsOf, countsOf, membersIn}
 use Rattle.loaded_embedding.specs.Loaded.{targetsOf, lengthsOf}
 use Rattle.embedding_clash.specs.Paths.{Walkable, pathOf}
 use Rattle.embedding_clash.specs.Ready.{CheckableAt}
 use Rattle.embedding_clash.proofs.Arrays.{TypeAt, EdgeAt, type-at, edge-at}
-
--- the optional kind is the one with code 4
-optional-code : (code count : ℕ) (row : List ℕ) → isOptional (kindFrom code count row) ≡ eqb code 4
-unfolding isOptional
-optional-code zero count row = sym (ne-eqb 0 4 (λ e. omega arith))
-optional-code (suc zero) count row = sym (ne-eqb 1 4 (λ e. omega arith))
-optional-code (suc (suc zero)) count row = sym (ne-eqb 2 4 (λ e. omega arith))
-optional-code (suc (suc (suc zero))) count row = sym (ne-eqb 3 4 (λ e. omega arith))
-optional-code (suc (suc (suc (suc zero)))) count row = sym (eq-eqb 4 4 refl)
-optional-code (suc (suc (suc (suc (suc code))))) count row = sym (ne-eqb (suc (suc (suc (suc (suc code))))) 4 (λ e. omega arith))
 
 module _ {source target em map : List ℕ} {s i : ℕ} {paths : List (List ℕ)} (h : CheckableAt source target em map s i paths) where
   pub type-here : TypeAt source target em map s

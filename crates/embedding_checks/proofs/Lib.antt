@@ -1,0 +1,4 @@
+pub mod Each
+pub mod Loops
+pub mod Here
+pub mod StepsRight
