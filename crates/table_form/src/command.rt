@@ -15,7 +15,7 @@ ghost use Rattle.model.specs.Theorems.Reading.{rawAt};
 ghost use Rattle.table_form.specs.Read.{command};
 
 // A command, with its operand; `Alien` is a byte that is no command of a table, or one whose operand is missing. `Optional` stands
-// last, as its arm in `step` does: elsewhere the compiled loop of check 2 takes a quarter longer.
+// last, as its arm in `step` does: elsewhere the compiled loop of check 2 is up to a third slower.
 pub enum TableCommand {
     Text,
     Empty,

@@ -57,7 +57,7 @@ fn finish(s: State) -> Next
 }
 
 // What a command makes of the state, by its role. Two arms stand apart, for the compiled loop: with `List` joined to the one
-// above it, it is several times slower, and a quarter slower with `Optional` joined to `Sequence`.
+// above it, it is several times slower, and up to a third slower with `Optional` joined to `Sequence`.
 pub fn step(s: State, c: TableCommand) -> Next
     ensures { λ r. ⌜ next r ≡ tableStep (state s) (command c) ⌝ }
 {
