@@ -1,7 +1,7 @@
 -- The children of a source element before the first of them is read, by the kind of its type.
 use mathlib.Core.Path.{_≡_, refl, sym, ap, _∙_}
 use mathlib.Core.List.{List}
-use mathlib.Core.Option.{Option, none, some}
+use mathlib.Core.Option.{none, some}
 use Prim.Native.Nat.{ℕ, zero, suc, _+_, _-_, _*_, _≤_, _<_}
 use native.Mathlib.Nat.{add-zero}
 use native.Mathlib.Numerals.{add-one}
@@ -13,12 +13,11 @@ use Rattle.model.specs.Definitions.Content.{Content, end}
 use Rattle.model.specs.Definitions.Embedding.{targetOf, pathsOf, firstPath, Divided, divide, beforeChoice}
 use Rattle.model.specs.Definitions.Image.{Setting}
 use Rattle.model.specs.Definitions.Inverse.{follow}
-use Rattle.loaded_table.specs.Loaded.{kindFrom, typesIn, kindsOf, countsOf, membersIn}
+use Rattle.loaded_table.specs.Loaded.{kindFrom, tableBy, typesIn, kindsOf, countsOf, membersIn}
 use Rattle.loaded_table.specs.Kinds.{choiceCode}
 use Rattle.loaded_embedding.specs.Loaded.{targetsOf, startsOf, lengthsOf, stepsFrom}
 use Rattle.loaded_setting.specs.Ready.{settingIn, Ready}
 use Rattle.scanning.specs.Finding.{FoundContent}
-use Rattle.scanning.specs.Laws.{content-within}
 use Rattle.paths.specs.declared.Cut.{Cut}
 use Rattle.paths.specs.Following.{Followable, Cuts, pathsFrom}
 use Rattle.paths.specs.Cutting.{first-steps, before-follows, rest-follows}
@@ -26,6 +25,24 @@ use Rattle.paths.specs.Edges.{target-is, paths-are, kind-is, is-sequence, row-e
 use Rattle.children.specs.Parts.{Parts, done, broken, choiceParts, optionalParts, listParts, kindParts, childParts}
 use Rattle.children.specs.Cursors.{membersLeft, pathsLeft, along, LeftEdges, LeftChoice, LeftItems}
 use Rattle.children.proofs.Finding.{empty-found, unless-not}
+
+-- the first steps of the paths of an optional choice: what they lead to decides about its children
+pub record SharedPath (source target map em : List ℕ) (σ first depth τ : ℕ) : Type 0 where
+  pub optional : getD (kindsOf source) σ 0 ≡ 4
+  pub follows : Followable target em first depth τ
+  pub are : (k : Content)
+      → childParts (settingIn source target map em) σ k
+      ≡ optionalParts (follow (tableBy target) τ (stepsFrom em (first + 2) depth) k) (choiceParts (along target map σ k) (membersLeft source σ 0) (pathsLeft source map em σ 0))
+
+module _ {source target map em : List ℕ} {σ first depth τ : ℕ} (p : SharedPath source target map em σ first depth τ) (k : Content) where
+  -- it is there and empty
+  pub begin-empty : {tr : List ℕ} {o : ℕ} → FoundContent tr o (follow (tableBy target) τ (stepsFrom em (first + 2) depth) k) → getD tr o 0 ≡ 0x32
+      → childParts (settingIn source target map em) σ k ≡ done
+  begin-empty here closes = p .are k ∙ empty-found _ here closes
+
+  -- it is not
+  pub begin-member : (follow (tableBy target) τ (stepsFrom em (first + 2) depth) k ≡ some end → ⊥) → LeftChoice source target map em σ k (childParts (settingIn source target map em) σ k)
+  begin-member other = record { is-choice = ap choiceCode (p .optional); are = p .are k ∙ unless-not _ _ other }
 
 module _ {source target map em : List ℕ} (ready : Ready source target map em) {σ : ℕ} (exists : σ < typesIn source) where
   abbrev X : Setting
@@ -98,32 +115,18 @@ module _ {source target map em : List ℕ} (ready : Ready source target map em) 
     optional-path = rw (is-first, is-steps, is-target) (first-follows ready exists (ap choiceCode code))
 
     -- the steps before its first choice step
-    module _ {depth : ℕ} (shared : (depth ≤ steps) × (stepsFrom em (first + 2) depth ≡ beforeChoice (X .target) τ firstSteps)) where
-      pub shared-follows : Followable target em first depth τ
-      shared-follows = first-steps optional-path (shared .0)
-
-      abbrev found : Content → Option Content
-      found k = follow (X .target) τ (stepsFrom em (first + 2) depth) k
-
-      abbrev member : Content → Parts
-      member k = choiceParts (along target map σ k) (membersLeft source σ 0) (pathsLeft source map em σ 0)
-
-      parts-unless : (k : Content) → childParts X σ k ≡ optionalParts (found k) (member k)
-      unfolding kindParts
-      parts-unless k =
-          let one : firstPath (pathsFrom em map (σ * 16) count) ≡ firstSteps =
-          sym (ap firstPath (paths-are ready exists ∙ ap (pathsFrom em map (σ * 16)) (row-edges ready exists (omega arith) (omega arith)))) ∙ first-path ready exists (ap choiceCode code) ∙ sym (rw (is-first, is-steps)) in
-          parts-by k (choice optional row) count (kind-is ready exists ∙ rw code) (row-edges ready exists (omega arith) (omega arith))
-          ∙ rw (one, shared .1, is-target, all-members k, all-paths k)
-
-      pub found-within : (k : Content) {tr : List ℕ} {o : ℕ} → FoundContent tr o (found k) → o < length tr
-      found-within k here = omega (arith, content-within (here .there))
-
-      pub begin-empty : (k : Content) {tr : List ℕ} {o : ℕ} → FoundContent tr o (found k) → getD tr o 0 ≡ 0x32 → childParts X σ k ≡ done
-      begin-empty k here first = parts-unless k ∙ empty-found (member k) here first
-
-      pub begin-member : (k : Content) → (found k ≡ some end → ⊥) → LeftChoice source target map em σ k (childParts X σ k)
-      begin-member k other = record { is-choice = ap choiceCode code; are = parts-unless k ∙ unless-not (member k) (found k) other }
+    pub shared-path : {depth : ℕ} → (depth ≤ steps) × (stepsFrom em (first + 2) depth ≡ beforeChoice (X .target) τ firstSteps) → SharedPath source target map em σ first depth τ
+    unfolding kindParts
+    shared-path shared =
+        let one : firstPath (pathsFrom em map (σ * 16) count) ≡ firstSteps =
+        sym (ap firstPath (paths-are ready exists ∙ ap (pathsFrom em map (σ * 16)) (row-edges ready exists (omega arith) (omega arith)))) ∙ first-path ready exists (ap choiceCode code) ∙ sym (rw (is-first, is-steps)) in
+        record {
+          optional = code;
+          follows = first-steps optional-path (shared .0);
+          are =
+              λ k. parts-by k (choice optional row) count (kind-is ready exists ∙ rw code) (row-edges ready exists (omega arith) (omega arith))
+              ∙ rw (one, shared .1, is-target, all-members k, all-paths k);
+        }
 
   -- a list, whose path is read from the arrays
   module _ (code : 5 ≤ getD (kindsOf source) σ 0) {first steps τ : ℕ}

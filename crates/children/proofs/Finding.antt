@@ -2,14 +2,14 @@
 use mathlib.Core.Path.{_≡_, refl, subst}
 use mathlib.Core.List.{List}
 use mathlib.Core.Option.{Option, none, some}
-use Prim.Native.Nat.{ℕ}
+use Prim.Native.Nat.{ℕ, _<_}
 use native.Mathlib.Omega.{arith}
-use lib.ListN.{getD}
+use lib.ListN.{length, getD}
 use Rattle.model.specs.Definitions.Content.{Content, end, char, elem}
 use Rattle.model.specs.Theorems.Tools.{some-none}
 use Rattle.scanning.specs.Scanning.{ContentAt}
 use Rattle.scanning.specs.Finding.{FoundContent}
-use Rattle.scanning.specs.Laws.{end-first, ends}
+use Rattle.scanning.specs.Laws.{content-within, end-first, ends}
 use Rattle.children.specs.Parts.{Parts, done, broken, part, partOf, ifThere, optionalParts}
 
 -- a child that must be there
@@ -29,6 +29,10 @@ there-none m rest e = rw e
 pub there-some : (m : ℕ) (rest : Parts) {o : Option Content} (k : Content) → o ≡ some k → ifThere m o rest ≡ part m k done
 unfolding ifThere
 there-some m rest k e = rw e
+
+-- what was found stands in the document
+pub found-within : {tr : List ℕ} {o : ℕ} {sought : Option Content} → FoundContent tr o sought → o < length tr
+found-within found = omega (arith, content-within (found .there))
 
 -- ---- the member of an optional choice
 

@@ -1,5 +1,4 @@
--- Check 9 for two paths of an optional choice: going along both up to their first choice step, and the answer where that ends. And
--- what check 9 asks of an edge, by what was found of it.
+-- Check 9 for two paths of an optional choice: going along both up to their first choice step, and the answer where that ends.
 use mathlib.Core.Path.{_≡_, refl, sym, ap, ap₂, _∙_}
 use mathlib.Core.Bool.{Bool, true, false}
 use mathlib.Core.List.{List, [], _∷_}
@@ -14,8 +13,6 @@ use Rattle.model.specs.Theorems.Tools.{pick-true, pick-false}
 use Rattle.loaded_table.specs.Loaded.{tableBy, kindsOf, countsOf, membersIn, kind-of}
 use Rattle.loaded_table.specs.Kinds.{choiceCode, choice-code}
 use Rattle.embedding_clash.proofs.Following.{StepAt, goes-on}
-
--- ---- along two paths
 
 -- a path that begins at a choice has no step before its first choice step
 none-before : (T : Table) (t : ℕ) (ps : List ℕ) → isChoice (kindOf T t) ≡ true → beforeChoice T t ps ≡ []

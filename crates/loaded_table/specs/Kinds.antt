@@ -114,13 +114,14 @@ other-code =
 pub choice-range : (code : ℕ) → choiceCode code ≡ true → (2 ≤ code) × (code < 5)
 choice-range = choice-codes (λ (k : ℕ). (2 ≤ k) × (k < 5)) (omega arith, omega arith) (omega arith, omega arith)
 
+-- and every code from 3 to 4 is one
 pub choice-between : (code : ℕ) → 3 ≤ code → code < 5 → choiceCode code ≡ true
 choice-between code low high = row-codes (λ (k : ℕ). 3 ≤ k → choiceCode k ≡ true) (λ h. absurd (omega arith)) (λ h. refl) (λ h. refl) code (omega arith) high low
 
 -- ---- other kinds
 
 -- the code of a kind, a list's being the least that is read as one
-abbrev pub codeOf : Kind → ℕ
+abbrev codeOf : Kind → ℕ
 codeOf text = 0
 codeOf empty = 1
 codeOf (sequence ms) = 2
@@ -128,6 +129,7 @@ codeOf (choice needed ms) = 3
 codeOf (choice optional ms) = 4
 codeOf (list m) = 5
 
+-- it is the code that the kind was read from, held at that
 code-of : (code count : ℕ) (row : List ℕ) → min code 5 ≡ codeOf (kindFrom code count row)
 code-of code count row = each-code (λ (k : ℕ). min k 5 ≡ codeOf (kindFrom k count row)) refl refl refl refl refl (λ k. omega arith) code
 
