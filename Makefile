@@ -2,12 +2,13 @@
 # make run: prove the program carry and carry the example patch with it.
 # make staticlib: prove the entries and write target/staticlib/liblafindry.a for C; include/lafindry.h declares them.
 # make bench: time the entries beside the Rust reference, in one run.
+# make bench-places: time the entries with the archive at four places in the program, to part the code from the linker.
 # make check-definitions: have the prover confirm cases on the definitions (by hand: minutes).
 
 CARGO = CARGO_TARGET_DIR=target/cargo cargo
 REFERENCE = --manifest-path tests/reference/Cargo.toml
 
-.PHONY: test run staticlib bench check-definitions reference
+.PHONY: test run staticlib bench bench-places check-definitions reference
 
 test:
 	@tools/test
@@ -20,6 +21,9 @@ staticlib:
 
 bench: staticlib
 	@$(CARGO) run --quiet --release --offline --manifest-path bench/Cargo.toml
+
+bench-places: staticlib
+	@tools/bench-places
 
 reference:
 	@$(CARGO) build --quiet --release --offline $(REFERENCE)

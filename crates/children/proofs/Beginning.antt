@@ -111,6 +111,7 @@ module _ {source target map em : List ℕ} (ready : Ready source target map em) 
     abbrev firstSteps : List ℕ
     firstSteps = stepsFrom em (first + 2) steps
 
+    -- the first path can be followed
     pub optional-path : Followable target em first steps τ
     optional-path = rw (is-first, is-steps, is-target) (first-follows ready exists (ap choiceCode code))
 

@@ -30,6 +30,7 @@ use Rattle.choice_rows.specs.Choices.{MadeMembers, NothingToMake}
 
 -- ---- the place of a choice's member
 
+-- a member is found at its place or before it
 index-at-most : (ms : List ℕ) (j : ℕ) → j < length ms → indexIn (getD ms j 0) ms ≤ j
 unfolding indexIn pick
 index-at-most [] j less = absurd (omega arith)
@@ -44,6 +45,7 @@ index-at-most (m ∷ ms) (suc j) less = go (eqb (getD ms j 0) m) (index-at-most 
     go true h = omega arith
     go false h = omega (arith, h)
 
+-- and what is found is that type
 index-entry : (t : ℕ) (ms : List ℕ) → indexIn t ms < length ms → entry (suc (indexIn t ms)) ms ≡ some t
 unfolding indexIn pick entry
 index-entry t [] less = absurd (omega arith)
@@ -113,6 +115,7 @@ module _ {source target map em : List ℕ} (ready : Ready source target map em) 
       let found = member-of chosen (omega (arith, at, long)) in
       subst (HolesAre ready exists (edgePlacements em map (s * 16 + j) 128 1)) (sym (found .1)) (member-holes (found .0) (found .2 ∙ at) less)
 
+  -- so the path of member j is what row j is made of
   pub member-edges : {e : Edges} {j : ℕ} → j < getD (countsOf source) s 0 → EdgesFrom map (s * 16 + j) 128 1 e → RowEdges source target map em s j (edgeRoom map (s * 16 + j) 1) e
   unfolding rowIndex
   member-edges {e} {j} less edges =
@@ -122,6 +125,7 @@ module _ {source target map em : List ℕ} (ready : Ready source target map em) 
 
   -- ---- room
 
+  -- the room of one member is part of that of all from it on
   pub member-room : (j : ℕ) → j < 16 → edgeRoom map (s * 16 + j) 1 + membersRoom source map s (j + 1) ≤ membersRoom source map s j
   member-room j less =
       let parts : 16 - j ≡ 1 + (16 - (j + 1)) = omega arith in
@@ -147,6 +151,7 @@ module _ {source target map em : List ℕ} (ready : Ready source target map em) 
   unfolding rowIndex
   needed-small e t chosen = rw is (omega (arith, choice-below (rw is at chosen) .1 e, long))
 
+  -- so with the rows of its members it is done
   pub needed-rows : (getD (kindsOf source) s 0 ≡ 4 → ⊥) → {pool₀ places₀ pool places : List ℕ} {at : ℕ} → MadeMembers source target map em pool₀ places₀ s pool places at
       → Progress source target map em pool₀ places₀ (s + 1) pool places at
   needed-rows other made =

@@ -54,6 +54,7 @@ module _ {source target map em : List ℕ} (ready : Ready source target map em) 
   long : length ms ≡ getD (countsOf source) s 0
   long = row-length ready exists
 
+  -- its room is that of the first path
   room : nothingOf source map s ≡ 18 * steps + 4
   unfolding nothingOf pick
   room = rw (eq-eqb (getD (kindsOf source) s 0) 4 code) refl
@@ -65,6 +66,7 @@ module _ {source target map em : List ℕ} (ready : Ready source target map em) 
       let first : firstPath (pathsFrom em map (s * 16) (edgesOf κ)) ≡ stepsFrom em (start + 2) steps = ap firstPath (sym (paths-are ready exists)) ∙ first-path ready exists (rw code refl) in
       rw is (one-placed em (start + 2) depth 144 ∙ nothing-holes em (tableBy target) (getD (targetsOf map) s 0) (start + 2) depth _ ms _ (rw (← is, first) shared))
 
+  -- so that path is what the row behind those of the members is made of
   pub nothing-edges : {depth : ℕ} → depth ≤ steps → stepsFrom em (start + 2) depth ≡ beforeChoice (tableBy target) (getD (targetsOf map) s 0) (stepsFrom em (start + 2) steps)
       → RowEdges source target map em s (getD (countsOf source) s 0) (nothingOf source map s) (onePath (start + 2) depth 144)
   unfolding rowIndex

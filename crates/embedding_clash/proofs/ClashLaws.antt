@@ -15,7 +15,7 @@ use Rattle.model.specs.Definitions.EmbeddingChecks.{clashing, clash}
 use Rattle.model.specs.Theorems.Facts.{Walks}
 use Rattle.model.specs.Theorems.Tools.{pick-true, pick-false}
 use Rattle.loaded_table.specs.Loaded.{kindFrom, tableBy, typesIn, kindsOf, countsOf, membersIn, kind-of}
-use Rattle.loaded_table.specs.Kinds.{choiceCode, each-code, other-codes, choice-code, choice-from}
+use Rattle.loaded_table.specs.Kinds.{choiceCode, each-code, below-lists, list-codes, row-codes, other-codes, choice-code, choice-from}
 use Rattle.loaded_embedding.specs.Loaded.{targetsOf, startsOf, lengthsOf, edgeIn}
 use Rattle.embedding_clash.specs.Paths.{pathOf, PathsAt}
 use Rattle.embedding_clash.specs.Ready.{mapOf, Checkable}
@@ -31,12 +31,21 @@ unfolding clashing
 by-code code count row beginning = each-code (λ (k : ℕ). clashing (kindFrom k count row) beginning ≡ clashing (kindFrom k 0 []) beginning) refl refl refl refl refl (λ k. refl) code
 by-code code count row (apart κ) = each-code (λ (k : ℕ). clashing (kindFrom k count row) (apart κ) ≡ clashing (kindFrom k 0 []) (apart κ)) refl refl refl refl refl (λ k. refl) code
 
--- where one path is a beginning of the other, in kinds other than sequences and choices
-pub joined-other : (code : ℕ) → (code ≡ 2 → ⊥) → (code ≡ 3 → ⊥) → (code ≡ 4 → ⊥) → false ≡ clashing (kindFrom code 0 []) beginning
-unfolding clashing
-joined-other =
-    each-code (λ (k : ℕ). (k ≡ 2 → ⊥) → (k ≡ 3 → ⊥) → (k ≡ 4 → ⊥) → false ≡ clashing (kindFrom k 0 []) beginning)
-    (λ a b c. refl) (λ a b c. refl) (λ a b c. absurd (a refl)) (λ a b c. absurd (b refl)) (λ a b c. absurd (c refl)) (λ k a b c. refl)
+-- where one path is a beginning of the other: in sequences and choices, in kinds below them, and in lists
+module _ (code : ℕ) where
+  pub joined-row : 2 ≤ code → code < 5 → true ≡ clashing (kindFrom code 0 []) beginning
+  unfolding clashing
+  joined-row = row-codes (λ (k : ℕ). true ≡ clashing (kindFrom k 0 []) beginning) refl refl refl code
+
+  pub joined-below : code < 2 → false ≡ clashing (kindFrom code 0 []) beginning
+  unfolding clashing
+  joined-below low =
+      below-lists (λ (k : ℕ). k < 2 → false ≡ clashing (kindFrom k 0 []) beginning)
+      (λ h. refl) (λ h. refl) (λ h. absurd (omega arith)) (λ h. absurd (omega arith)) (λ h. absurd (omega arith)) code (omega arith) low
+
+  pub joined-list : 5 ≤ code → false ≡ clashing (kindFrom code 0 []) beginning
+  unfolding clashing
+  joined-list = list-codes (λ (k : ℕ). false ≡ clashing (kindFrom k 0 []) beginning) (λ k. refl) code
 
 -- where they part, in kinds other than choices
 pub parted-other : (code : ℕ) (κ : Kind) → choiceCode code ≡ false → false ≡ clashing (kindFrom code 0 []) (apart κ)

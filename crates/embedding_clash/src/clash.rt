@@ -91,9 +91,7 @@ fn joined(kind: usize) -> bool
     ensures { λ r. ⌜ r ≡ clashing (kindFrom kind 0 []) beginning ⌝ }
 {
     match kind {
-        SEQUENCE => true,
-        CHOICE => true,
-        OPTIONAL => true,
+        SEQUENCE | CHOICE | OPTIONAL => true,
         _ => false,
     }
 }

@@ -34,6 +34,7 @@ or-false : (a : Bool) → (a || false) ≡ a
 or-false true = refl
 or-false false = refl
 
+-- one step more: whether some choice is left
 more-choice : (code count : ℕ) (row : List ℕ) (left : Left) (b : Bool)
     → (withKind left code .choice || b) ≡ (left .choice || (isChoice (kindFrom code count row) || b))
 unfolding isChoice
@@ -45,15 +46,18 @@ more-choice code count row left b =
 abbrev firstOptional : Left → Bool → Bool
 firstOptional left b = left .optional || (not (left .choice) && b)
 
+-- a needed choice tells nothing new where one was left before, and tells no where none was
 needed-more : (choice optional : Bool) → (optional || false) ≡ (optional || (not choice && false))
 needed-more true optional = refl
 needed-more false optional = refl
 
+-- an optional choice tells yes where none was left before
 optional-more : (choice optional : Bool) → (pick choice optional true || false) ≡ (optional || (not choice && true))
 unfolding pick
 optional-more true optional = refl
 optional-more false optional = sym (or-true optional)
 
+-- one step more: whether the first choice left is an optional one
 more-optional : (code count : ℕ) (row : List ℕ) (left : Left) (κs : List Kind)
     → firstOptional (withKind left code) (optionalFirst κs) ≡ firstOptional left (optionalFirst (kindFrom code count row ∷ κs))
 unfolding optionalFirst isChoice isOptional pick
@@ -61,6 +65,7 @@ more-optional code count row left κs =
     each-code (λ (k : ℕ). firstOptional (withKind left k) (optionalFirst κs) ≡ firstOptional left (optionalFirst (kindFrom k count row ∷ κs)))
     refl refl refl (needed-more (left .choice) (left .optional)) (optional-more (left .choice) (left .optional)) (λ k. refl) code
 
+-- one step more: whether some list is left
 more-list : (code count : ℕ) (row : List ℕ) (left : Left) (b : Bool)
     → (withKind left code .list || b) ≡ (left .list || (isList (kindFrom code count row) || b))
 unfolding isList

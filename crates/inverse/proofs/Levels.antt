@@ -102,6 +102,7 @@ module _ (first second : ℕ → Content → Option Content) where
         (λ j e. agree m j (exist m (List·Memᴰ·head refl)) (omega (arith, edge-lower X τ (sequence ns) p k j (unfold rightSteps leavesOnly some-of in refl) (path .good) e)))
         (members-same X τ ns k low ms pss rest (λ q here. exist q (List·Memᴰ·tail here)))
 
+    -- the member of a choice
     choice-same : (X : Setting) (τ : ℕ) (need : Need) (ns : List ℕ) (k : Content) → levels k ≤ bound → (ms : List ℕ) (pss : List (List ℕ)) → Along (MemberPath X τ (choice need ns)) ms pss
         → ((m : ℕ) → List·Memᴰ m ms → m < n) → readChoice first (λ p. follow (X .target) τ p k) ms pss ≡ readChoice second (λ p. follow (X .target) τ p k) ms pss
     unfolding readChoice
@@ -111,6 +112,7 @@ module _ (first second : ℕ → Content → Option Content) where
         (λ j e. agree m j (exist m (List·Memᴰ·head refl)) (omega (arith, edge-lower X τ (choice need ns) p k j (choice-steps need ns) (path .good) e)))
         (choice-same X τ need ns k low ms pss rest (λ q here. exist q (List·Memᴰ·tail here)))
 
+    -- a choice of either kind reads the same where its members do: whether the shared place is empty does not depend on the reading
     either-same : (X : Setting) (τ : ℕ) (need : Need) (ms : List ℕ) (pss : List (List ℕ)) (k : Content) → readChoice first (λ p. follow (X .target) τ p k) ms pss ≡ readChoice second (λ p. follow (X .target) τ p k) ms pss
         → readKind first (X .target) (choice need ms) τ pss k ≡ readKind second (X .target) (choice need ms) τ pss k
     unfolding readKind

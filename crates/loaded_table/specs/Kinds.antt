@@ -114,7 +114,14 @@ other-code =
 pub choice-range : (code : ℕ) → choiceCode code ≡ true → (2 ≤ code) × (code < 5)
 choice-range = choice-codes (λ (k : ℕ). (2 ≤ k) × (k < 5)) (omega arith, omega arith) (omega arith, omega arith)
 
--- and every code from 3 to 4 is one
+-- so a code below or above is none
+pub below-choices : (code : ℕ) → code < 3 → choiceCode code ≡ false
+below-choices code low = other-code code (λ e. omega arith) (λ e. omega arith)
+
+pub above-choices : (code : ℕ) → 5 ≤ code → choiceCode code ≡ false
+above-choices code high = other-code code (λ e. omega arith) (λ e. omega arith)
+
+-- and every code between is one
 pub choice-between : (code : ℕ) → 3 ≤ code → code < 5 → choiceCode code ≡ true
 choice-between code low high = row-codes (λ (k : ℕ). 3 ≤ k → choiceCode k ≡ true) (λ h. absurd (omega arith)) (λ h. refl) (λ h. refl) code (omega arith) high low
 

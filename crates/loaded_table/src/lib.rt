@@ -44,8 +44,7 @@ pub fn is_choice(kind: usize) -> bool
     ensures { λ r. ⌜ r ≡ choiceCode kind ⌝ }
 {
     match kind {
-        CHOICE => true,
-        OPTIONAL => true,
+        CHOICE | OPTIONAL => true,
         _ => false,
     }
 }

@@ -10,7 +10,7 @@ ghost use Rattle.loaded_table.specs.Loaded.{Bounded, tableBy, typesIn, heldLeng
 ghost use Rattle.loaded_embedding.specs.Loaded.{lengthsOf};
 ghost use Rattle.loaded_setting.specs.Ready.{settingIn};
 ghost use Rattle.scanning.specs.Scanning.{ContentAt};
-ghost use Rattle.rows.specs.Rows.{levelsIn, bytesIn, fillerIn, firstFrom, itemRow};
+ghost use Rattle.rows.specs.Rows.{levelsIn, bytesIn, fillerIn, noChild, firstFrom, itemRow};
 ghost use Rattle.measuring.specs.Measured.{edgeNumber, typeAhead, Held, Given, Measured, Measurable, ImageSize};
 ghost use Rattle.model.specs.Definitions.TableChecks.{maxMembers};
 use codes::CHARACTER;
@@ -109,7 +109,7 @@ fn item_size<'a>(source: &'a [u16; TABLE], sizes: &'a [u16], s: usize) -> Size
 // The number of the edge of child number i, of type t, of an element of type s.
 fn edge_of(source: &[u16; TABLE], s: usize, i: usize, t: usize) -> usize
     requires bounded { ⌜ Bounded (now source) ⌝ }
-    requires { ⌜ (s < typesIn (now source)) × (t < 256) ⌝ }
+    requires { ⌜ (s < typesIn (now source)) × (t < noChild) ⌝ }
     ensures { λ r. ⌜ r ≡ edgeNumber (kindOf (tableBy (now (source .entry))) s) i t ⌝ }
 {
     if loaded_table::kind(source, s) == SEQUENCE {
@@ -128,7 +128,7 @@ fn child_depth<'a>(
     t: usize,
 ) -> usize
     requires bounded { ⌜ Bounded (now source) ⌝ }
-    requires { ⌜ (s < typesIn (now source)) × (t < 256) × (edgeNumber (kindOf (tableBy (now source)) s) i t < maxMembers) ⌝ }
+    requires { ⌜ (s < typesIn (now source)) × (t < noChild) × (edgeNumber (kindOf (tableBy (now source)) s) i t < maxMembers) ⌝ }
     ensures { λ r. ⌜ (r ≡ getD (lengthsOf (now (map .entry))) (s * maxMembers + edgeNumber (kindOf (tableBy (now (source .entry))) s) i t) 0) × (r < 65536) ⌝ }
 {
     let edge = edge_of(source, s, i, t);

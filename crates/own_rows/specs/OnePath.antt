@@ -19,26 +19,31 @@ unfoldable pub onePath : ℕ → ℕ → ℕ → Edges
 onePath next left hole = push noEdges next left hole
 
 module _ (em : List ℕ) (next left hole : ℕ) where
+  -- what it places
   pub one-placed : placementsOf em (onePath next left hole) ≡ placementOf em next left hole ∷ []
   unfolding onePath noEdges
   one-placed =
       push-placements (none-readable em) (omega arith) next left hole
       ∙ ap (λ (l : List (Placement Shape)). l ++ (placementOf em next left hole ∷ [])) (none-placed em)
 
+  -- its steps stand in the embedding
   pub one-readable : next + 2 * left ≤ length em + 1 → IsHole hole → PathsReadable em (onePath next left hole)
   unfolding onePath noEdges
   one-readable within is-hole = push-readable (none-readable em) (omega arith) next left hole within is-hole
 
+  -- it is a path
   one-some : onePath next left hole .count ≡ 0 → ⊥
   unfolding onePath noEdges push
   one-some e = omega (arith, e)
 
+  -- to a hole
   one-gap : All IsGap (placementsOf em (onePath next left hole))
   unfolding placementOf rowOf
   one-gap =
       let one : IsGap (placementOf em next left hole) = omega arith in
       subst (All IsGap) (sym one-placed) (all-more one all-none)
 
+  -- 18 for each step and one for the hole
   one-weight : weight (placementsOf em (onePath next left hole)) ≡ 18 * left + 1
   unfolding weight placementOf
   one-weight = ap weight one-placed ∙ rw (steps-long em next left) (omega arith)

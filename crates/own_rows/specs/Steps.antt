@@ -132,6 +132,7 @@ module _ {source target map em : List ℕ} (ready : Ready source target map em) 
       row-placed (omega arith) (λ last. absurd (omega arith)) (edges .readable em (ready .paths-bounded)) t₀ (are ∙ holes) (λ t chosen at. are ∙ each t chosen at)
       (λ task. element-fits task (ready .paths-bounded) edges w few wide)
 
+  -- what is placed for a text, an empty type and a sequence
   text-are : getD (kindsOf source) s 0 ≡ 0 → (t : Option ℕ) → HolesAre (edgePlacements em map (s * 16) 144 1) t
   unfolding edgesOf
   text-are code t = let is : κ ≡ text = kind-is ready exists ∙ rw code refl in rw is (text-holes em map (tableBy target) τ (s * 16) t)
@@ -155,6 +156,7 @@ module _ {source target map em : List ℕ} (ready : Ready source target map em) 
       go (suc (suc zero)) code h = edges-placed (omega arith) (own .of-sequence code) 16 (few ready exists) (omega arith) none (sequence-are code none) (λ t chosen index. sequence-are code t)
       go (suc (suc (suc c))) code h = absurd (omega arith)
 
+  -- which has one row
   pub own-small : getD (kindsOf source) s 0 < 3 → (t : Option ℕ) → FirstChild t κ → rowIndex κ t < 1
   own-small few-codes t chosen =
       omega (arith, ap (λ (k : Kind). rowIndex k t) (kind-is ready exists), row-of-other t (getD (kindsOf source) s 0) (getD (countsOf source) s 0) (drop (s * 16) (membersIn source)) (other-code (getD (kindsOf source) s 0) (λ e. omega (arith, e)) (λ e. omega (arith, e))))
@@ -162,6 +164,7 @@ module _ {source target map em : List ℕ} (ready : Ready source target map em) 
   -- ---- from type to type
 
   module _ {pool₀ places₀ pool places : List ℕ} {at : ℕ} where
+    -- none of the rows of type s is made yet
     pub progress-begin : Progress source target map em pool₀ places₀ s pool places at → Partly source target map em pool₀ places₀ s 0 (typeRoom source map s) pool places at
     progress-begin now =
         let first : rowsBefore s ≡ typeRow s 0 = omega arith in
@@ -179,6 +182,7 @@ module _ {source target map em : List ℕ} (ready : Ready source target map em) 
         partly-room : at + length (elementRow target em e stepBound τ) ≤ length pool
         partly-room = omega (arith, row .short, now .room, now .whole .pool-length)
 
+        -- one row more is made
         partly-more : {pool′ places′ : List ℕ} {end : ℕ} → RowMade pool places at (typeRow s j) (heldRow target em e τ) 0 pool′ places′ end
             → end ≤ at + length (elementRow target em e stepBound τ) → Partly source target map em pool₀ places₀ s (j + 1) rest pool′ places′ end
         partly-more made ends =

@@ -22,6 +22,7 @@ pub record Chooses (target em : List ℕ) (start steps t i τ : ℕ) : Type 0 wh
   pub before : beforeChoice (tableBy target) t (stepsFrom em (start + 2) steps)
       ≡ stepsFrom em (start + 2) i ++ beforeChoice (tableBy target) τ (stepsFrom em (start + 2 * i + 2) (steps - i))
 
+-- before the first step
 pub chooses-start : {target em : List ℕ} {start steps t : ℕ} → Followable target em start steps t → Chooses target em start steps t 0 t
 unfolding stepsFrom
 chooses-start {start = start} {steps} path =
@@ -37,6 +38,7 @@ module _ {target em : List ℕ} {start steps t i τ : ℕ} (now : Chooses target
   abbrev Depth : Type 0
   Depth = (i ≤ steps) × (stepsFrom em (start + 2) i ≡ beforeChoice T t (stepsFrom em (start + 2) steps))
 
+  -- nothing more stands before a choice step: i steps do
   ends-here : beforeChoice T τ (stepsFrom em (start + 2 * i + 2) (steps - i)) ≡ [] → Depth
   ends-here none-before = (now .high, sym (now .before ∙ ap (λ (l : List ℕ). stepsFrom em (start + 2) i ++ l) none-before ∙ append-nil (stepsFrom em (start + 2) i)))
 

@@ -191,6 +191,7 @@ module _ {source target map em : List ℕ} (ready : Ready source target map em) 
     range : (2 ≤ getD (kindsOf source) σ 0) × (getD (kindsOf source) σ 0 < 5)
     range = choice-range (getD (kindsOf source) σ 0) choosing
 
+    -- it has a member
     pub choice-members : 0 < count
     choice-members = omega (arith, ready .valid .source-sound .well-formed .choices-choose σ _ row is-choice, row-length)
 
@@ -198,6 +199,7 @@ module _ {source target map em : List ℕ} (ready : Ready source target map em) 
     pub first-follows : Followable target em (getD (startsOf map) (σ * 16) 0) (getD (lengthsOf map) (σ * 16) 0) (getD (targetsOf map) σ 0)
     first-follows = rw (add-zero (σ * 16)) at (row-follows (range .0) (range .1) 0 choice-members)
 
+    -- which is the first of its paths
     pub first-path : firstPath (pathsOf (X .embedding) σ) ≡ pathAt em map (σ * 16)
     unfolding pathsFrom firstPath
     first-path =

@@ -11,9 +11,11 @@ pub record Added (sum : ℕ → ℕ → ℕ) (n total i : ℕ) : Type 0 where
   pub small : total ≤ i * mostOfEdge
   pub whole : total + sum i (n - i) ≡ sum 0 n
 
+-- before the loop
 pub added-none : (sum : ℕ → ℕ → ℕ) (n : ℕ) → Added sum n 0 0
 added-none sum n = let all : n - 0 ≡ n = omega arith in record { high = omega arith; small = omega arith; whole = rw all (omega arith) }
 
+-- one room more
 pub added-more : {sum : ℕ → ℕ → ℕ} {n total i : ℕ} → Added sum n total i → i < n → {one : ℕ} → one ≤ mostOfEdge → ((k : ℕ) → sum i (suc k) ≡ one + sum (suc i) k)
     → Added sum n (total + one) (i + 1)
 added-more {sum} {n} {total} {i} now less {one} small step =
@@ -21,6 +23,7 @@ added-more {sum} {n} {total} {i} now less {one} small step =
     let whole : total + sum i (suc (n - suc i)) ≡ sum 0 n = rw more at (now .whole) in
     record { high = omega arith; small = omega (arith, now .small); whole = rw (add-one i) (omega (arith, whole, step (n - suc i))) }
 
+-- all rooms
 pub added-all : {sum : ℕ → ℕ → ℕ} {n total i : ℕ} → Added sum n total i → n ≤ i → ((j : ℕ) → sum j 0 ≡ 0) → (total ≡ sum 0 n) × (total ≤ n * mostOfEdge)
 added-all {sum} {n} {total} {i} now over none =
     let zero-left : n - i ≡ 0 = omega arith in

@@ -37,6 +37,7 @@ unfolding edgeRoom
 edges-most map short i zero = omega arith
 edges-most map short i (suc n) = omega (arith, short i, edges-most map short (suc i) n)
 
+-- so has a row of nothing
 nothing-few : (source map : List ℕ) → ((i : ℕ) → getD (lengthsOf map) i 0 ≤ 12) → (s : ℕ) → nothingOf source map s ≤ 220
 unfolding nothingOf pick
 nothing-few source map short s = go (eqb (getD (kindsOf source) s 0) 4)
@@ -45,6 +46,7 @@ nothing-few source map short s = go (eqb (getD (kindsOf source) s 0) 4)
     go true = omega (arith, short (s * 16))
     go false = omega arith
 
+-- and those of n types
 nothing-most : (source map : List ℕ) → ((i : ℕ) → getD (lengthsOf map) i 0 ≤ 12) → (s n : ℕ) → nothingRoom source map s n ≤ 220 * n
 unfolding nothingRoom
 nothing-most source map short s zero = omega arith

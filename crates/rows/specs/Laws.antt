@@ -11,7 +11,7 @@ use borrow.Author.Tests.{eq-eqb, ne-eqb}
 use Rattle.model.specs.Definitions.Basics.{pick, entry}
 use Rattle.loaded_table.specs.Loaded.{kindFrom}
 use Rattle.loaded_table.specs.Kinds.{choiceCode, other-codes, choice-from}
-use Rattle.rows.specs.Rows.{indexIn, memberIndex, firstFrom, rowIndex, SizeAt, HasRow, setRow}
+use Rattle.rows.specs.Rows.{indexIn, memberIndex, noChild, firstFrom, rowIndex, SizeAt, HasRow, setRow}
 
 -- the place of t in a part of a list: none are left; it stands first; another does
 pub index-none : (t n o : ℕ) (l : List ℕ) → n ≡ 0 → indexIn t (take n (drop o l)) ≡ 0
@@ -44,13 +44,13 @@ unfolding rowIndex
 row-of-other t code count row = other-codes (λ (k : ℕ). rowIndex (kindFrom k count row) t ≡ 0) refl refl refl (λ k. refl) code
 
 -- the type of the first child, as the code holds it
-pub first-none : (n : ℕ) → n ≡ 256 → firstFrom n ≡ none
+pub first-none : (n : ℕ) → n ≡ noChild → firstFrom n ≡ none
 unfolding firstFrom pick
-first-none n e = rw (eq-eqb n 256 e) refl
+first-none n e = rw (eq-eqb n noChild e) refl
 
-pub first-some : (n : ℕ) → (n ≡ 256 → ⊥) → firstFrom n ≡ some n
+pub first-some : (n : ℕ) → (n ≡ noChild → ⊥) → firstFrom n ≡ some n
 unfolding firstFrom pick
-first-some n e = rw (ne-eqb n 256 e) refl
+first-some n e = rw (ne-eqb n noChild e) refl
 
 -- what stands at a place of a list is the entry of the next number
 pub entry-there : (ms : List ℕ) (j : ℕ) → j < length ms → entry (suc j) ms ≡ some (getD ms j 0)

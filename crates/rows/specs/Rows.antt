@@ -78,9 +78,13 @@ unfoldable pub indexIn : ℕ → List ℕ → ℕ
 indexIn t [] = 0
 indexIn t (m ∷ ms) = pick (eqb t m) 0 (suc (indexIn t ms))
 
--- the type of the first child of an element, as the code holds it: 256 where it has none
+-- what the code holds for the type of a first child where there is none
+abbrev pub noChild : ℕ
+noChild = 256
+
+-- the type of the first child of an element, as the code holds it
 unfoldable pub firstFrom : ℕ → Option ℕ
-firstFrom n = pick (eqb n 256) none (some n)
+firstFrom n = pick (eqb n noChild) none (some n)
 
 -- the place of a choice's member among them; where there is none, the place behind them
 unfoldable pub memberIndex : Option ℕ → List ℕ → ℕ

@@ -6,18 +6,18 @@ use Prim.Native.Nat.{ℕ, _+_, _-_, _*_, _<_}
 use native.Mathlib.Nat.{zero-add}
 use native.Mathlib.Omega.{arith}
 use lib.ListN.{length, getD, set, length-set}
-use Rattle.table_form.specs.declared.command.TableCommand.{TableCommand as Command}
+use Rattle.table_form.specs.declared.command.TableCommand.{TableCommand}
 use Rattle.table_form.specs.Read.{command}
-use Rattle.model.specs.Definitions.Commands.{TableCommand, listType, member}
+use Rattle.model.specs.Definitions.Commands as model
 use Rattle.loaded_table.specs.Loaded.{kindsOf, countsOf, section-kept, section-set}
 use Rattle.table_load.specs.Loading.{TableArrays, loadedIn, begun, joined, puts, TypeMayBegin, MemberMayJoin, TableRoom, TablePut}
 
 -- there is room for a command, known as another term
-pub told-room : (a : TableArrays) {c d : Command} → c ≡ d → TableRoom a (command c) → TableRoom a (command d)
+pub told-room : (a : TableArrays) {c d : TableCommand} → c ≡ d → TableRoom a (command c) → TableRoom a (command d)
 told-room a e h = subst (λ x. TableRoom a (command x)) e h
 
 -- what a command does, known as another term
-pub told-put : {types more : ℕ} {rows after : List ℕ} {c d : Command} → c ≡ d → TablePut types rows (command d) more after → TablePut types rows (command c) more after
+pub told-put : {types more : ℕ} {rows after : List ℕ} {c d : TableCommand} → c ≡ d → TablePut types rows (command d) more after → TablePut types rows (command c) more after
 told-put {types} {more} {rows} {after} e h = subst (λ x. TablePut types rows (command x) more after) (sym e) h
 
 -- arrays of equal parts
@@ -72,7 +72,7 @@ list-room rows types {mid} h e =
 -- ---- commands put
 
 -- a command that begins a type of a kind
-pub begun-put : (rows : List ℕ) (types kind : ℕ) (c : TableCommand) {more : ℕ} {after : List ℕ} → puts (loadedIn types rows) c ≡ begun (loadedIn types rows) kind → types < 64
+pub begun-put : (rows : List ℕ) (types kind : ℕ) (c : model.TableCommand) {more : ℕ} {after : List ℕ} → puts (loadedIn types rows) c ≡ begun (loadedIn types rows) kind → types < 64
     → (more ≡ types + 1) × (after ≡ set rows types kind) → TablePut types rows c more after
 begun-put rows types kind c does room (p, q) = rw (p, q) (record { same-size = length-set rows types kind; does = begun-in rows types kind room ∙ sym does })
 
@@ -87,7 +87,7 @@ stored-size rows t m =
 
 -- a list and its item
 pub list-put : (rows : List ℕ) (types m : ℕ) {more : ℕ} {mid after : List ℕ} → TypeMayBegin (loadedIn types rows)
-    → (more ≡ types + 1) × (mid ≡ set rows types 5) → after ≡ memberStored mid types m → TablePut types rows (listType m) more after
+    → (more ≡ types + 1) × (mid ≡ set rows types 5) → after ≡ memberStored mid types m → TablePut types rows (model.listType m) more after
 unfolding puts
 list-put rows types m {more} {mid} {after} h (p, q) e =
     let room = list-room rows types h q in
@@ -102,7 +102,7 @@ list-put rows types m {more} {mid} {after} h (p, q) e =
     }
 
 -- a member
-pub member-put : (rows : List ℕ) (types m : ℕ) {after : List ℕ} → MemberMayJoin (loadedIn types rows) → after ≡ memberStored rows (types - 1) m → TablePut types rows (member m) types after
+pub member-put : (rows : List ℕ) (types m : ℕ) {after : List ℕ} → MemberMayJoin (loadedIn types rows) → after ≡ memberStored rows (types - 1) m → TablePut types rows (model.member m) types after
 unfolding puts
 member-put rows types m h e =
     let room = join-room (loadedIn types rows) h in

@@ -73,16 +73,26 @@ fn comes_back(rng: &mut Rng, world: &World) -> Result<Option<Image>, Failure> {
     Ok(Some(image))
 }
 
-#[test]
-fn images_come_back() -> Result<(), Failure> {
-    let mut rng = Rng::new(seed().wrapping_add(100));
+/// Draws worlds whose images come back, and counts by `tally` what they have.
+fn round_trips(
+    stream: u64,
+    draw: fn(&mut Rng) -> World,
+    tally: fn(&mut Counts, &Image, &Traits),
+) -> Result<Counts, Failure> {
+    let mut rng = Rng::new(seed().wrapping_add(stream));
     let mut counts = Counts::default();
     for _ in 0..2500 {
-        let world = World::mixed(&mut rng);
-        let Some(image) = comes_back(&mut rng, &world)? else {
-            continue;
-        };
-        let traits = Traits::of(&world);
+        let world = draw(&mut rng);
+        if let Some(image) = comes_back(&mut rng, &world)? {
+            tally(&mut counts, &image, &Traits::of(&world));
+        }
+    }
+    Ok(counts)
+}
+
+#[test]
+fn images_come_back() -> Result<(), Failure> {
+    let counts = round_trips(100, World::mixed, |counts, image, traits| {
         counts.add("images", true);
         counts.add("with filler", image.filler > 0);
         counts.add("through a shared list", traits.shared_list);
@@ -90,27 +100,20 @@ fn images_come_back() -> Result<(), Failure> {
         counts.add("with a later list on a path", traits.later_list);
         counts.add("with a list within a list", traits.list_in_list);
         counts.add("with a long path of a choice", traits.long_choice);
-    }
+    })?;
     counts.finish("round trips", 50)
 }
 
 #[test]
 fn images_with_optional_choices_come_back() -> Result<(), Failure> {
-    let mut rng = Rng::new(seed().wrapping_add(600));
-    let mut counts = Counts::default();
-    for _ in 0..2500 {
-        let world = World::optional(&mut rng);
-        if comes_back(&mut rng, &world)?.is_none() {
-            continue;
-        }
-        let traits = Traits::of(&world);
+    let counts = round_trips(600, World::optional, |counts, _, traits| {
         counts.add("of an empty optional choice", traits.empty_optional);
         counts.add("of one left empty below its image", traits.nothing_below);
         counts.add("of a full optional choice", traits.full_optional);
         counts.add("of one within another", traits.nested_optional);
         counts.add("of one with 16 members", traits.sixteen_optional);
         counts.add("of a choice through an optional one", traits.through_optional);
-    }
+    })?;
     counts.finish("round trips of optional choices", 10)
 }
 

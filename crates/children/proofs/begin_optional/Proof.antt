@@ -17,6 +17,7 @@ choice-depth-requires c κs =
 abbrev begun : tie.After-choice-depth → tie.Start
 begun c = c .before .before .before .before .before .before .before
 
+-- they are the first steps of the paths
 shared-here : (c : tie.After-choice-depth) → let a = begun c .args in
     SharedPath (a .source .now) (a .target .now) (a .map .now) (a .em .now) (a .image .sigma) (c .before .before .before .start .result) (c .choice-depth .result) (c .before .target .result)
 shared-here c =

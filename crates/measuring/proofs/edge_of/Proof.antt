@@ -8,7 +8,7 @@ use lib.ListN.{drop, getD}
 use borrow.Author.Needs.{needs}
 use Rattle.model.specs.Definitions.Table.{Kind, kindOf}
 use Rattle.loaded_table.specs.Loaded.{tableBy, typesIn, kindsOf, countsOf, membersIn, kind-of}
-use Rattle.rows.specs.Rows.{firstFrom, rowIndex, sourceRow}
+use Rattle.rows.specs.Rows.{noChild, firstFrom, rowIndex, sourceRow}
 use Rattle.rows.specs.Laws.{first-some}
 use Rattle.measuring.specs.Measured.{edgeNumber}
 use Rattle.measuring.proofs.Edges.{number-of-sequence, number-of-other}
@@ -16,13 +16,15 @@ use Rattle.measuring.proofs.edge_of.Statement.{statement}
 use Rattle.measuring.proofs.edge_of.Tie as tie
 
 module _ (source : List ℕ) (s code i t : ℕ) (exists : s < typesIn source) (is-code : code ≡ getD (kindsOf source) s 0) where
+  -- a sequence
   sequence-edge : code ≡ 2 → i ≡ edgeNumber (kindOf (tableBy source) s) i t
   sequence-edge same =
       sym
       (ap (λ (κ : Kind). edgeNumber κ i t) (kind-of source s exists)
       ∙ number-of-sequence (getD (kindsOf source) s 0) (getD (countsOf source) s 0) (drop (s * 16) (membersIn source)) i t (sym is-code ∙ same))
 
-  other-edge : (code ≡ 2 → ⊥) → (row : ℕ) → t < 256 → row ≡ sourceRow (tableBy source) s (firstFrom t) → row - (64 + s * 17) ≡ edgeNumber (kindOf (tableBy source) s) i t
+  -- another kind: the child is there, so it is not what stands for none
+  other-edge : (code ≡ 2 → ⊥) → (row : ℕ) → t < noChild → row ≡ sourceRow (tableBy source) s (firstFrom t) → row - (64 + s * 17) ≡ edgeNumber (kindOf (tableBy source) s) i t
   unfolding sourceRow
   other-edge other row byte is-row =
       let number =

@@ -69,7 +69,7 @@ isChoice (sequence ms) = false
 isChoice (choice need ms) = true
 isChoice (list m) = false
 
--- 02, N3
+-- an optional choice (02, N3)
 unfoldable pub isOptional : Kind → Bool
 isOptional text = false
 isOptional empty = false

@@ -229,6 +229,7 @@ module _ (X : Setting) (τ : ℕ) (κ : Kind) where
   abbrev GoodEdge : Edge → Type 0
   GoodEdge e = GoodPath X τ κ (e .steps)
 
+  -- each edge that passed has a good path
   good-edges : (first : List ℕ) {es : List Edge} → All ShortEdge es → All (EdgeWalks (X .target) τ) es
       → firstEdge (λ e. rightSteps κ (leaves (X .target) τ (e .steps)) && agrees (X .target) κ τ first (e .steps)) es ≡ passes → All GoodEdge es
   unfolding firstEdge

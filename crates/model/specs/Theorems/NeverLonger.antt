@@ -251,6 +251,7 @@ module _ (B : Builder ℕ) (μ : Content → ℕ) (M : Measure B μ) where
         rw (measure-elem, weigh-step (X .target) τ κ _ _ _ none-wrong (good .good .right))
         (M .join-mono _ _ _ _ (M .wrap-mono _ _ here) (sequence-weighs τ κ none-wrong goods later there))
 
+    -- a choice of either kind: its one member, or nothing, which measures nothing
     choice-weighs : (τ : ℕ) (κ : Kind) (shared : List ℕ) {need : Need} {ms : List ℕ} {pss : List (List ℕ)} {k : Content} → rightSteps κ [] ≡ false
         → Along (MemberPath X τ κ) ms pss → Holds (X .source) (choice need ms) k → Bounded B μ X fs k → μ k ≤ weigh (alongChoice B shared ms pss (children B X fs k))
     unfolding alongChoice children weigh

@@ -409,6 +409,7 @@ divide-at-list T τ [] w f = true-false f (no-kind isList)
 divide-at-list T τ (p ∷ ps) w f =
     list-step-at T τ p ps (divide T (next T τ p) ps) (kindOf T τ) refl (walks-step w) f (divide-at-list T (next T τ p) ps (walks-rest w))
 
+-- what a choice of either kind places can be placed: its member at the end of a path, nothing at the end of the shared steps
 choice-fits : {A : Type 0} (B : Builder A) (X : Setting) (τ : ℕ) (κ : Kind) (ms : List ℕ) (pss : List (List ℕ)) (ks : List (Child A))
     → Along (MemberPath X τ κ) ms pss → Fits (X .target) (suc maxSteps) τ (alongChoice B (beforeChoice (X .target) τ (firstPath pss)) ms pss ks)
 unfolding alongChoice

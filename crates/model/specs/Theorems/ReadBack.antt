@@ -85,6 +85,7 @@ child-of-its-type : (t : ℕ) (k r : Content) → childOfType (elem t k r) t ≡
 unfolding childOfType
 child-of-its-type t k r = pick-true (eqb t t) (some k) none (eq-eqb t t refl)
 
+-- a kind that is a choice of either kind
 is-choice : (κ : Kind) → isChoice κ ≡ true → (need : Need) × (κ ≡ choice need (membersOf κ))
 unfolding isChoice membersOf
 is-choice text e = true-false refl (sym e)
@@ -261,6 +262,7 @@ enter-nothing (sequence ms) p τ e = true-false refl (sym e)
 enter-nothing (choice need ms) p τ e = refl
 enter-nothing (list m) p τ e = true-false refl (sym e)
 
+-- a path of no steps stays where it is
 follow-here : (T : Table) (τ : ℕ) (k j : Content) → follow T τ [] k ≡ some j → k ≡ j
 unfolding follow
 follow-here T τ k j e = cc
@@ -448,6 +450,7 @@ module _ (X : Setting) (wf : WellFormed (X .target)) (fs : List Content) (read :
   unfolding readKind placements
   sequence-back τ {ms} {pss} {k} al pr h ea = members-back X fs read _ al h ea (λ path a there. placed-found τ (children content X fs k) (sequence-edges al pr) path a there)
 
+  -- where the shared optional choice is empty, nothing is read
   reads-nothing : (τ : ℕ) (ms : List ℕ) (pss : List (List ℕ)) (K : Content) → follow (X .target) τ (beforeChoice (X .target) τ (firstPath pss)) K ≡ some end
       → readKind read (X .target) (choice optional ms) τ pss K ≡ some end
   unfolding readKind unlessEmpty
@@ -468,6 +471,7 @@ module _ (X : Setting) (wf : WellFormed (X .target)) (fs : List Content) (read :
       go (some (char c r)) f = unfold unlessEmpty in e
       go (some (elem t k r)) f = unfold unlessEmpty in e
 
+  -- a choice of either kind is read back from the image of what it holds
   choice-read : (τ : ℕ) (need : Need) {ms : List ℕ} {pss : List (List ℕ)} {k : Content} → Along (MemberPath X τ (choice need ms)) ms pss
       → Pairs (Compatible X τ (choice need ms)) pss → Holds (X .source) (choice need ms) k → Each (Reads X fs read) k
       → readKind read (X .target) (choice need ms) τ pss (place content (X .target) fs τ (placements content (X .target) fs (choice need ms) τ pss (children content X fs k))) ≡ some k

@@ -128,6 +128,7 @@ module _ (X : Setting) (read : ℕ → Content → Option Content) where
       (rec m (List·Memᴰ·head refl) (parts .image) (parts .inside) (member-holds τ m κ ps k (parts .image) g h (parts .was-found)) (parts .was-read))
       (members-read τ κ k h al (λ n there. rec n (List·Memᴰ·tail there)) (parts .was-after)))
 
+  -- what is read of a choice is a member that conforms
   choice-read : (τ : ℕ) (κ : Kind) (need : Need) (all : List ℕ) (k : Content) → Holds (X .target) (kindOf (X .target) τ) k → {ms : List ℕ} {pss : List (List ℕ)} {j : Content}
       → Along (MemberPath X τ κ) ms pss → ((m : ℕ) → List·Memᴰ m ms → List·Memᴰ m all × ReadHolds m)
       → readChoice read (λ p. follow (X .target) τ p k) ms pss ≡ some j → Holds (X .source) (choice need all) j
@@ -160,6 +161,7 @@ module _ (X : Setting) (read : ℕ → Content → Option Content) where
   unless-empty ms (some (char c r)) member j read-member e = read-member e
   unless-empty ms (some (elem t k r)) member j read-member e = read-member e
 
+  -- so what is read of a choice of either kind conforms
   choice-kind-read : (need : Need) (ms : List ℕ) (τ : ℕ) (pss : List (List ℕ)) (k j : Content)
       → (readChoice read (λ p. follow (X .target) τ p k) ms pss ≡ some j → Holds (X .source) (choice need ms) j)
       → readKind read (X .target) (choice need ms) τ pss k ≡ some j → Holds (X .source) (choice need ms) j

@@ -248,6 +248,7 @@ module _ (B : Builder ℕ) (M : Adds B) (X : Setting) (valid : Valid X) (μ : Li
   unfolding sumOf Sums
   chosen-sum s m k none h = omega (arith, none, h)
 
+  -- a choice of either kind: its member, or nothing
   choice-sum : (s : ℕ) (shared : List ℕ) {need : Need} {ms : List ℕ} (pss : List (List ℕ)) {k : Content} → around (kindOf (X .source) s) (item s) ≡ 0
       → Holds (X .source) (choice need ms) k → Each Sums k
       → total B (adds-join M) (choiceHole (inHoles B (itemBy B X s) (children B X fill k)) shared ms pss (firstType (children B X fill k)) ∷ []) ≡ adds s k
@@ -507,6 +508,7 @@ module _ (X : Setting) (valid : Valid X) where
       item-parts levelsOf levels-join X valid s m a r exists e
       ∙ ap (λ (x : ℕ). max (itemBy levelsOf X s 0 0) (max (suc x) r)) (levels-lift (dividedOf X s .rest) a)
 
+  -- the levels of a choice of either kind
   choice-deepest : (s own-levels : ℕ) (shared : List ℕ) {need : Need} {ms : List ℕ} (pss : List (List ℕ)) {k : Content} → around (kindOf (X .source) s) (itemLevels X s) ≡ 0
       → ((t : ℕ) → depthOf (kindOf (X .source) s) (pathsOf (X .embedding) s) 0 t ≡ length (pathOfMember t ms pss))
       → Holds (X .source) (choice need ms) k → Each Deep k

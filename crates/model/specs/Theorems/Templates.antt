@@ -42,6 +42,7 @@ list-in-holes : {A : Type 0} (B : Builder A) (X : Setting) (s : ℕ) (ks : List 
 unfolding alongList dividedOf
 list-in-holes {A} B X s ks = ap (λ (a : A). placed (dividedOf X s .before) a ∷ []) (items-same B X s ks)
 
+-- what a choice of either kind places is what stands in its hole
 choice-in-holes : {A : Type 0} (B : Builder A) (X : Setting) (fs : List A) (item : A → A → A) (shared : List ℕ) {need : Need} {ms : List ℕ} (pss : List (List ℕ)) {k : Content}
     → Holds (X .source) (choice need ms) k
     → alongChoice B shared ms pss (children B X fs k) ≡ choiceHole (inHoles B item (children B X fs k)) shared ms pss (firstType (children B X fs k)) ∷ []

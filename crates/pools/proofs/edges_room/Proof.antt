@@ -10,6 +10,7 @@ use Rattle.pools.proofs.Adding.{Added, added-none, added-more, added-al
 use Rattle.pools.proofs.edges_room.Statement.{statement}
 use Rattle.pools.proofs.edges_room.Tie as tie
 
+-- one edge more
 step-more : (map : List ℕ) (i : ℕ) {steps : ℕ} → steps ≡ getD (lengthsOf map) i 0 → (k : ℕ) → edgeRoom map i (suc k) ≡ 18 * steps + 4 + edgeRoom map (suc i) k
 unfolding edgeRoom
 step-more map i e k = rw e refl

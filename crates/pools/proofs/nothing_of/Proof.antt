@@ -13,10 +13,12 @@ use Rattle.pools.specs.Room.{nothingOf}
 use Rattle.pools.proofs.nothing_of.Statement.{statement}
 use Rattle.pools.proofs.nothing_of.Tie as tie
 
+-- an optional choice has the room of its first edge
 of-optional : (source map : List ℕ) (s : ℕ) {code steps : ℕ} → code ≡ getD (kindsOf source) s 0 → code ≡ 4 → steps ≡ getD (lengthsOf map) (s * 16) 0 → 18 * steps + 4 ≡ nothingOf source map s
 unfolding nothingOf pick
 of-optional source map s told is e = rw (← told, eq-eqb _ 4 is, e) refl
 
+-- another type has none
 of-other : (source map : List ℕ) (s : ℕ) {code : ℕ} → code ≡ getD (kindsOf source) s 0 → (code ≡ 4 → ⊥) → 0 ≡ nothingOf source map s
 unfolding nothingOf pick
 of-other source map s told is = rw (← told, ne-eqb _ 4 is) refl

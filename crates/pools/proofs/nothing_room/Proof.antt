@@ -8,6 +8,7 @@ use Rattle.pools.proofs.Adding.{Added, added-none, added-more, added-al
 use Rattle.pools.proofs.nothing_room.Statement.{statement}
 use Rattle.pools.proofs.nothing_room.Tie as tie
 
+-- one type more
 step-more : (source map : List ℕ) (s : ℕ) {one : ℕ} → one ≡ nothingOf source map s → (k : ℕ) → nothingRoom source map s (suc k) ≡ one + nothingRoom source map (suc s) k
 unfolding nothingRoom
 step-more source map s e k = rw e refl

@@ -8,6 +8,7 @@ use Rattle.pools.specs.Room.{edgeRoom, nothingRoom, roomOf}
 use Rattle.pools.proofs.room.Statement.{statement}
 use Rattle.pools.proofs.room.Tie as tie
 
+-- the room of all is the sum of its three parts
 parts : (source target map : List ℕ) {types targets edges nothing : ℕ} → types ≡ typesIn source → targets ≡ typesIn target → edges ≡ edgeRoom map 0 (types * 16) → nothing ≡ nothingRoom source map 0 types
     → targets * 16 + edges + nothing ≡ roomOf source target map
 unfolding roomOf

@@ -5,18 +5,20 @@ use Prim.Native.Nat.{ℕ, _*_, _≤_, _<_}
 use native.Mathlib.Omega.{arith}
 use lib.ListN.{take, drop, length-take, length-drop}
 use Rattle.loaded_table.specs.Loaded.{Bounded, membersIn}
-use Rattle.rows.specs.Rows.{indexIn, memberIndex, firstFrom}
+use Rattle.rows.specs.Rows.{indexIn, memberIndex, noChild, firstFrom}
 use Rattle.rows.specs.Laws.{first-none, first-some}
 use Rattle.rows.proofs.choice_index.Statement.{statement}
 use Rattle.rows.proofs.choice_index.Tie as tie
 
-behind-members : {source : List ℕ} (s count t : ℕ) → Bounded source → s < 64 → count ≤ 16 → t ≡ 256 → count ≡ memberIndex (firstFrom t) (take count (drop (s * 16) (membersIn source)))
+-- nothing has the row behind those of the members
+behind-members : {source : List ℕ} (s count t : ℕ) → Bounded source → s < 64 → count ≤ 16 → t ≡ noChild → count ≡ memberIndex (firstFrom t) (take count (drop (s * 16) (membersIn source)))
 unfolding memberIndex
 behind-members {source} s count t b small few e =
     rw (first-none t e)
     (omega (arith, length-take count (drop (s * 16) (membersIn source)), length-drop (s * 16) (membersIn source), b .size, length-take 1024 (drop 256 source), length-drop 256 source))
 
-among-members : {r : ℕ} (t : ℕ) (ms : List ℕ) → (t ≡ 256 → ⊥) → r ≡ indexIn t ms → r ≡ memberIndex (firstFrom t) ms
+-- a member has its own
+among-members : {r : ℕ} (t : ℕ) (ms : List ℕ) → (t ≡ noChild → ⊥) → r ≡ indexIn t ms → r ≡ memberIndex (firstFrom t) ms
 unfolding memberIndex
 among-members t ms other e = rw (first-some t other) e
 

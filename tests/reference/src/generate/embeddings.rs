@@ -233,7 +233,7 @@ impl Derivation<'_> {
                 self.target[at as usize] = Some(ContentModel::Text);
             }
             ContentModel::Choice(_) | ContentModel::OptionalChoice(_) => {
-                self.lay_choice(&mut route, at, &edges, Vec::new(), false)?
+                self.lay_choice(&mut route, at, Stretch { edges: &edges, prefix: Vec::new(), passed: false })?
             }
             ContentModel::List(_) => self.lay(&mut route, at, &edges, Vec::new(), true)?,
             _ => self.lay(&mut route, at, &edges, Vec::new(), false)?,
@@ -296,27 +296,20 @@ impl Derivation<'_> {
     }
 
     /// Makes `at` a choice or sequence that the paths of some members of a
-    /// choice leave. `passed` says that a choice is already on the path.
-    fn lay_choice(
-        &mut self,
-        route: &mut Route,
-        at: u8,
-        edges: &[usize],
-        prefix: Vec<u8>,
-        passed: bool,
-    ) -> Option<()> {
-        let last = prefix.len() + 1 >= MOST_STEPS;
-        let may_wait = !last || (passed && edges.len() == 1);
+    /// choice leave.
+    fn lay_choice(&mut self, route: &mut Route, at: u8, so_far: Stretch) -> Option<()> {
+        let last = so_far.prefix.len() + 1 >= MOST_STEPS;
+        let may_wait = !last || (so_far.passed && so_far.edges.len() == 1);
         if may_wait && self.rng.chance(30) {
-            return self.lay_beside(route, at, edges, prefix, passed);
+            return self.lay_beside(route, at, so_far);
         }
         // The first choice on the paths of an optional choice is optional.
-        let must = !passed && matches!(route.model, ContentModel::OptionalChoice(_));
+        let must = !so_far.passed && matches!(route.model, ContentModel::OptionalChoice(_));
         let optional = must || self.draws_optional();
-        let groups = self.split(edges, last);
+        let groups = self.split(so_far.edges, last);
         let mut types: Vec<u8> = Vec::new();
         for (place, group) in groups.iter().enumerate() {
-            let t = self.next_choice(route, group, longer(&prefix, place), true, &types)?;
+            let t = self.next_choice(route, so_far.onward(group, place, true), &types)?;
             types.push(t);
         }
         let alone = types.len() < 2 && !optional;
@@ -333,20 +326,13 @@ impl Derivation<'_> {
     /// Makes `at` a sequence that the paths of some members of a choice leave
     /// by one step. Where optional choices are drawn, sometimes another member
     /// is of the type that they go through.
-    fn lay_beside(
-        &mut self,
-        route: &mut Route,
-        at: u8,
-        edges: &[usize],
-        prefix: Vec<u8>,
-        passed: bool,
-    ) -> Option<()> {
-        let members = self.with_fillers(vec![edges.to_vec()]);
+    fn lay_beside(&mut self, route: &mut Route, at: u8, so_far: Stretch) -> Option<()> {
+        let members = self.with_fillers(vec![so_far.edges.to_vec()]);
         let mut types = Vec::new();
         let mut through = None;
         for (place, group) in members.iter().enumerate() {
             types.push(match group {
-                Some(group) => self.next_choice(route, group, longer(&prefix, place), passed, &[])?,
+                Some(group) => self.next_choice(route, so_far.onward(group, place, so_far.passed), &[])?,
                 None => self.filler_type(),
             });
             through = through.or(group.as_ref().map(|_| types[place]));
@@ -359,19 +345,13 @@ impl Derivation<'_> {
     }
 
     /// As `next`, for members of a choice; the type isn't one of `taken`.
-    fn next_choice(
-        &mut self,
-        route: &mut Route,
-        edges: &[usize],
-        prefix: Vec<u8>,
-        passed: bool,
-        taken: &[u8],
-    ) -> Option<u8> {
-        let full = prefix.len() >= MOST_STEPS;
-        if edges.len() == 1 && passed && (full || !self.rng.chance(self.chances.wrap)) {
-            let end = self.end_type(route, edges[0])?;
+    fn next_choice(&mut self, route: &mut Route, so_far: Stretch, taken: &[u8]) -> Option<u8> {
+        let full = so_far.prefix.len() >= MOST_STEPS;
+        if so_far.edges.len() == 1 && so_far.passed && (full || !self.rng.chance(self.chances.wrap)) {
+            let edge = so_far.edges[0];
+            let end = self.end_type(route, edge)?;
             if !taken.contains(&end) {
-                route.paths[edges[0]] = prefix;
+                route.paths[edge] = so_far.prefix;
                 return Some(end);
             }
         }
@@ -379,7 +359,7 @@ impl Derivation<'_> {
             return None;
         }
         let t = self.new_type()?;
-        self.lay_choice(route, t, edges, prefix, passed)?;
+        self.lay_choice(route, t, so_far)?;
         Some(t)
     }
 
@@ -413,6 +393,21 @@ impl Derivation<'_> {
 struct Route<'a> {
     model: &'a ContentModel,
     paths: Paths,
+}
+
+/// Members of a choice whose paths are the same so far: their edges, the steps
+/// taken, and whether one of these left a choice.
+struct Stretch<'a> {
+    edges: &'a [usize],
+    prefix: Vec<u8>,
+    passed: bool,
+}
+
+impl Stretch<'_> {
+    /// Those of some of the members after one more step.
+    fn onward<'b>(&self, edges: &'b [usize], place: usize, passed: bool) -> Stretch<'b> {
+        Stretch { edges, prefix: longer(&self.prefix, place), passed }
+    }
 }
 
 /// A path with one more step, to the member at a place counted from 0.

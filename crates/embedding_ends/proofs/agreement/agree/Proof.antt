@@ -97,6 +97,7 @@ at-other c =
     let long : a .lb ≤ length (a .t5) = omega arith in
     rw (rest-cons _ _ _ second long) at (loop .loop .inv .2)
 
+-- the second path has a step there
 there : (c : tie.Else4 Inv-loop μ-loop) → StepAt (c .before .before .before .args .target .now) (c .before .before .loop .t) (getD (c .before .before .before .args .t5) (c .before .before .loop .i) 0)
 there c = step-at (record { bounded = c .before .before .before .pre .0 .bounded; exists = goes-on (at-other c .other-walks) .exists })
 
