@@ -12,7 +12,7 @@ use Rattle.model.specs.Definitions.Basics.{pick, some-of}
 use Rattle.model.specs.Definitions.Table.{Kind, text, empty, sequence, choice, list, Table, kindOf, stepFrom, edgesOf, isSequence, isChoice, isOptional, isList}
 use Rattle.model.specs.Definitions.Embedding.{next, leaves}
 use Rattle.loaded_embedding.specs.Loaded.{targetsOf, startsOf, lengthsOf, stepsFrom, edgeIn}
-use Rattle.model.specs.Definitions.EmbeddingChecks.{rightSteps, leavesOnly, sequenceOrList, sequenceOrChoice, optionalFirst}
+use Rattle.model.specs.Definitions.EmbeddingChecks.{rightSteps, leavesOnly, sequenceOrList, optionalFirst}
 use Rattle.model.specs.Theorems.Facts.{Walks, arrived, onward}
 use Rattle.loaded_table.specs.Kinds.{each-code}
 use Rattle.loaded_table.specs.Loaded.{kindFrom, kindIn, tableBy, typesIn, kindsOf, countsOf, membersIn, kind-of}
@@ -105,7 +105,7 @@ leaving-ends {left = left} w e = record {
 
 -- ---- deciding
 
--- a kind that a step leaves is none of a sequence and a list exactly where it is a choice, and so with the two changed
+-- a kind that a step leaves is none of a sequence and a list exactly where it is a choice
 not-choice : (κ : Kind) (p m : ℕ) → stepFrom κ p ≡ some m → not (sequenceOrList κ) ≡ isChoice κ
 unfolding sequenceOrList isSequence isList isChoice
 not-choice text p m e = absurd (none-from-text p m e)
@@ -113,14 +113,6 @@ not-choice empty p m e = absurd (none-from p m e)
 not-choice (sequence ms) p m e = refl
 not-choice (choice need ms) p m e = refl
 not-choice (list x) p m e = refl
-
-not-list : (κ : Kind) (p m : ℕ) → stepFrom κ p ≡ some m → not (sequenceOrChoice κ) ≡ isList κ
-unfolding sequenceOrChoice isSequence isList isChoice
-not-list text p m e = absurd (none-from-text p m e)
-not-list empty p m e = absurd (none-from p m e)
-not-list (sequence ms) p m e = refl
-not-list (choice need ms) p m e = refl
-not-list (list x) p m e = refl
 
 -- two tests that agree on kinds that steps leave agree on a path
 same-some : (f g : Kind → Bool) → ((κ : Kind) (p m : ℕ) → stepFrom κ p ≡ some m → f κ ≡ g κ)
@@ -136,11 +128,6 @@ only-lists : {T : Table} {τ : ℕ} {ps : List ℕ} → Walks T τ ps → leaves
 unfolding leavesOnly
 only-lists w = ap not (same-some (λ (κ : Kind). not (sequenceOrList κ)) isChoice not-choice w)
 
--- and nothing else than sequences and choices exactly where it leaves no list
-only-choices : {T : Table} {τ : ℕ} {ps : List ℕ} → Walks T τ ps → leavesOnly sequenceOrChoice (leaves T τ ps) ≡ not (some-of isList (leaves T τ ps))
-unfolding leavesOnly
-only-choices w = ap not (same-some (λ (κ : Kind). not (sequenceOrChoice κ)) isList not-list w)
-
 -- it leaves something exactly where it has steps
 some-step : (T : Table) (τ : ℕ) (ps : List ℕ) → some-of (λ (κ : Kind). true) (leaves T τ ps) ≡ ltb 0 (length ps)
 unfolding some-of leaves
@@ -154,8 +141,8 @@ unfolding rightSteps
 right-by w l zero count row = rw (l .choices, only-lists w)
 right-by w l (suc zero) count row = refl
 right-by {T} {τ} {ps} w l (suc (suc zero)) count row = rw (l .choices, only-lists w, some-step T τ ps)
-right-by w l (suc (suc (suc zero))) count row = rw (l .choices, l .lists, only-choices w)
-right-by w l (suc (suc (suc (suc zero)))) count row = rw (l .optionals, l .lists, only-choices w)
+right-by w l (suc (suc (suc zero))) count row = l .choices
+right-by w l (suc (suc (suc (suc zero)))) count row = l .optionals
 right-by w l (suc (suc (suc (suc (suc code))))) count row = rw (l .choices, l .lists, only-lists w)
 
 module _ {source target em map : List ℕ}

@@ -24,8 +24,8 @@ abbrev pub rightBy : ℕ → Left → ℕ → Bool
 rightBy zero left count = not (left .choice)
 rightBy (suc zero) left count = true
 rightBy (suc (suc zero)) left count = not (left .choice) && ltb 0 count
-rightBy (suc (suc (suc zero))) left count = not (left .list) && left .choice
-rightBy (suc (suc (suc (suc zero)))) left count = not (left .list) && left .optional
+rightBy (suc (suc (suc zero))) left count = left .choice
+rightBy (suc (suc (suc (suc zero)))) left count = left .optional
 rightBy (suc (suc (suc (suc (suc code))))) left count = not (left .choice) && left .list
 
 -- the kinds that a path leaves

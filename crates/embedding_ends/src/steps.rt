@@ -77,8 +77,8 @@ fn optional_first(left: Left) -> bool
 }
 
 // Whether a path of `count` steps that leaves these kinds is right for a source type of a kind: from a text type no
-// choices; from a sequence no choices and some step; from a choice some choice and no list; from an optional choice no
-// list and some choice, the first an optional one; from a list some list and no choice.
+// choices; from a sequence no choices and some step; from a choice some choice; from an optional choice the same, the
+// first of them an optional one; from a list some list and no choice.
 pub fn right_kinds(kind: usize, left: Left, count: usize) -> bool
     ensures { λ r. ⌜ r ≡ rightBy kind left count ⌝ }
 {
@@ -91,18 +91,8 @@ pub fn right_kinds(kind: usize, left: Left, count: usize) -> bool
             }
             0 < count
         }
-        CHOICE => {
-            if left.list {
-                return false;
-            }
-            left.choice
-        }
-        OPTIONAL => {
-            if left.list {
-                return false;
-            }
-            left.optional
-        }
+        CHOICE => left.choice,
+        OPTIONAL => left.optional,
         _ => {
             if left.choice {
                 return false;

@@ -14,5 +14,6 @@ pub mod Filler
 pub mod Image
 pub mod Templates
 pub mod Inverse
+pub mod SingleItems
 pub mod Refusals
 pub mod Entries

@@ -3,43 +3,50 @@
 --
 -- Documents here have any length and any number of levels, unless limits are named. `Theorems.Terms` has the few terms
 -- used: accepted by an entry, the image of a document given by its bytes, its levels.
-use mathlib.Core.Path.{_≡_, sym, _∙_}
-use mathlib.Core.Bool.{true}
+use mathlib.Core.Path.{_≡_, refl, sym, _∙_}
+use mathlib.Core.Bool.{Bool, true, _&&_, _||_}
 use mathlib.Core.List.{List, [], _∷_, _++_}
 use mathlib.Core.Logic.{_↔_, _⊎_}
-use mathlib.Core.Option.{some}
+use mathlib.Core.Option.{none, some}
 use Prim.Native.Nat.{ℕ, suc, _+_, _*_, _≤_, _<_, max}
 use lib.ListN.{length, drop}
 use lib.Dec.{leb}
-use Rattle.model.specs.Definitions.Basics.{passes, fails}
-use Rattle.model.specs.Definitions.Commands.{optional}
-use Rattle.model.specs.Definitions.Table.{Kind, choice, Table, kindOf, tableOf}
+use Rattle.model.specs.Definitions.Basics.{passes, fails, some-of}
+use Rattle.model.specs.Definitions.Commands.{needed, optional}
+use Rattle.model.specs.Definitions.Table.{Kind, text, empty, sequence, choice, list, Table, kindOf, isSequence, isChoice, isList, tableOf}
 use Rattle.model.specs.Definitions.Heights.{heights, heightIn, heightOf, hasInstance, endlessType}
 use Rattle.model.specs.Definitions.TableChecks.{tableForm, tableOperands, tableRepeats}
-use Rattle.model.specs.Definitions.Content.{Content, end, bytes, document, contentOf, levels}
+use Rattle.model.specs.Definitions.Content.{Content, end, elem, bytes, document, contentOf, levels}
 use Rattle.model.specs.Definitions.Conformance.{Holds, Conforming, Instance, conforms}
 use Rattle.model.specs.Definitions.TreeChecks.{treeForm, treeOperands, treeExpected, maxLevels}
 use Rattle.model.specs.Definitions.Filler.{content, known, fillers}
 use Rattle.model.specs.Definitions.Image.{Setting, image, imageBy, imageLevels, imageLength, imageFiller}
 use Rattle.model.specs.Definitions.Templates.{Hole, template, fillerRow, fillerBytes, filledRow, writes, firstIn, heldBy, ownLength, ownFiller, ownLevels, sumLength, sumFiller, deepest}
-use Rattle.model.specs.Definitions.Embedding.{targetOf, pathsOf, firstPath, beforeChoice}
+use Rattle.model.specs.Definitions.Embedding.{targetOf, pathsOf, firstPath, next, beforeChoice}
+use Rattle.model.specs.Definitions.EmbeddingChecks.{leavesOnly, sequenceOrList, optionalFirst, rightSteps}
 use Rattle.model.specs.Definitions.Inverse.{follow, readTo, readBack}
-use Rattle.model.specs.Definitions.Refusals.{Refusal, output-too-short, no-image, maxLength}
-use Rattle.model.specs.Definitions.Entries.{accepted, refused, settingOf, carry, bringWithin, bringBack}
-use Rattle.model.specs.Theorems.Terms.{AcceptedTable, AcceptedEmbedding, AcceptedTree, imageOf, fillerOf, levelsIn}
-use Rattle.model.specs.Theorems.FillerLaws.{filler-conforms, filler-levels, has-instance, instance-of}
-use Rattle.model.specs.Theorems.HeightLaws.{Solves, heights-solve, heights-least, instance-finite, LowestEndless, endless-lowest}
-use Rattle.model.specs.Theorems.JudgedTables.{table-sound, table-well-formed}
+use Rattle.model.specs.Definitions.SingleItems.{singleItems}
+use Rattle.model.specs.Definitions.Refusals.{wrong-steps, embedding, Refusal, faulty, output-too-short, no-image, maxLength}
+use Rattle.model.specs.Definitions.Entries.{accepted, refused, judgeEmbedding, settingOf, carry, bringWithin, bringBack}
+use Rattle.model.specs.Computing.{definitions}
+use Rattle.model.specs.Examples.{choiceOfEmpty, listedTable, listedEmbedding}
+use Rattle.model.specs.Theorems.Tools.{and-right}
 use Rattle.model.specs.Theorems.Conforms.{holds-conforms, conforms-holds}
 use Rattle.model.specs.Theorems.Documents.{document-injective, checks-conforming, conforming-checks}
 use Rattle.model.specs.Theorems.Expected.{UnexpectedCommand, unexpected-command}
+use Rattle.model.specs.Theorems.HeightLaws.{Solves, heights-solve, heights-least, instance-finite, LowestEndless, endless-lowest}
+use Rattle.model.specs.Theorems.FillerLaws.{filler-conforms, filler-levels, has-instance, instance-of}
+use Rattle.model.specs.Theorems.JudgedTables.{table-sound, table-well-formed}
+use Rattle.model.specs.Theorems.ReadBack.{first-item}
+use Rattle.model.specs.Theorems.ReadConforms.{nothing-exactly}
 use Rattle.model.specs.Theorems.Measures.{image-levels, image-length, marked, unmarked, countFiller, marked-is-image, marked-filler}
 use Rattle.model.specs.Theorems.Templates.{filler-written, write-image, writes-again}
 use Rattle.model.specs.Theorems.TemplateSizes.{image-length-rows, image-filler-rows, image-levels-rows}
 use Rattle.model.specs.Theorems.BringingBack.{read-conforms}
-use Rattle.model.specs.Theorems.ReadConforms.{nothing-exactly}
 use Rattle.model.specs.Theorems.EntryLaws.{judges-accept, judge-accepts, judges-valid}
-use Rattle.model.specs.Theorems.OnBytes.{conforming-content, conform, equal-exactly, read-gives-back, shorter, refused-15, brought, brought-only, carried, not-carried, brought-back, not-brought-back, carry-beyond}
+use Rattle.model.specs.Theorems.Terms.{AcceptedTable, AcceptedEmbedding, AcceptedTree, imageOf, fillerOf, levelsIn}
+use Rattle.model.specs.Theorems.OnBytes.{conforming-content, conform, equal-exactly, read-gives-back, single-on-paths, shorter, refused-15, brought, brought-only, carried, not-carried, brought-back, not-brought-back, carry-beyond}
+use Rattle.model.specs.Theorems.StepRules.{judgedWith, judgeEmbeddingWith, stepsBy, judgedBy, AnsweredBy, answered-by-rule, answered-too}
 use Rattle.model.specs.Theorems.RulesNeeded.{PrefixRuleTooWeak, prefix-rule-too-weak, FirstMemberEndless, first-member-endless}
 
 -- ---- 1. conforming and bytes
@@ -241,3 +248,58 @@ image-from-templates s t e a d c =
       filler-of-rows = image-filler-rows X valid k held;
       levels-of-rows = image-levels-rows X valid k held;
     }
+
+-- ---- 13. lists on the paths of choices (02, N6)
+
+-- The rule of check 9 before this request, to be held beside `rightSteps` (`EmbeddingChecks`): from a choice of either kind
+-- steps left sequences and choices only.
+unfoldable pub sequenceOrChoice : Kind → Bool
+sequenceOrChoice κ = isSequence κ || isChoice κ
+
+unfoldable pub earlierSteps : Kind → List Kind → Bool
+earlierSteps text κs = leavesOnly sequenceOrList κs
+earlierSteps empty κs = true
+earlierSteps (sequence ms) κs = leavesOnly sequenceOrList κs && some-of (λ κ. true) κs
+earlierSteps (choice needed ms) κs = leavesOnly sequenceOrChoice κs && some-of isChoice κs
+earlierSteps (choice optional ms) κs = leavesOnly sequenceOrChoice κs && optionalFirst κs
+earlierSteps (list m) κs = leavesOnly sequenceOrList κs && some-of isList κs
+
+-- More is accepted now. The paths of a choice, needed or optional, that leave lists were refused with 9, here at the `21` of
+-- the first of them.
+pub record ListsAccepted (byte : ℕ) : Type 0 where
+  pub before : judgeEmbeddingWith (choiceOfEmpty byte) listedTable (judgedBy earlierSteps (choiceOfEmpty byte) listedTable listedEmbedding) ≡ refused (faulty embedding (wrong-steps 2))
+  pub now : judgeEmbedding (choiceOfEmpty byte) listedTable listedEmbedding ≡ accepted 2 0
+
+pub lists-accepted : ListsAccepted 0x13 × ListsAccepted 0x17
+unfolding definitions earlierSteps sequenceOrChoice judgeEmbeddingWith judgedWith judgedBy stepsBy choiceOfEmpty listedTable listedEmbedding
+lists-accepted = (record { before = refl; now = refl }, record { before = refl; now = refl })
+
+-- What that rule lets pass, `rightSteps` does.
+pub earlier-stricter : (κ : Kind) (κs : List Kind) → earlierSteps κ κs ≡ true → rightSteps κ κs ≡ true
+unfolding earlierSteps rightSteps
+earlier-stricter text κs h = h
+earlier-stricter empty κs h = h
+earlier-stricter (sequence ms) κs h = h
+earlier-stricter (choice needed ms) κs h = and-right (leavesOnly sequenceOrChoice κs) (some-of isChoice κs) h
+earlier-stricter (choice optional ms) κs h = and-right (leavesOnly sequenceOrChoice κs) (optionalFirst κs) h
+earlier-stricter (list m) κs h = h
+
+-- `Theorems.StepRules` has the entries with the rule left open; with `rightSteps` for it they are the entries.
+pub entries-by-rule : (s t e : List ℕ) → AnsweredBy s t e (judgedBy rightSteps s t e)
+entries-by-rule = answered-by-rule
+
+-- Every embedding accepted by the earlier rule is accepted, and every entry answers with it as it did: carry writes the same
+-- images, and bring back the same sources.
+pub accepted-before : (s t e : List ℕ) (n : ℕ) → judgeEmbeddingWith s t (judgedBy earlierSteps s t e) ≡ accepted n 0 → AnsweredBy s t e (judgedBy earlierSteps s t e)
+accepted-before s t e n = answered-too earlierSteps earlier-stricter s t e
+
+-- In the image of a conforming document each list that a step of a followed path leaves holds exactly one item, the list that
+-- takes the items of a source list aside.
+pub one-item-on-paths : (s t e : List ℕ) → AcceptedEmbedding s t e → (d : List ℕ) → Conforming (tableOf s) d
+    → singleItems (settingOf s t e) (contentOf d) (contentOf (imageOf s t e d)) ≡ true
+one-item-on-paths = single-on-paths
+
+-- Reading goes on in the first item of such a list, whatever comes behind it; where there is none, the path isn't there.
+pub first-item-read : (T : Table) (τ m p : ℕ) (ps : List ℕ) → kindOf T τ ≡ list m
+    → ((t : ℕ) (k r : Content) → follow T τ (p ∷ ps) (elem t k r) ≡ follow T (next T τ p) ps k) × (follow T τ (p ∷ ps) end ≡ none)
+first-item-read = first-item

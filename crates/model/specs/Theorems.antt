@@ -16,6 +16,7 @@ pub mod ByElements
 pub mod ImageConforms
 pub mod ReadBack
 pub mod ReadConforms
+pub mod SingleItems
 pub mod Measures
 pub mod NeverLonger
 pub mod TemplateShapes
@@ -27,4 +28,5 @@ pub mod EntryLaws
 pub mod DemandThree
 pub mod Terms
 pub mod OnBytes
+pub mod StepRules
 pub mod RulesNeeded

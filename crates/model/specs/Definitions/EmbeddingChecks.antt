@@ -128,24 +128,21 @@ leavesOnly test κs = not (some-of (λ κ. not (test κ)) κs)
 unfoldable pub sequenceOrList : Kind → Bool
 sequenceOrList κ = isSequence κ || isList κ
 
-unfoldable pub sequenceOrChoice : Kind → Bool
-sequenceOrChoice κ = isSequence κ || isChoice κ
-
 -- 02, N3: whether some choice is left, and the first of them is an optional one
 unfoldable pub optionalFirst : List Kind → Bool
 optionalFirst [] = false
 optionalFirst (κ ∷ κs) = pick (isChoice κ) (isOptional κ) (optionalFirst κs)
 
 -- Which kinds the steps of a path leave, by the kind of the source type. From a sequence: one or more steps, each
--- leaving a sequence or a list; a character path: the same steps, or none; from a choice: sequences and choices of
--- either kind, at least one choice; from an optional choice: the same, and the first choice left is an optional one; from a
--- list: sequences and lists, at least one list.
+-- leaving a sequence or a list; a character path: the same steps, or none; from a choice: sequences, choices of either kind
+-- and lists (02, N6), which is all that has steps, at least one choice; from an optional choice: the same, and the first choice
+-- left is an optional one; from a list: sequences and lists, at least one list.
 unfoldable pub rightSteps : Kind → List Kind → Bool
 rightSteps text κs = leavesOnly sequenceOrList κs
 rightSteps empty κs = true
 rightSteps (sequence ms) κs = leavesOnly sequenceOrList κs && some-of (λ κ. true) κs
-rightSteps (choice needed ms) κs = leavesOnly sequenceOrChoice κs && some-of isChoice κs
-rightSteps (choice optional ms) κs = leavesOnly sequenceOrChoice κs && optionalFirst κs
+rightSteps (choice needed ms) κs = some-of isChoice κs
+rightSteps (choice optional ms) κs = optionalFirst κs
 rightSteps (list m) κs = leavesOnly sequenceOrList κs && some-of isList κs
 
 -- 02, N3: from an optional choice, a path's steps before its first choice step are also those of the type's first path.

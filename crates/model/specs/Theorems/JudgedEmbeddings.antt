@@ -13,12 +13,12 @@ use Rattle.model.specs.Definitions.Basics.{Verdict, passes, fails, goes,
 use Rattle.model.specs.Definitions.Commands.{Need, optional, EmbeddingCommand, mapsTo, path, step, embeddingEnd, alienE, embeddingCommands, embeddingWidth}
 use Rattle.model.specs.Definitions.Table.{Kind, text, empty, sequence, choice, list, Table, kindOf, edgesOf, stepFrom, isChoice, isOptional, tableOf}
 use Rattle.model.specs.Definitions.Embedding.{Edge, TypeMap, Embedding, noMap, targetOf, pathsOf, EmbeddingTail, withEmbeddingCommand, embeddingTail, embeddingOf, orRoot, next, endOf, leaves, firstPath, beforeChoice}
-use Rattle.model.specs.Definitions.EmbeddingChecks.{EmbeddingState, due, embeddingEnded, embeddingStep, embeddingComplete, embeddingForm, maxSteps, stepCount, embeddingLimits, Reached, reaches, pathStep, embeddingOperands, rootToRoot, firstEdge, eachType, endsAt, endsAtText, endsOf, wrongEnd, leavesOnly, sequenceOrChoice, optionalFirst, rightSteps, agrees, stepsOf, wrongSteps, clash, firstClash, clashesOf, pathClash}
+use Rattle.model.specs.Definitions.EmbeddingChecks.{EmbeddingState, due, embeddingEnded, embeddingStep, embeddingComplete, embeddingForm, maxSteps, stepCount, embeddingLimits, Reached, reaches, pathStep, embeddingOperands, rootToRoot, firstEdge, eachType, endsAt, endsAtText, endsOf, wrongEnd, optionalFirst, rightSteps, agrees, stepsOf, wrongSteps, clash, firstClash, clashesOf, pathClash}
 use Rattle.model.specs.Definitions.Image.{Setting}
 use Rattle.model.specs.Definitions.Refusals.{sound, fits}
 use Rattle.model.specs.Definitions.Entries.{judgedTable, judgedEmbedding, settingOf}
 use Rattle.model.specs.Theorems.Facts.{SoundTable, Walks, arrived, onward, GoodPath, MemberPath, Along, along-none, along-both, All, all-none, all-more, Pairs, pairs-none, pairs-more, Compatible, ToOptional, ValidEdges, text-edge, no-edge, sequence-edges, choice-edges, list-edge, Valid}
-use Rattle.model.specs.Theorems.Tools.{true-false, pick-true, pick-false, and-left, and-right}
+use Rattle.model.specs.Theorems.Tools.{true-false, pick-true, pick-false, and-left}
 use Rattle.model.specs.Theorems.JudgedTables.{goes-if, pick-passes, run-holds, all-at, neither, no-fault-at, no-fault-unless, table-sound}
 use Rattle.model.specs.Theorems.Runs.{passes-fails, goes-stops}
 
@@ -188,7 +188,7 @@ operands-hold T bs e =
 -- ---- checks 8 to 10, type by type
 
 -- two checks that pass together pass both
-or-else-passes : (v w : Verdict) → orElse v w ≡ passes → (v ≡ passes) × (w ≡ passes)
+pub or-else-passes : (v w : Verdict) → orElse v w ≡ passes → (v ≡ passes) × (w ≡ passes)
 unfolding orElse
 or-else-passes passes w e = (refl, e)
 or-else-passes (fails at) w e = passes-fails e refl
@@ -281,7 +281,7 @@ before-optional T τ (p ∷ ps) e = go (isChoice (kindOf T τ)) refl (before-opt
 to-optional : (X : Setting) (τ : ℕ) (ms : List ℕ) (es : List Edge) → 0 < length es → All (GoodEdge X τ (choice optional ms)) es → ToOptional X τ (pathsIn es)
 unfolding rightSteps firstPath
 to-optional X τ ms [] more good = absurd (omega arith)
-to-optional X τ ms (d ∷ es) more (all-more g good) = before-optional (X .target) τ (d .steps) (and-right (leavesOnly sequenceOrChoice (leaves (X .target) τ (d .steps))) _ (g .right))
+to-optional X τ ms (d ∷ es) more (all-more g good) = before-optional (X .target) τ (d .steps) (g .right)
 
 -- ---- the edges of a source type, by its kind
 

@@ -14,6 +14,7 @@ use Rattle.model.specs.Definitions.Conformance.{Holds, Conforming}
 use Rattle.model.specs.Definitions.TreeChecks.{maxLevels}
 use Rattle.model.specs.Definitions.Image.{Setting, image}
 use Rattle.model.specs.Definitions.Inverse.{readBack, bringBackContent}
+use Rattle.model.specs.Definitions.SingleItems.{singleItems}
 use Rattle.model.specs.Definitions.Refusals.{sound, Refusal, output-too-short, no-image, source-table, tree, maxLength}
 use Rattle.model.specs.Definitions.Entries.{judgedTable, judgedTree, Outcome, accepted, refused, untouched, written, unlessFaulty, judgeTree, settingOf, carry, bringWithin, bringContent, bringBack}
 use Rattle.model.specs.Theorems.Facts.{Valid}
@@ -21,6 +22,7 @@ use Rattle.model.specs.Theorems.Tools.{some-none}
 use Rattle.model.specs.Theorems.Terms.{AcceptedEmbedding, AcceptedTree, imageOf, fillerOf, levelsIn}
 use Rattle.model.specs.Theorems.JudgedTables.{tree-checks, table-sound}
 use Rattle.model.specs.Theorems.Documents.{document-injective, content-of-document, accepted-content}
+use Rattle.model.specs.Theorems.SingleItems.{image-single}
 use Rattle.model.specs.Theorems.NeverLonger.{levels-never-more, document-never-longer}
 use Rattle.model.specs.Theorems.BringingBack.{image-conforms, read-image, image-injective, brought-image, brought-source, nothing-exactly}
 use Rattle.model.specs.Theorems.EntryLaws.{Judges, judges-accept, judges-valid, accepted-refused, past-judge}
@@ -89,6 +91,9 @@ module _ (s t e : List ℕ) (a : AcceptedEmbedding s t e) where
 
   pub read-gives-back : (d : List ℕ) → Conforming (tableOf s) d → readBack X (contentOf (imageOf s t e d)) ≡ some (contentOf d)
   read-gives-back d c = rw (content-of-document 0 (image X (contentOf d))) (read-image X valid (contentOf d) (conforming-content c .1))
+
+  pub single-on-paths : (d : List ℕ) → Conforming (tableOf s) d → singleItems X (contentOf d) (contentOf (imageOf s t e d)) ≡ true
+  single-on-paths d c = rw (content-of-document 0 (image X (contentOf d))) (image-single X valid (contentOf d) (conforming-content c .1))
 
   pub shorter : (d : List ℕ) → Conforming (tableOf s) d → (length d ≤ length (imageOf s t e d)) × (levelsIn d ≤ levelsIn (imageOf s t e d))
   shorter d c =

@@ -17,12 +17,12 @@ use Rattle.model.specs.Definitions.Table.{Kind, text, empty, sequence, c
 use Rattle.model.specs.Definitions.Content.{Content, end, char, elem, levels}
 use Rattle.model.specs.Definitions.Conformance.{Holds, nothing, no-member, one-member, chosen, left-out, no-item, one-item}
 use Rattle.model.specs.Definitions.Embedding.{targetOf, firstPath, next, leaves, divide, Divided, parting, Parting, beginning, apart, beforeChoice}
-use Rattle.model.specs.Definitions.EmbeddingChecks.{maxSteps, leavesOnly, sequenceOrChoice, optionalFirst, rightSteps, clash, clashing}
+use Rattle.model.specs.Definitions.EmbeddingChecks.{maxSteps, optionalFirst, rightSteps, clash, clashing}
 use Rattle.model.specs.Definitions.Filler.{content}
 use Rattle.model.specs.Definitions.Image.{Setting, Placement, placed, under, beyond, growMembers, growKind, grow, place, Child, children, imageOfElement, placements, alongPaths, alongChoice, pathOfMember, itemsOf, alongList}
 use Rattle.model.specs.Definitions.Inverse.{childAt, childOfType, enter, follow, readOne, readMembers, readIfThere, readChoice, unlessEmpty, readItems, readList, readKind, readTo}
 use Rattle.model.specs.Theorems.Facts.{WellFormed, Walks, MemberPath, Along, along-none, along-both, All, all-none, all-more, Pairs, pairs-none, pairs-more, Compatible, ValidEdges, text-edge, no-edge, sequence-edges, choice-edges, list-edge, Valid, Starts, starts-none, starts-more, Fits, nothing-placed, right-here, below-sequence, below-choice, below-list}
-use Rattle.model.specs.Theorems.Tools.{true-false, some-none, pick-true, pick-false, and-right, one-plus}
+use Rattle.model.specs.Theorems.Tools.{true-false, some-none, pick-true, pick-false, one-plus}
 use Rattle.model.specs.Theorems.Placing.{entry-next, item-next, under-same, single-fits, placements-fit, GoodParts, divide-good, walks-step, walks-rest, member-walks, path-of-member, shared-walks}
 use Rattle.model.specs.Theorems.ByElements.{Each, each-end, each-char, each-elem, by-elements}
 use Rattle.model.specs.Theorems.ImageConforms.{letters-back}
@@ -49,7 +49,7 @@ first-step {A} {ok} {path = path} {a = a} (starts-more {q = q} {path = other} {a
     go (inl e) rec = (q, other, (let same : path ≡ q ∷ other = cc in same), f)
     go (inr there) rec = rec there
 
-under-member : {A : Type 0} (q : ℕ) (path : List ℕ) (a : A) (ps : List (Placement A)) → List·Memᴰ (placed (q ∷ path) a) ps → List·Memᴰ (placed path a) (under q ps)
+pub under-member : {A : Type 0} (q : ℕ) (path : List ℕ) (a : A) (ps : List (Placement A)) → List·Memᴰ (placed (q ∷ path) a) ps → List·Memᴰ (placed path a) (under q ps)
 unfolding under beyond
 under-member q path a [] h = absurd (List·Memᴰ·not-nil h)
 under-member {A} q path a (placed [] b ∷ ps) h = go (List·Memᴰ·cases-cons h) (under-member q path a ps)
@@ -97,8 +97,16 @@ is-choice (list m) e = true-false refl (sym e)
 no-first-step : {X : Type 0} {q : ℕ} {rest : List ℕ} → [] ≡ q ∷ rest → X
 no-first-step e = let z : _≡_ {A = ℕ} 0 1 = cc in absurd (omega arith)
 
+-- what stands right at an element is under no step
+pub not-right-here : {A X : Type 0} {q : ℕ} {path : List ℕ} {a b : A} → List·Memᴰ (placed (q ∷ path) a) (placed [] b ∷ []) → X
+not-right-here {A} {X} {q} {path} {a} {b} h = go (List·Memᴰ·cases-cons h)
+  where
+    go : (placed (q ∷ path) a ≡ placed [] b) ⊎ List·Memᴰ (placed (q ∷ path) a) [] → X
+    go (inl e) = let z : _≡_ {A = ℕ} 0 1 = cc in absurd (omega arith)
+    go (inr there) = absurd (List·Memᴰ·not-nil there)
+
 -- paths are shorter than what bounds them
-no-fit : {A X : Type 0} {T : Table} {τ : ℕ} {ps : List (Placement A)} → Fits T zero τ ps → X
+pub no-fit : {A X : Type 0} {T : Table} {τ : ℕ} {ps : List (Placement A)} → Fits T zero τ ps → X
 no-fit h = elim h [ ]
 
 -- where a first step finds nothing, the path isn't there
@@ -112,9 +120,15 @@ follow-some : (T : Table) (τ q : ℕ) (qs : List ℕ) (k j : Content) → enter
 unfolding follow andThen
 follow-some T τ q qs k j e = rw e refl
 
+-- the first item of a list is followed, and an empty list has none
+pub first-item : (T : Table) (τ m p : ℕ) (ps : List ℕ) → kindOf T τ ≡ list m
+    → ((t : ℕ) (k r : Content) → follow T τ (p ∷ ps) (elem t k r) ≡ follow T (next T τ p) ps k) × (follow T τ (p ∷ ps) end ≡ none)
+unfolding enter childAt
+first-item T τ m p ps e = (λ t k r. follow-some T τ p ps (elem t k r) k (rw e refl), follow-none T τ p ps end (rw e refl))
+
 module _ (T : Table) (fs : List Content) where
   -- entering by step q, one finds what was grown from what is placed under it, and that fits
-  abbrev Entered : ℕ → ℕ → List (Placement Content) → ℕ → Type 0
+  abbrev pub Entered : ℕ → ℕ → List (Placement Content) → ℕ → Type 0
   Entered n τ ps q =
       (enter (kindOf T τ) q (next T τ q) (grow content T fs (suc n) τ ps) ≡ some (grow content T fs n (next T τ q) (under q ps)))
       × Fits T n (next T τ q) (under q ps)
@@ -140,14 +154,10 @@ module _ (T : Table) (fs : List Content) where
   unfolding enter grow growKind content childAt
   enter-list n τ m path a ps e fits = rw (item-next T τ m e, e) (refl, fits)
 
-  enter-placed : {n τ q : ℕ} {path : List ℕ} {a : Content} {ps : List (Placement Content)} → Fits T (suc n) τ ps → List·Memᴰ (placed (q ∷ path) a) ps → Entered n τ ps q
+  pub enter-placed : {n τ q : ℕ} {path : List ℕ} {a : Content} {ps : List (Placement Content)} → Fits T (suc n) τ ps → List·Memᴰ (placed (q ∷ path) a) ps → Entered n τ ps q
   unfolding stepFrom membersOf
   enter-placed nothing-placed h = absurd (List·Memᴰ·not-nil h)
-  enter-placed {n} {τ} {q} {path} {a} (right-here {a = b}) h = go (List·Memᴰ·cases-cons h)
-    where
-      go : (placed (q ∷ path) a ≡ placed [] b) ⊎ List·Memᴰ (placed (q ∷ path) a) [] → Entered n τ (placed [] b ∷ []) q
-      go (inl e) = let z : _≡_ {A = ℕ} 0 1 = cc in absurd (omega arith)
-      go (inr there) = absurd (List·Memᴰ·not-nil there)
+  enter-placed right-here h = not-right-here h
   enter-placed {n} {τ} {q} {path} {a} (below-sequence {q = p} {path = other} {a = b} {ps = ps} ms e st sub) h =
       let found = first-step st h in
       let same : q ∷ path ≡ found .0 ∷ found .1 = found .2 in
@@ -170,7 +180,7 @@ module _ (T : Table) (fs : List Content) where
   -- ---- along a whole path
 
   -- what stands right here is the whole
-  found-here : {n τ : ℕ} {a : Content} {ps : List (Placement Content)} → Fits T n τ ps → List·Memᴰ (placed [] a) ps → grow content T fs n τ ps ≡ a
+  pub found-here : {n τ : ℕ} {a : Content} {ps : List (Placement Content)} → Fits T n τ ps → List·Memᴰ (placed [] a) ps → grow content T fs n τ ps ≡ a
   unfolding grow
   found-here nothing-placed h = absurd (List·Memᴰ·not-nil h)
   found-here {a = a} (right-here {a = b}) h = go (List·Memᴰ·cases-cons h)
@@ -270,7 +280,7 @@ follow-here T τ k j e = cc
 -- the first choice left by a path of an optional choice is an optional one
 left-optional : (ms : List ℕ) (κs : List Kind) → rightSteps (choice optional ms) κs ≡ true → optionalFirst κs ≡ true
 unfolding rightSteps
-left-optional ms κs e = and-right (leavesOnly sequenceOrChoice κs) (optionalFirst κs) e
+left-optional ms κs e = e
 
 -- where a path is there, the first choice on it isn't empty
 pub not-empty : (T : Table) (τ : ℕ) (ps : List ℕ) (k a : Content) → optionalFirst (leaves T τ ps) ≡ true → follow T τ ps k ≡ some a
