@@ -88,7 +88,8 @@ fn thousand_of_many() -> Input {
     let mut rng = Rng::new(2);
     let cases = thousand(|| {
         let shape = Shape::small(&mut rng);
-        let world = World::random(&mut rng, TableSize { types: 12, members: 6, optional: 0 }, shape);
+        let world =
+            World::random(&mut rng, TableSize { types: 12, members: 6, optional: 0, lists: 0 }, shape);
         let (source, target) = (world.embedded.source.to_bytes(), world.embedded.target.to_bytes());
         let setting = Setting { source, target, embedding: world.embedded.embedding.to_bytes() };
         Some(carry(&setting, &world.tree.to_bytes()))

@@ -1,15 +1,14 @@
 //! Altered images: bringing one back gives the source whose image it is, or
 //! says that there is none, or refuses the document.
 
-mod filler;
 mod seed;
 
-use filler::{element_at, filler_places};
 use lafindry_entries::{ensure, report, Failure, Setting};
 use lafindry_reference::generate::damage::{alter, damage_bytes, damage_commands, damage_tree};
 use lafindry_reference::generate::trees::random_element;
 use lafindry_reference::generate::{Rng, Shape, TableSize, World};
-use lafindry_reference::table::{ContentModel, Table};
+use lafindry_reference::places::{element_at, places_of, Places};
+use lafindry_reference::table::ContentModel;
 use lafindry_reference::tree::Element;
 use lafindry_reference::vectors::{Answer, Entry};
 use lafindry_reference::{Refusal, TREE};
@@ -66,7 +65,7 @@ fn bytes_changed() -> Result<(), Failure> {
     let mut outcomes = Outcomes::default();
     let mut images = 0;
     while images < 30 {
-        let size = TableSize { types: 4, members: 3, optional: 30 };
+        let size = TableSize { types: 4, members: 3, optional: 30, lists: 30 };
         let world = World::random(&mut rng, size, Shape { levels: 5, bytes: 25, deep: false, wide: false });
         let image = world.image().map_or(Vec::new(), |image| image.to_bytes());
         if !(10..60).contains(&image.len()) {
@@ -118,88 +117,78 @@ fn bring_altered_of(
 /// A filler element altered so that the tree still conforms: no tree has this
 /// image, as no path goes there.
 fn change_filler(rng: &mut Rng, world: &World, image: &Element) -> Option<Vec<u8>> {
-    let places = filler_places(world);
+    let places = Places::of(&world.mapping(), &world.tree).filler;
     let mut altered = image.clone();
     let element = element_at(&mut altered, places.get(rng.below(places.len()))?);
     *element = alter(rng, &world.embedded.target, element);
     Some(altered.to_bytes())
 }
 
-/// The places of all lists in a tree, and the types of their items.
-fn lists(table: &Table, element: &Element, at: &[usize]) -> Vec<(Vec<usize>, u8)> {
-    let mut found = Vec::new();
-    if let ContentModel::List(item) = table.types[element.element_type as usize] {
-        found.push((at.to_vec(), item));
-    }
-    for (number, child) in element.children.iter().enumerate() {
-        found.extend(lists(table, child, &[at, &[number]].concat()));
-    }
-    found
+/// The places of some lists in the image of a world.
+type Lists = fn(&World, &Element) -> Vec<Vec<usize>>;
+
+/// The places of all lists in an image.
+fn all_lists(world: &World, image: &Element) -> Vec<Vec<usize>> {
+    places_of(&world.embedded.target, image, ContentModel::is_list)
 }
 
-/// The items of some list of a tree, and their type.
-fn some_list<'a>(rng: &mut Rng, table: &Table, root: &'a mut Element) -> Option<(&'a mut Vec<Element>, u8)> {
-    let lists = lists(table, root, &[]);
-    let (place, item) = lists.get(rng.below(lists.len()))?;
-    Some((&mut element_at(root, place).children, *item))
+/// The places of the lists on the paths of choices. Each holds one item, and
+/// whatever the tree is brought back to, it is on the path of that choice.
+fn lists_on_paths(world: &World, _: &Element) -> Vec<Vec<usize>> {
+    Places::of(&world.mapping(), &world.tree).lists
 }
 
-/// An item more in some list: one repeated, or another one.
-fn add_item(rng: &mut Rng, world: &World, image: &Element) -> Option<Vec<u8>> {
+/// An item more in one of some lists: one repeated, or another one.
+fn add_item(rng: &mut Rng, world: &World, image: &Element, lists: Lists) -> Option<Vec<u8>> {
     let (target, mut altered) = (&world.embedded.target, image.clone());
-    let (items, item) = some_list(rng, target, &mut altered)?;
+    let places = lists(world, image);
+    let list = element_at(&mut altered, places.get(rng.below(places.len()))?);
+    let item = target.types[list.element_type as usize].named()[0];
     let shape = Shape { levels: 20, bytes: 200, deep: false, wide: false };
-    let at = rng.below(items.len());
-    let added = match items.get(at) {
+    let added = match list.children.get(rng.below(list.children.len())) {
         Some(repeated) if rng.chance(70) => repeated.clone(),
         _ => random_element(rng, target, item, shape)?,
     };
-    items.insert(at, added);
+    let at = rng.between(0, list.children.len());
+    list.children.insert(at, added);
     Some(altered.to_bytes())
 }
 
-/// An item less in some list that has one.
-fn drop_item(rng: &mut Rng, world: &World, image: &Element) -> Option<Vec<u8>> {
+/// An item less in one of some lists that has one.
+fn drop_item(rng: &mut Rng, world: &World, image: &Element, lists: Lists) -> Option<Vec<u8>> {
     let mut altered = image.clone();
-    let (items, _) = some_list(rng, &world.embedded.target, &mut altered)?;
+    let places = lists(world, image);
+    let items = &mut element_at(&mut altered, places.get(rng.below(places.len()))?).children;
     let at = rng.below(items.len());
     (!items.is_empty()).then(|| items.remove(at))?;
     Some(altered.to_bytes())
 }
 
-/// The places of all optional choices in a tree, and the types of their
-/// members.
-fn optional_choices(table: &Table, element: &Element, at: &[usize]) -> Vec<(Vec<usize>, Vec<u8>)> {
-    let mut found = Vec::new();
-    if let ContentModel::OptionalChoice(members) = &table.types[element.element_type as usize] {
-        found.push((at.to_vec(), members.clone()));
-    }
-    for (number, child) in element.children.iter().enumerate() {
-        found.extend(optional_choices(table, child, &[at, &[number]].concat()));
-    }
-    found
+/// The places of the optional choices of an image that hold nothing, or of
+/// those that hold a member.
+fn optional_choices(world: &World, image: &Element, is_empty: bool) -> Vec<Vec<usize>> {
+    let mut image = image.clone();
+    let mut places = places_of(&world.embedded.target, &image, ContentModel::is_optional);
+    places.retain(|place| element_at(&mut image, place).children.is_empty() == is_empty);
+    places
 }
 
 /// Some optional choice emptied that holds a member.
 fn empty_optional(rng: &mut Rng, world: &World, image: &Element) -> Option<Vec<u8>> {
     let mut altered = image.clone();
-    let mut full = optional_choices(&world.embedded.target, image, &[]);
-    full.retain(|(place, _)| !element_at(&mut altered, place).children.is_empty());
-    let (place, _) = full.get(rng.below(full.len()))?;
-    element_at(&mut altered, place).children.clear();
+    let full = optional_choices(world, image, false);
+    element_at(&mut altered, full.get(rng.below(full.len()))?).children.clear();
     Some(altered.to_bytes())
 }
 
 /// Some member put in an optional choice that holds nothing.
 fn fill_optional(rng: &mut Rng, world: &World, image: &Element) -> Option<Vec<u8>> {
     let (target, mut altered) = (&world.embedded.target, image.clone());
-    let mut empty = optional_choices(target, image, &[]);
-    empty.retain(|(place, _)| element_at(&mut altered, place).children.is_empty());
-    let (place, members) = empty.get(rng.below(empty.len()))?;
+    let empty = optional_choices(world, image, true);
+    let choice = element_at(&mut altered, empty.get(rng.below(empty.len()))?);
     let shape = Shape { levels: 20, bytes: 200, deep: false, wide: false };
-    let member = rng.pick(members);
-    let added = random_element(rng, target, member, shape)?;
-    element_at(&mut altered, place).children.push(added);
+    let member = rng.pick(target.types[choice.element_type as usize].named());
+    choice.children.push(random_element(rng, target, member, shape)?);
     Some(altered.to_bytes())
 }
 
@@ -226,14 +215,40 @@ fn filler_changed() -> Result<(), Failure> {
 
 #[test]
 fn items_added() -> Result<(), Failure> {
-    let outcomes = bring_altered("images with an item added", add_item)?;
+    let outcomes = bring_altered("images with an item added", |rng, world, image| {
+        add_item(rng, world, image, all_lists)
+    })?;
     ensure(outcomes.source > 300 && outcomes.no_image > 300, "too few outcomes")
 }
 
 #[test]
 fn items_dropped() -> Result<(), Failure> {
-    let outcomes = bring_altered("images with an item dropped", drop_item)?;
+    let outcomes = bring_altered("images with an item dropped", |rng, world, image| {
+        drop_item(rng, world, image, all_lists)
+    })?;
     ensure(outcomes.source > 200 && outcomes.no_image > 80, "too few outcomes")
+}
+
+/// A second item in a list on the path of a choice: there is no such image.
+#[test]
+fn items_added_on_paths() -> Result<(), Failure> {
+    let title = "images with a second item on the path of a choice";
+    let outcomes = bring_altered_of(title, World::listed, |rng, world, image| {
+        add_item(rng, world, image, lists_on_paths)
+    })?;
+    ensure(outcomes.source == 0, "a source for an image with a second item")?;
+    ensure(outcomes.no_image > 1000, "too few outcomes")
+}
+
+/// A list on the path of a choice left empty: there is no such image.
+#[test]
+fn items_dropped_on_paths() -> Result<(), Failure> {
+    let title = "images with no item on the path of a choice";
+    let outcomes = bring_altered_of(title, World::listed, |rng, world, image| {
+        drop_item(rng, world, image, lists_on_paths)
+    })?;
+    ensure(outcomes.source == 0, "a source for an image without an item")?;
+    ensure(outcomes.no_image > 1000, "too few outcomes")
 }
 
 /// Anything altered, so that the tree still conforms to the target table.

@@ -117,6 +117,18 @@ fn images_with_optional_choices_come_back() -> Result<(), Failure> {
     counts.finish("round trips of optional choices", 10)
 }
 
+#[test]
+fn images_with_lists_on_paths_come_back() -> Result<(), Failure> {
+    let counts = round_trips(800, World::listed, |counts, _, traits| {
+        counts.add("with a list before the first choice of a path", traits.list_before);
+        counts.add("with a list between choices", traits.list_between);
+        counts.add("with a list after the last choice", traits.list_after);
+        counts.add("with several lists on a path", traits.several_lists);
+        counts.add("of an optional choice left empty behind a list", traits.nothing_behind_list);
+    })?;
+    counts.finish("round trips of lists on the paths of choices", 50)
+}
+
 /// Carries the tree of a world whose image is near a limit. Fails unless it
 /// comes back where its measures are within the limits, and is refused by the
 /// limit that it passes.

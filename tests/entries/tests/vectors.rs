@@ -38,5 +38,15 @@ fn optional_choice_vectors_agree() -> Result<(), Failure> {
 
 #[test]
 fn optional_choice_cases_agree() -> Result<(), Failure> {
-    run_file("cases-n3.txt", 296)
+    run_file("cases-n3.txt", 288)
+}
+
+#[test]
+fn list_vectors_agree() -> Result<(), Failure> {
+    run_file("n6.txt", 1019)
+}
+
+#[test]
+fn list_cases_agree() -> Result<(), Failure> {
+    run_file("cases-n6.txt", 280)
 }

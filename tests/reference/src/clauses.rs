@@ -1,12 +1,18 @@
-//! Which clause about optional choices decides the answer to a case.
+//! Which clause about optional choices decides the answer to a case; in
+//! [`lists`], which clause about lists on the paths of choices.
 //!
 //! A refusal is given a clause where the other clauses of the same check hold
 //! at the place that it marks, so that the clause is seen apart.
 
 mod embeddings;
 mod images;
+pub mod lists;
+mod marked;
+mod repair;
 
+use crate::embedding;
 use crate::generate::damage::split_commands;
+use crate::generate::Embedded;
 use crate::table::{self, ContentModel, Table};
 use crate::tree::{self, commands, open_elements, Command, Element};
 use crate::vectors::{Answer, Case, Entry};
@@ -22,14 +28,12 @@ pub enum Clause {
     RepeatedMember,
     NoSuchStep,
     WrongEnd,
-    ListOnPath,
     NoChoiceOnPath,
     NeededChoiceFirst,
     OtherBeginning,
     SequenceThrough,
     TextThrough,
     ListThrough,
-    ChoiceThroughList,
     EqualPaths,
     EarlierBeginsLater,
     LaterBeginsEarlier,
@@ -58,21 +62,19 @@ pub enum Clause {
 
 impl Clause {
     /// All clauses, each with its text.
-    pub const ALL: [(Clause, &'static str); 38] = [
+    pub const ALL: [(Clause, &'static str); 36] = [
         (Clause::NoMember, "2, an optional choice without member"),
         (Clause::SeventeenthMember, "3, the 17th member of an optional choice"),
         (Clause::MemberWithoutType, "4, a member of an optional choice names no type"),
         (Clause::RepeatedMember, "5, an optional choice names a type twice"),
         (Clause::NoSuchStep, "4, no such step from an optional choice"),
         (Clause::WrongEnd, "8, a path of an optional choice ends at the wrong type"),
-        (Clause::ListOnPath, "9, a path of an optional choice leaves a list"),
         (Clause::NoChoiceOnPath, "9, a path of an optional choice leaves no choice"),
         (Clause::NeededChoiceFirst, "9, the first choice on a path of an optional choice is needed"),
         (Clause::OtherBeginning, "9, a path of an optional choice begins unlike the first"),
         (Clause::SequenceThrough, "9, a sequence goes through an optional choice"),
         (Clause::TextThrough, "9, a text goes through an optional choice"),
         (Clause::ListThrough, "9, a list goes through an optional choice"),
-        (Clause::ChoiceThroughList, "9, a choice goes through an optional choice and a list"),
         (Clause::EqualPaths, "10, equal paths of an optional choice"),
         (Clause::EarlierBeginsLater, "10, the earlier path of an optional choice begins the later"),
         (Clause::LaterBeginsEarlier, "10, the later path of an optional choice begins the earlier"),
@@ -100,11 +102,6 @@ impl Clause {
     ];
 }
 
-/// Whether a type is an optional choice.
-fn is_optional(model: &ContentModel) -> bool {
-    matches!(model, ContentModel::OptionalChoice(_))
-}
-
 /// Whether a command 17 stands in a table of a case.
 pub fn has_optional(case: &Case) -> bool {
     let tables = match case.entry {
@@ -128,16 +125,29 @@ fn accepted_table(document: &[u8]) -> Table {
     table::accept(document, SOURCE).expect("an accepted table")
 }
 
+/// The tables and the embedding of a case, if it has accepted tables and an
+/// embedding of the right form.
+fn embedded_of(case: &Case) -> Option<Embedded> {
+    let [source, target, bytes, ..] = &case.documents[..] else {
+        return None;
+    };
+    let (source, target) = (table::accept(source, SOURCE).ok()?, table::accept(target, TARGET).ok()?);
+    let embedding = embedding::read(&source, bytes).ok()?;
+    Some(Embedded { source, target, embedding })
+}
+
+/// The tables and the embedding of an accepted case.
+fn accepted_embedding(case: &Case) -> Embedded {
+    embedded_of(case).expect("an accepted embedding")
+}
+
 /// The clause that decides a refusal.
 fn refusal_clause(case: &Case, refusal: Refusal) -> Option<Clause> {
     let documents = &case.documents;
     match refusal.document {
         SOURCE => table_clause(&documents[0], refusal),
         TARGET => table_clause(&documents[1], refusal),
-        EMBEDDING => {
-            let (source, target) = (accepted_table(&documents[0]), accepted_table(&documents[1]));
-            embeddings::embedding_clause(&source, &target, &documents[2], refusal)
-        }
+        EMBEDDING => embeddings::embedding_clause(&embedded_of(case)?, refusal),
         TREE if refusal.number == 15 => images::no_image_clause(case),
         TREE => {
             let judging = if case.entry == Entry::BringBack { 1 } else { 0 };
@@ -177,7 +187,7 @@ fn tree_clause(table: &Table, bytes: &[u8], refusal: Refusal) -> Option<Clause> 
     let &(t, children) = open_elements(&bytes[..mark]).last()?;
     let (_, command) = commands(bytes).find(|&(offset, _)| offset == mark)?;
     match command {
-        _ if !is_optional(&table.types[t as usize]) => None,
+        _ if !table.types[t as usize].is_optional() => None,
         Command::Open(_) if children == 0 => Some(Clause::WrongMember),
         Command::Open(_) => Some(Clause::SecondMember),
         Command::Character(_) => Some(Clause::Character),
@@ -196,13 +206,13 @@ fn accepted_clauses(case: &Case, output: &[u8]) -> Vec<Clause> {
         Entry::JudgeTree => {
             let table = accepted_table(&documents[0]);
             let empty = images::any_element(&tree::build(&documents[1]), &|element: &Element| {
-                is_optional(&table.types[element.element_type as usize]) && element.children.is_empty()
+                table.types[element.element_type as usize].is_optional() && element.children.is_empty()
             });
             empty.then_some(Clause::ConformsEmpty).into_iter().collect()
         }
         Entry::JudgeEmbedding => Vec::new(),
-        Entry::Carry => images::carried_clauses(case),
-        Entry::BringBack => images::brought_back_clauses(case, output),
+        Entry::Carry => images::carried_clauses(&accepted_embedding(case), &documents[3]),
+        Entry::BringBack => images::brought_back_clauses(&accepted_embedding(case), output),
     }
 }
 

@@ -90,22 +90,6 @@ fn read_path(reader: &mut Reader) -> Result<Path, usize> {
     Ok(Path { offset, steps })
 }
 
-/// The kind of type a step leaves.
-#[derive(Clone, Copy, PartialEq, Eq)]
-enum Leaves {
-    Sequence,
-    Choice,
-    OptionalChoice,
-    List,
-}
-
-impl Leaves {
-    /// Whether it is a choice of either kind.
-    fn is_choice(&self) -> bool {
-        matches!(self, Leaves::Choice | Leaves::OptionalChoice)
-    }
-}
-
 /// What the checks after the form look at.
 struct Judge<'a> {
     source: &'a Table,
@@ -168,23 +152,23 @@ impl Judge<'_> {
         }
     }
 
-    /// What each step of a path leaves.
-    fn leaves(&self, map: &TypeMap, path: &Path) -> Vec<Leaves> {
-        let along = self.along(map, path);
-        along.iter().take(path.steps.len()).map(|&t| leaves(self.target, t)).collect()
+    /// The target types that the steps of a path leave.
+    fn left(&self, map: &TypeMap, path: &Path) -> Vec<&ContentModel> {
+        left(self.target, map.target, &path.steps)
     }
 
-    /// Check 9: the path has wrong steps for its source type, or too few.
+    /// Check 9: the path has wrong steps for its source type, or too few. Only
+    /// from a choice of either kind may a step leave a choice; it may leave a
+    /// list from every kind of type.
     fn wrong_steps(&self, model: &ContentModel, map: &TypeMap, edge: usize) -> bool {
-        let left = self.leaves(map, &map.paths[edge]);
-        let no_choice = !left.iter().any(Leaves::is_choice);
-        let no_list = !left.contains(&Leaves::List);
+        let left = self.left(map, &map.paths[edge]);
+        let no_choice = !left.iter().any(|model| model.is_choice());
         let right = match model {
             ContentModel::Text => no_choice,
             ContentModel::Sequence(_) => no_choice && !left.is_empty(),
-            ContentModel::Choice(_) => no_list && !no_choice,
-            ContentModel::OptionalChoice(_) => no_list && self.may_hold_nothing(map, edge),
-            ContentModel::List(_) => no_choice && !no_list,
+            ContentModel::Choice(_) => !no_choice,
+            ContentModel::OptionalChoice(_) => self.may_hold_nothing(map, edge),
+            ContentModel::List(_) => no_choice && left.iter().any(|model| model.is_list()),
             ContentModel::Empty => true,
         };
         !right
@@ -194,10 +178,10 @@ impl Judge<'_> {
     /// such step leaves an optional one, and the steps before it are those of
     /// the type's first path.
     fn may_hold_nothing(&self, map: &TypeMap, edge: usize) -> bool {
-        let first_left = self.leaves(map, &map.paths[edge]).into_iter().find(Leaves::is_choice);
+        let first_left = self.left(map, &map.paths[edge]).into_iter().find(|model| model.is_choice());
         let beginning = before_choice(self.target, map.target, &map.paths[edge].steps);
         let first_beginning = before_choice(self.target, map.target, &map.paths[0].steps);
-        first_left == Some(Leaves::OptionalChoice) && beginning == first_beginning
+        first_left.is_some_and(ContentModel::is_optional) && beginning == first_beginning
     }
 
     /// Check 10: the path of an edge clashes with an earlier one of its type.
@@ -207,7 +191,7 @@ impl Judge<'_> {
             let pairs = path.steps.iter().zip(&earlier.steps);
             match pairs.clone().position(|(a, b)| a != b) {
                 None => true,
-                Some(place) => model.is_choice() && !self.leaves(map, path)[place].is_choice(),
+                Some(place) => model.is_choice() && !self.left(map, path)[place].is_choice(),
             }
         })
     }
@@ -225,20 +209,23 @@ pub fn walk(target: &Table, start: u8, steps: &[u8]) -> Result<Vec<u8>, usize> {
     Ok(along)
 }
 
+/// The target types that the steps of a path leave. Where a step doesn't
+/// exist, the last of them is the type without that step.
+pub fn left<'a>(target: &'a Table, start: u8, steps: &[u8]) -> Vec<&'a ContentModel> {
+    let mut at = Some(start);
+    let models = steps.iter().map_while(|&step| {
+        let from = at?;
+        let model = target.types.get(from as usize)?;
+        at = target.step(from, step);
+        Some(model)
+    });
+    models.collect()
+}
+
 /// The steps of a path before its first that leaves a choice of either kind,
 /// if there is such a step.
 pub fn before_choice<'a>(target: &Table, start: u8, steps: &'a [u8]) -> Option<&'a [u8]> {
     let along = walk(target, start, steps).ok()?;
     let place = along.iter().take(steps.len()).position(|&t| target.types[t as usize].is_choice())?;
     Some(&steps[..place])
-}
-
-/// What a step from a type leaves. Only types that have steps are asked for.
-fn leaves(target: &Table, from: u8) -> Leaves {
-    match target.types[from as usize] {
-        ContentModel::Choice(_) => Leaves::Choice,
-        ContentModel::OptionalChoice(_) => Leaves::OptionalChoice,
-        ContentModel::List(_) => Leaves::List,
-        _ => Leaves::Sequence,
-    }
 }

@@ -26,7 +26,9 @@ pub mod embeddings;
 pub mod tables;
 pub mod trees;
 
-pub use cases::{random_case, random_small_case, random_small_optional_case, World};
+pub use cases::{
+    random_case, random_small_case, random_small_listed_case, random_small_optional_case, World,
+};
 pub use embeddings::{random_embedded, Embedded};
 pub use tables::{random_table, TableSize};
 pub use trees::{random_tree, Shape};

@@ -112,13 +112,15 @@ fn member(choice: &Element, t: u8) -> Option<&Element> {
     choice.children.first().filter(|member| member.element_type == t)
 }
 
-/// Whether the choices on a place's path are taken as in this image. Of the
-/// members of a source choice at most one has such a path; where an optional
-/// choice holds nothing, none has.
+/// Whether the choices on a place's path are taken as in this image. In a list
+/// that stands for one item the first is followed; where it is missing, the
+/// path is not there. Of the members of a source choice at most one has such a
+/// path; where an optional choice holds nothing, none has.
 fn is_taken(place: &Place, image: &Element) -> bool {
     match place {
         Place::Choice(t, rest) => member(image, *t).is_some_and(|member| is_taken(rest, member)),
         Place::Nothing => image.children.is_empty(),
+        Place::Item(_, rest) => image.children.first().is_some_and(|item| is_taken(rest, item)),
         Place::Sequence(members) => members
             .iter()
             .zip(&image.children)

@@ -1,6 +1,6 @@
 //! A reference for the five entries of paper 01, with the optional choices of
-//! paper 02 (N3), written from these papers and the lists of readings alone,
-//! in plain Rust.
+//! paper 02 (N3) and its lists on the paths of choices (N6), written from these
+//! papers and the lists of readings alone, in plain Rust.
 //!
 //! | Entry | Function |
 //! |---|---|
@@ -18,6 +18,7 @@ pub mod embedding;
 pub mod generate;
 pub mod image;
 pub mod inverse;
+pub mod places;
 pub mod reader;
 pub mod table;
 pub mod tree;

@@ -4,17 +4,22 @@
 //! - `reference generate SEED COUNT [small]` prints random cases with answers.
 //! - `reference generate SEED COUNT optional` prints small ones with an optional
 //!   choice, spread over the answers and the clauses about optional choices.
+//! - `reference generate SEED COUNT lists` prints small ones with a list on the
+//!   path of a choice, spread over the answers and the clauses about such lists.
 //! - `reference ENTRY FILE.. [OUTLEN]` runs one entry on documents in files.
 
-use lafindry_reference::clauses::{shown, Clause};
-use lafindry_reference::generate::{random_case, random_small_case, random_small_optional_case, Rng};
+use lafindry_reference::clauses::lists::{self, ListClause};
+use lafindry_reference::clauses::{self, Clause};
+use lafindry_reference::generate::{
+    random_case, random_small_case, random_small_listed_case, random_small_optional_case, Rng,
+};
 use lafindry_reference::vectors::{check_line, is_skipped, Answer, Case, Entry};
 use std::collections::BTreeMap;
 use std::io::Write;
 use std::process::ExitCode;
 
 const USAGE: &str = "usage: reference vectors FILE..
-       reference generate SEED COUNT [small|optional]
+       reference generate SEED COUNT [small|optional|lists]
        reference ENTRY FILE.. [OUTLEN]";
 
 fn main() -> ExitCode {
@@ -24,7 +29,8 @@ fn main() -> ExitCode {
         ["vectors", ref files @ ..] if !files.is_empty() => run_vectors(files),
         ["generate", seed, count] => generate(seed, count, random_case),
         ["generate", seed, count, "small"] => generate(seed, count, random_small_case),
-        ["generate", seed, count, "optional"] => generate_optional(seed, count),
+        ["generate", seed, count, "optional"] => generate_spread(seed, count, OPTIONAL),
+        ["generate", seed, count, "lists"] => generate_spread(seed, count, LISTS),
         [entry, ref files @ ..] => run_entry(entry, files),
         [] => Err(USAGE.to_string()),
     };
@@ -96,31 +102,59 @@ fn generate(seed: &str, count: &str, random: impl Fn(&mut Rng) -> Case) -> Resul
 /// spread.
 const DRAWN_FOR_ONE: usize = 200;
 
-/// Cases by the kind of their answer and by the last clause that they show.
-type Groups = BTreeMap<((u64, u64, String), Option<Clause>), Vec<String>>;
+/// Cases that are spread over clauses: the word that asks for them, what they
+/// are, how one is drawn, and the clauses that they show.
+struct Spread<C: 'static> {
+    word: &'static str,
+    text: &'static str,
+    random: fn(&mut Rng) -> Case,
+    shown: fn(&Case, &Answer) -> Vec<C>,
+    clauses: &'static [(C, &'static str)],
+}
 
-/// Prints small cases with an optional choice, in groups as equal as may be.
-fn generate_optional(seed: &str, count: &str) -> Result<bool, String> {
+/// Those with an optional choice.
+const OPTIONAL: Spread<Clause> = Spread {
+    word: "optional",
+    text: "random cases with an optional choice in a
+# table, spread over the answers and the clauses about optional choices; the answers are the
+# reference's.",
+    random: random_small_optional_case,
+    shown: clauses::shown,
+    clauses: &Clause::ALL,
+};
+
+/// Those with a list on the path of a choice.
+const LISTS: Spread<ListClause> = Spread {
+    word: "lists",
+    text: "random cases with a list on the path of a
+# choice, spread over the answers and the clauses about such lists; the answers are the
+# reference's.",
+    random: random_small_listed_case,
+    shown: lists::shown,
+    clauses: &ListClause::ALL,
+};
+
+/// Cases by the kind of their answer and by the last clause that they show.
+type Groups<C> = BTreeMap<((u64, u64, String), Option<C>), Vec<String>>;
+
+/// Prints small cases in groups as equal as may be.
+fn generate_spread<C: Ord + Copy>(seed: &str, count: &str, cases: Spread<C>) -> Result<bool, String> {
     let mut rng = Rng::new(seed.parse().map_err(|_| USAGE)?);
     let count: usize = count.parse().map_err(|_| USAGE)?;
     let mut groups = Groups::new();
     for _ in 0..count * DRAWN_FOR_ONE {
-        let case = random_small_optional_case(&mut rng);
+        let case = (cases.random)(&mut rng);
         let answer = case.run()?;
         let line = format!("{case} -> {answer}");
-        let clause = shown(&case, &answer).last().copied();
+        let clause = (cases.shown)(&case, &answer).last().copied();
         let group = groups.entry((kind(&case, &answer), clause)).or_default();
         if group.len() < count && !group.contains(&line) {
             group.push(line);
         }
     }
-    println!(
-        "# Made by `reference generate {seed} {count} optional`: random cases with an optional choice in a"
-    );
-    println!("# table, spread over the answers and the clauses about optional choices; the answers are the");
-    println!("# reference's.");
+    println!("# Made by `reference generate {seed} {count} {}`: {}", cases.word, cases.text);
     for (((_, _, kind), clause), lines) in spread(groups, count) {
-        let text = Clause::ALL.iter().find(|(named, _)| clause == Some(*named)).map(|(_, text)| *text);
+        let text = cases.clauses.iter().find(|(named, _)| clause == Some(*named)).map(|(_, text)| *text);
         println!("\n# {}", [&kind[..]].into_iter().chain(text).collect::<Vec<&str>>().join(": "));
         lines.iter().for_each(|line| println!("{line}"));
     }
@@ -129,7 +163,7 @@ fn generate_optional(seed: &str, count: &str) -> Result<bool, String> {
 
 /// So many cases of all groups: each group has as many as the others, or all
 /// that there are.
-fn spread(groups: Groups, count: usize) -> Groups {
+fn spread<C: Ord>(groups: Groups<C>, count: usize) -> Groups<C> {
     let most = |each: usize| groups.values().map(|lines| lines.len().min(each)).sum::<usize>();
     let each = (1..count).take_while(|&each| most(each) <= count).last().unwrap_or(1);
     groups.into_iter().map(|(key, lines)| (key, lines.into_iter().take(each).collect())).collect()

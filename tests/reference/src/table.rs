@@ -42,6 +42,16 @@ impl ContentModel {
     pub fn is_choice(&self) -> bool {
         matches!(self, ContentModel::Choice(_) | ContentModel::OptionalChoice(_))
     }
+
+    /// Whether it is an optional choice.
+    pub fn is_optional(&self) -> bool {
+        matches!(self, ContentModel::OptionalChoice(_))
+    }
+
+    /// Whether it is a list.
+    pub fn is_list(&self) -> bool {
+        matches!(self, ContentModel::List(_))
+    }
 }
 
 /// A table. The root is type 0.

@@ -1,6 +1,8 @@
-//! The clauses about optional choices are told apart as they should be: cases
-//! worked by hand, each with its answer and what it shows.
+//! The clauses about optional choices, and those about lists on the paths of
+//! choices, are told apart as they should be: cases worked by hand, each with
+//! its answer and what it shows.
 
+use lafindry_reference::clauses::lists::{self, has_list_on_choice, ListClause};
 use lafindry_reference::clauses::{has_optional, shown, Clause};
 use lafindry_reference::vectors::check_line;
 
@@ -55,10 +57,6 @@ fn clauses_of_check_9() {
     assert_embedding(OPTIONAL, TWICE, apart, "9 3 7", &[Clause::OtherBeginning]);
     let needed = TWICE.replace("17", "13");
     assert_embedding(OPTIONAL, &needed, SECOND, "9 3 2", &[Clause::NeededChoiceFirst]);
-    let below = "20002122012201212201220220022120032f";
-    let list = "1401171502150310111f";
-    assert_embedding(OPTIONAL, list, below, "9 3 2", &[Clause::ListOnPath]);
-    assert_embedding(NEEDED, list, below, "9 3 2", &[Clause::ChoiceThroughList]);
     let sequence = "121501150210111f";
     let no_choice = "200021220121220220012120022f";
     assert_embedding(OPTIONAL, sequence, no_choice, "9 3 2", &[Clause::NoChoiceOnPath]);
@@ -162,4 +160,152 @@ fn cases_with_an_optional_choice() {
     assert!(!has("judge_table 14171f -> refused 4 1 0"));
     assert!(!has("judge_tree 101f 17 -> refused 2 4 0"));
     assert!(!has("judge_embedding 101f 101f 17 -> refused 2 3 0"));
+}
+
+/// A list of optional choices.
+const BELOW_LIST: &str = "1401171502150310111f";
+/// The paths through its item.
+const BY_ITEM: &str = "20002122012201212201220220022120032f";
+/// A choice of a list and an empty type.
+const BEHIND: &str = "1315011503140210111f";
+/// The paths of it, one through the list.
+const BY_LIST: &str = "2000212201220121220220022120032f";
+
+/// Asserts the answer of a line and the clauses about lists that it shows.
+fn assert_lists(line: &str, clauses: &[ListClause]) {
+    let (case, answer) = check_line(line).unwrap_or_else(|message| panic!("{line}: {message}"));
+    assert_eq!(lists::shown(&case, &answer), clauses, "{line}");
+}
+
+/// Asserts the refusal of an embedding and its clauses about lists.
+fn assert_refused(documents: [&str; 3], refusal: &str, clauses: &[ListClause]) {
+    let documents = documents.join(" ");
+    assert_lists(&format!("judge_embedding {documents} -> refused {refusal}"), clauses);
+}
+
+#[test]
+fn lists_and_wrong_steps() {
+    let second = BY_ITEM.replacen("2201", "2202", 1);
+    assert_refused([NEEDED, BELOW_LIST, &second], "4 3 3", &[ListClause::NoSuchStep]);
+    let sequence = "121501150210111f";
+    assert_refused([sequence, BELOW_LIST, &second], "4 3 3", &[]);
+    let (no_choice, by_lists) = ("12150115021403140410111f", "20002122012201212202220120032120042f");
+    assert_refused([NEEDED, no_choice, by_lists], "9 3 2", &[ListClause::NeededWithoutChoice]);
+    assert_refused([OPTIONAL, no_choice, by_lists], "9 3 2", &[ListClause::OptionalWithoutChoice]);
+    assert_refused([OPTIONAL, sequence, "200021220121220220012120022f"], "9 3 2", &[]);
+    let needed = BELOW_LIST.replace("17", "13");
+    assert_refused([OPTIONAL, &needed, BY_ITEM], "9 3 2", &[ListClause::NeededChoiceBehind]);
+    // The list comes after the needed choice.
+    assert_refused([OPTIONAL, BEHIND, BY_LIST], "9 3 2", &[]);
+}
+
+#[test]
+fn lists_and_beginnings() {
+    let one_list = "12150115021402171503150410111f";
+    let unlike = "200021220122012201212202220220032120042f";
+    assert_refused([OPTIONAL, one_list, unlike], "9 3 9", &[ListClause::OtherBeginning]);
+    // No list is in either beginning.
+    let apart = "20002122012201212202220220012120022f";
+    assert_refused([OPTIONAL, TWICE, apart], "9 3 7", &[]);
+}
+
+#[test]
+fn other_types_through_a_choice_and_a_list() {
+    let (target, member) = ("1715011402101f", "200021220122012002212f");
+    assert_refused(["121501101f", target, member], "9 3 2", &[ListClause::SequenceThrough]);
+    assert_refused(["1401101f", target, member], "9 3 2", &[ListClause::ListThrough]);
+    assert_refused(["101f", target, "200021220122012f"], "9 3 2", &[ListClause::TextThrough]);
+    // Without a list on the path.
+    assert_refused(["121501101f", "171501121502101f", member], "9 3 2", &[]);
+}
+
+#[test]
+fn clashes_with_a_list_in_the_common_beginning() {
+    let clash = |embedding, mark: usize, clause| {
+        let documents = ["131501150211111f", "14011315021503121503111f", embedding];
+        assert_refused(documents, &format!("10 3 {mark}"), &[clause]);
+    };
+    clash("200021220122022122012202200320032f", 7, ListClause::EqualPaths);
+    clash("2000212201220121220122012201200220032f", 7, ListClause::EarlierBeginsLater);
+    clash("2000212201220122012122012201200320022f", 9, ListClause::LaterBeginsEarlier);
+    let beside = "14011215021502131503150410111f";
+    let apart = "2000212201220122012122012202220220032120042f";
+    assert_refused([NEEDED, beside, apart], "10 3 9", &[ListClause::PartingAtSequence]);
+    // They part before the list.
+    let one_list = "12150115021402171503150410111f";
+    let unlike = "200021220122012201212202220220032120042f";
+    assert_refused([NEEDED, one_list, unlike], "10 3 9", &[]);
+}
+
+#[test]
+fn lists_with_other_than_one_item() {
+    let refused = |documents: &str, clauses: &[ListClause]| {
+        assert_lists(&format!("bring_back {documents} 60 -> refused 15 4 0"), clauses);
+    };
+    let optional = format!("{OPTIONAL} {BELOW_LIST} {BY_ITEM}");
+    refused(&format!("{optional} 3000300132300132323f"), &[ListClause::SecondItem]);
+    refused(&format!("{optional} 3000323f"), &[ListClause::MissingItem]);
+    // Three items; an item whose filler is in no image.
+    refused(&format!("{optional} 3000300132300132300132323f"), &[]);
+    refused(&format!("{NEEDED} {BELOW_LIST} {BY_ITEM} 3000323f"), &[]);
+    // A list on the path of a sequence without an item, and one that is no path's with an item.
+    refused("121501111f 1401111f 200021220120012f 3000323f", &[]);
+    refused("111f 1401111f 20002f 3000300132323f", &[]);
+}
+
+#[test]
+fn carried_through_lists() {
+    let (nothing, text, empty) = ("3000323f", "30003001314132323f", "3000300232323f");
+    let carried = |setting: [&str; 3], tree, answer, clauses: &[ListClause]| {
+        let setting = setting.join(" ");
+        assert_lists(&format!("carry {setting} {tree} 60 -> ok {answer}"), clauses);
+    };
+    use ListClause::*;
+    let below = [OPTIONAL, BELOW_LIST, BY_ITEM];
+    carried(below, nothing, "7 0 3000300132323f", &[EmptyBehind, FirstStep]);
+    carried(below, text, "12 0 30003001300231413232323f", &[OptionalBefore, FirstStep]);
+    let needed = [NEEDED, BELOW_LIST, BY_ITEM];
+    carried(needed, text, "12 0 30003001300231413232323f", &[NeededBefore, FirstStep]);
+    let behind = [NEEDED, BEHIND, BY_LIST];
+    carried(behind, text, "12 0 30003001300231413232323f", &[NeededAfter]);
+    // The other member's path has no list.
+    carried(behind, empty, "7 0 3000300332323f", &[]);
+    let between = ["13150115041402131503150410111f", "2000212201220122012122012201220220032120042f"];
+    carried([NEEDED, between[0], between[1]], empty, "13 0 3000300130023004323232323f", &[NeededBetween]);
+    let four = [
+        OPTIONAL,
+        "14011215021507171503140414051315061507140811101f",
+        "20002122012201220122012201220122012122012201220122012201220220082120072f",
+    ];
+    let image = "30003001300230033004300530063008314132323232323230073232323f";
+    let all = [OptionalBefore, OptionalBetween, OptionalAfter, FirstStep, SeveralLists];
+    carried(four, text, &format!("30 1 {image}"), &all);
+}
+
+#[test]
+fn brought_back_through_lists() {
+    let brought = |source: &str, image: &str, answer: &str, clauses: &[ListClause]| {
+        let line = format!("bring_back {source} {BELOW_LIST} {BY_ITEM} {image} 60 -> ok {answer}");
+        assert_lists(&line, clauses);
+    };
+    let (nothing, text) = ("3000300132323f", "30003001300231413232323f");
+    brought(OPTIONAL, nothing, "4 0 3000323f", &[ListClause::BroughtBackEmpty]);
+    brought(OPTIONAL, text, "9 0 30003001314132323f", &[ListClause::BroughtBackFull]);
+    brought(NEEDED, text, "9 0 30003001314132323f", &[ListClause::BroughtBackNeeded]);
+}
+
+/// Only paths of choices count, in accepted tables and an embedding of the
+/// right form; there a step from a list that doesn't exist counts too.
+#[test]
+fn cases_with_a_list_on_the_path_of_a_choice() {
+    let has = |line: &str| has_list_on_choice(&check_line(line).unwrap().0);
+    let judged = |documents: [&str; 3], answer: &str| {
+        has(&format!("judge_embedding {} -> {answer}", documents.join(" ")))
+    };
+    assert!(judged([NEEDED, BELOW_LIST, BY_ITEM], "ok 3 0 -"));
+    let second = BY_ITEM.replacen("2201", "2202", 1);
+    assert!(judged([NEEDED, BELOW_LIST, &second], "refused 4 3 3"));
+    assert!(!judged([NEEDED, BELOW_LIST, &BY_ITEM[2..]], "refused 2 3 0"));
+    assert!(!judged(["121501111f", "1401111f", "200021220120012f"], "ok 1 0 -"));
+    assert!(!has(&format!("judge_table {BELOW_LIST} -> ok 4 0 -")));
 }

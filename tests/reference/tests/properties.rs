@@ -1,12 +1,15 @@
 //! What holds of every random world and case.
 
 use lafindry_reference::clauses::has_optional;
+use lafindry_reference::clauses::lists::has_list_on_choice;
 use lafindry_reference::embedding::walk;
 use lafindry_reference::generate::damage::{alter, damage_bytes, damage_commands, damage_tree};
 use lafindry_reference::generate::{
-    random_case, random_small_case, random_small_optional_case, Rng, Shape, TableSize, World,
+    random_case, random_small_case, random_small_listed_case, random_small_optional_case, Rng, Shape,
+    TableSize, World,
 };
 use lafindry_reference::image::fillers;
+use lafindry_reference::places::{element_at, Places};
 use lafindry_reference::table::{ContentModel, Table};
 use lafindry_reference::tree::{self, levels, open_elements, Element};
 use lafindry_reference::vectors::{Answer, Case, Entry};
@@ -203,11 +206,13 @@ fn all_rows(table: &Table, types: &[u8], bytes: usize) -> Vec<Vec<Element>> {
 #[test]
 fn just_the_images_come_back() {
     let mut rng = Rng::new(15);
-    let (mut brought, mut refused) = (0, 0);
-    for _ in 0..1000 {
-        let size = TableSize { types: 4, members: 3, optional: 70 };
+    let (mut brought, mut refused, mut listed) = (0, 0, 0);
+    for number in 0..1000 {
+        let (optional, lists) = if number % 2 == 0 { (70, 0) } else { (40, 50) };
+        let size = TableSize { types: 4, members: 3, optional, lists };
         let world = World::random(&mut rng, size, Shape { levels: 5, bytes: 22, deep: false, wide: false });
-        if !world.embedded.has_optional() {
+        let has_list = world.embedded.has_list_on_choice();
+        if !has_list && !world.embedded.has_optional() {
             continue;
         }
         let [s, t, e, _] = documents(&world);
@@ -228,9 +233,10 @@ fn just_the_images_come_back() {
             }
             brought += images.contains_key(&given) as usize;
             refused += !images.contains_key(&given) as usize;
+            listed += (has_list && images.contains_key(&given)) as usize;
         }
     }
-    assert!(brought > 1000 && refused > 1000, "{brought} {refused}");
+    assert!(brought > 1000 && refused > 1000 && listed > 200, "{brought} {refused} {listed}");
 }
 
 /// Any byte changed in a small image.
@@ -238,7 +244,7 @@ fn just_the_images_come_back() {
 fn every_changed_byte_is_told_apart() {
     let mut rng = Rng::new(6);
     for _ in 0..25 {
-        let size = TableSize { types: 4, members: 3, optional: 30 };
+        let size = TableSize { types: 4, members: 3, optional: 30, lists: 30 };
         let world = World::random(&mut rng, size, Shape { levels: 5, bytes: 25, deep: false, wide: false });
         let Some(image) = world.image().map(|image| image.to_bytes()).filter(|image| image.len() < 60) else {
             continue;
@@ -484,24 +490,49 @@ fn cases_reach_every_answer() {
 }
 
 /// The generators reach paths of 0 to 12 steps, shared target types, the
-/// greatest levels and about the greatest length.
+/// greatest levels, about the greatest length, and lists on the paths of
+/// choices.
 #[test]
 fn worlds_reach_the_limits() {
     let mut lengths = BTreeSet::new();
-    let (mut shared, mut most_levels, mut most_bytes, mut most_types) = (0, 0, 0, 0);
+    let (mut shared, mut most_levels, mut most_bytes, mut most_types, mut listed) = (0, 0, 0, 0, 0);
     for (_, world) in worlds(13, 4000) {
         let maps = &world.embedded.embedding.maps;
         lengths.extend(maps.iter().flat_map(|map| &map.paths).map(|path| path.steps.len()));
         let targets: BTreeSet<u8> = maps.iter().map(|map| map.target).collect();
         shared += (targets.len() < maps.len()) as usize;
         most_types += (world.embedded.target.types.len() >= 60) as usize;
+        listed += world.embedded.has_list_on_choice() as usize;
         if let Ok((image, _)) = carried(&world) {
             most_levels += (levels(&image) == MOST_LEVELS) as usize;
             most_bytes += (image.len() + 1 >= MOST_BYTES) as usize;
         }
     }
     assert_eq!(lengths, (0..=12).collect());
-    assert!(shared > 400 && most_levels > 20 && most_bytes > 5 && most_types > 5);
+    assert!(shared > 400 && most_levels > 20 && most_bytes > 5 && most_types > 5 && listed > 200);
+}
+
+/// Every list on the path of a choice holds just one item in the image. Worlds
+/// drawn for such lists have them, and half of these have optional choices.
+#[test]
+fn lists_on_paths_hold_one_item() {
+    let mut rng = Rng::new(16);
+    let (mut lists, mut optional) = (0, 0);
+    for _ in 0..800 {
+        let world = World::listed(&mut rng);
+        assert!(world.embedded.has_list_on_choice());
+        optional += world.embedded.has_optional() as usize;
+        let Some(mut image) = world.image() else {
+            continue;
+        };
+        for place in Places::of(&world.mapping(), &world.tree).lists {
+            let list = element_at(&mut image, &place);
+            assert!(world.embedded.target.types[list.element_type as usize].is_list());
+            assert_eq!(list.children.len(), 1);
+            lists += 1;
+        }
+    }
+    assert!(lists > 1000 && (300..500).contains(&optional), "{lists} {optional}");
 }
 
 /// Small cases keep their promise.
@@ -513,5 +544,7 @@ fn small_cases_are_small() {
         assert!(case.documents.iter().map(Vec::len).sum::<usize>() <= 60);
         let case = random_small_optional_case(&mut rng);
         assert!(case.documents.iter().map(Vec::len).sum::<usize>() <= 110 && has_optional(&case));
+        let case = random_small_listed_case(&mut rng);
+        assert!(case.documents.iter().map(Vec::len).sum::<usize>() <= 110 && has_list_on_choice(&case));
     }
 }

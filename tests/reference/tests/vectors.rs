@@ -38,6 +38,16 @@ fn optional_choice_cases_agree() {
 }
 
 #[test]
+fn list_vectors_agree() {
+    run_file("n6.txt");
+}
+
+#[test]
+fn list_cases_agree() {
+    run_file("cases-n6.txt");
+}
+
+#[test]
 fn a_printed_line_is_read_back() {
     let mut rng = Rng::new(11);
     for _ in 0..500 {

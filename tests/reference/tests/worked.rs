@@ -426,13 +426,8 @@ fn optional_first_choice_is_optional() {
     assert_eq!(embedding(&OPTIONAL.replace("17", "13"), needed_first, both), Ok(3));
 }
 
-/// A list on the path of a choice of either kind; a path without a choice.
 #[test]
-fn optional_paths_have_a_choice_and_no_list() {
-    let both = "20 00 21 22 01 22 01 21 22 01 22 02 20 02 21 20 03 2F";
-    let below_list = "14 01 17 15 02 15 03 10 11 1F";
-    assert_eq!(embedding(OPTIONAL, below_list, both), refused(9, 3, 2));
-    assert_eq!(embedding(&OPTIONAL.replace("17", "13"), below_list, both), refused(9, 3, 2));
+fn optional_paths_have_a_choice() {
     let sequence = "12 15 01 15 02 10 11 1F";
     assert_eq!(embedding(OPTIONAL, sequence, "20 00 21 22 01 21 22 02 20 01 21 20 02 2F"), refused(9, 3, 2));
 }
@@ -502,4 +497,118 @@ fn a_needed_choice_through_an_optional_one() {
 fn filler_of_an_optional_choice() {
     let target = "13 15 01 15 02 12 15 03 17 15 01 11 1F";
     assert_image(["11 1F", target, "20 00 2F", "30 00 32 3F"], "30 00 30 02 32 32 3F", 1);
+}
+
+// Paper 02, N6: lists on the paths of choices.
+
+/// A needed choice of a text and an empty type, as `OPTIONAL` is.
+const NEEDED: &str = "13 15 01 15 02 10 11 1F";
+/// A list of optional choices.
+const BELOW_LIST: &str = "14 01 17 15 02 15 03 10 11 1F";
+/// The paths through its item.
+const BY_ITEM: &str = "20 00 21 22 01 22 01 21 22 01 22 02 20 02 21 20 03 2F";
+/// Lists before, between and after an optional and a needed choice, with a
+/// filler element beside.
+const FOUR_LISTS: &str = "14 01 12 15 02 15 07 17 15 03 14 04 14 05 13 15 06 15 07 14 08 11 10 1F";
+/// The paths through these lists; that of the empty type has no last one.
+const THROUGH_LISTS: &str = "20 00 21 22 01 22 01 22 01 22 01 22 01 22 01 22 01 \
+     21 22 01 22 01 22 01 22 01 22 01 22 02 20 08 21 20 07 2F";
+
+/// The image is the list, with one item: for nothing, and for each member.
+#[test]
+fn list_before_the_choice() {
+    let documents = |tree| [OPTIONAL, BELOW_LIST, BY_ITEM, tree];
+    assert_image(documents("30 00 32 3F"), "30 00 30 01 32 32 3F", 0);
+    assert_image(documents("30 00 30 02 32 32 3F"), "30 00 30 01 30 03 32 32 32 3F", 0);
+    let text = "30 00 30 01 31 41 32 32 3F";
+    let image = "30 00 30 01 30 02 31 41 32 32 32 3F";
+    assert_image(documents(text), image, 0);
+    assert_image([NEEDED, BELOW_LIST, BY_ITEM, text], image, 0);
+}
+
+#[test]
+fn list_between_choices() {
+    let target = "13 15 01 15 04 14 02 13 15 03 15 04 10 11 1F";
+    let paths = "20 00 21 22 01 22 01 22 01 21 22 01 22 01 22 02 20 03 21 20 04 2F";
+    let image = "30 00 30 01 30 02 30 04 32 32 32 32 3F";
+    assert_image([NEEDED, target, paths, "30 00 30 02 32 32 3F"], image, 0);
+}
+
+/// Only the path of the text has the list.
+#[test]
+fn list_after_the_choice() {
+    let documents = |tree| {
+        let (target, paths) =
+            ("13 15 01 15 03 14 02 10 11 1F", "20 00 21 22 01 22 01 21 22 02 20 02 21 20 03 2F");
+        [NEEDED, target, paths, tree]
+    };
+    let image = "30 00 30 01 30 02 31 41 32 32 32 3F";
+    assert_image(documents("30 00 30 01 31 41 32 32 3F"), image, 0);
+    assert_image(documents("30 00 30 02 32 32 3F"), "30 00 30 03 32 32 3F", 0);
+    assert_eq!(brought_back(documents("30 00 30 01 32 32 3F"), 60), refused(15, 4, 0));
+}
+
+#[test]
+fn several_lists_on_a_path() {
+    let documents = |tree| [OPTIONAL, FOUR_LISTS, THROUGH_LISTS, tree];
+    assert_image(documents("30 00 32 3F"), "30 00 30 01 30 02 32 30 07 32 32 32 3F", 1);
+    let image = "30 00 30 01 30 02 30 03 30 04 30 05 30 06 30 08 31 41 32 32 32 32 32 32 30 07 32 32 32 3F";
+    assert_image(documents("30 00 30 01 31 41 32 32 3F"), image, 1);
+    // A second item in the second list; the last list without an item.
+    let second = image.replace("30 04 30 05", "30 04 30 05 30 07 32 32 32 30 04 30 05");
+    assert_eq!(brought_back(documents(&second), 60), refused(15, 4, 0));
+    let missing = image.replace("30 08 31 41 32 ", "");
+    assert_eq!(brought_back(documents(&missing), 60), refused(15, 4, 0));
+}
+
+/// A second item, of either kind of content, and no item at all.
+#[test]
+fn other_than_one_item_is_no_image() {
+    let optional = |tree| brought_back([OPTIONAL, BELOW_LIST, BY_ITEM, tree], 60);
+    assert_eq!(optional("30 00 30 01 32 30 01 32 32 3F"), refused(15, 4, 0));
+    assert_eq!(optional("30 00 30 01 30 03 32 32 30 01 32 32 3F"), refused(15, 4, 0));
+    assert_eq!(optional("30 00 30 01 32 30 01 30 03 32 32 32 3F"), refused(15, 4, 0));
+    assert_eq!(optional("30 00 32 3F"), refused(15, 4, 0));
+    let needed = |tree| brought_back([NEEDED, BELOW_LIST, BY_ITEM, tree], 60);
+    assert_eq!(needed("30 00 30 01 32 32 3F"), refused(15, 4, 0));
+    assert_eq!(needed("30 00 32 3F"), refused(15, 4, 0));
+}
+
+/// Lists and no choice; a needed choice behind the list.
+#[test]
+fn list_is_no_choice() {
+    let lists = "12 15 01 15 02 14 03 14 04 10 11 1F";
+    let paths = "20 00 21 22 01 22 01 21 22 02 22 01 20 03 21 20 04 2F";
+    assert_eq!(embedding(NEEDED, lists, paths), refused(9, 3, 2));
+    assert_eq!(embedding(OPTIONAL, lists, paths), refused(9, 3, 2));
+    let needed = BELOW_LIST.replace("17", "13");
+    assert_eq!(embedding(NEEDED, &needed, BY_ITEM), Ok(3));
+    assert_eq!(embedding(OPTIONAL, &needed, BY_ITEM), refused(9, 3, 2));
+}
+
+/// Paths that part at a sequence behind a list; beginnings that differ by a
+/// list; a second step from a list.
+#[test]
+fn paths_part_at_a_choice_behind_a_list() {
+    let beside = "14 01 12 15 02 15 02 17 15 03 15 04 10 11 1F";
+    let apart = "20 00 21 22 01 22 01 22 01 21 22 01 22 02 22 02 20 03 21 20 04 2F";
+    assert_eq!(embedding(NEEDED, beside, apart), refused(10, 3, 9));
+    assert_eq!(embedding(OPTIONAL, beside, apart), refused(9, 3, 9));
+    let one_list = "12 15 01 15 02 14 02 17 15 03 15 04 10 11 1F";
+    let unlike = "20 00 21 22 01 22 01 22 01 21 22 02 22 02 20 03 21 20 04 2F";
+    assert_eq!(embedding(NEEDED, one_list, unlike), refused(10, 3, 9));
+    assert_eq!(embedding(OPTIONAL, one_list, unlike), refused(9, 3, 9));
+    let second = BY_ITEM.replacen("22 01", "22 02", 1);
+    assert_eq!(embedding(NEEDED, BELOW_LIST, &second), refused(4, 3, 3));
+}
+
+/// A sequence, a list or a text still goes through no choice.
+#[test]
+fn only_choices_go_through_a_choice_and_a_list() {
+    let target = "17 15 01 14 02 10 1F";
+    let member = "20 00 21 22 01 22 01 20 02 21 2F";
+    assert_eq!(embedding("12 15 01 10 1F", target, member), refused(9, 3, 2));
+    assert_eq!(embedding("14 01 10 1F", target, member), refused(9, 3, 2));
+    assert_eq!(embedding("10 1F", target, "20 00 21 22 01 22 01 2F"), refused(9, 3, 2));
+    assert_eq!(embedding("17 15 01 10 1F", target, member), Ok(2));
 }

@@ -1,6 +1,7 @@
 //! Which rules about paths the image of a tree shows.
 
-use lafindry_reference::embedding::walk;
+use lafindry_reference::clauses::lists::ListsOnPath;
+use lafindry_reference::embedding::left;
 use lafindry_reference::generate::World;
 use lafindry_reference::table::ContentModel;
 use lafindry_reference::tree::Element;
@@ -33,6 +34,18 @@ pub struct Traits {
     pub sixteen_optional: bool,
     /// A needed choice has a path through an optional choice.
     pub through_optional: bool,
+    /// The path that is built for a choice of either kind leaves a list before
+    /// its first choice.
+    pub list_before: bool,
+    /// It leaves a list between its first and its last choice.
+    pub list_between: bool,
+    /// It leaves a list after its last choice.
+    pub list_after: bool,
+    /// It leaves two lists or more.
+    pub several_lists: bool,
+    /// An optional choice that holds nothing has a list before its first
+    /// choice, so that the one left empty stands behind it.
+    pub nothing_behind_list: bool,
 }
 
 impl Traits {
@@ -45,11 +58,9 @@ impl Traits {
 
     /// Adds what the image of an element shows.
     fn add(&mut self, world: &World, element: &Element) {
-        let source = &world.embedded.source;
-        let is_list =
-            |element: &Element| matches!(source.types[element.element_type as usize], ContentModel::List(_));
+        let embedded = &world.embedded;
         let paths = paths_of(world, element.element_type);
-        match source.types[element.element_type as usize] {
+        match embedded.model_of(element) {
             ContentModel::Sequence(_) => {
                 let pairs = || (1..paths.len()).flat_map(|b| (0..b).map(move |a| (a, b)));
                 self.shared_list |= pairs().any(|(a, b)| shares_list(&paths[a], &paths[b]));
@@ -57,14 +68,18 @@ impl Traits {
             }
             ContentModel::List(_) if !element.children.is_empty() => {
                 self.later_list |= paths[0].leaves_list.iter().filter(|&&list| list).count() > 1;
-                let filled = |item: &Element| is_list(item) && !item.children.is_empty();
+                let filled = |item: &Element| embedded.model_of(item).is_list() && !item.children.is_empty();
                 self.list_in_list |= element.children.iter().any(filled);
             }
             ContentModel::Choice(_) => {
                 self.long_choice |= paths.iter().any(|path| path.steps.len() > 1);
                 self.through_optional |= paths.iter().any(|path| path.leaves_optional.contains(&true));
+                self.add_lists(world, element);
             }
-            ContentModel::OptionalChoice(_) => self.add_optional(world, element, &paths),
+            ContentModel::OptionalChoice(_) => {
+                self.add_optional(world, element, &paths);
+                self.add_lists(world, element);
+            }
             _ => {}
         }
         element.children.iter().for_each(|child| self.add(world, child));
@@ -80,17 +95,22 @@ impl Traits {
         self.nested_optional |= element.children.iter().any(|child| holds_optional(world, child));
         self.sixteen_optional |= paths.len() == MOST_MEMBERS;
     }
+
+    /// Adds what the image of a choice of either kind shows of lists.
+    fn add_lists(&mut self, world: &World, choice: &Element) {
+        let lists = ListsOnPath::of(&world.embedded.left_by(choice));
+        self.list_before |= lists.before > 0;
+        self.list_between |= lists.between > 0;
+        self.list_after |= lists.after > 0;
+        self.several_lists |= lists.count() > 1;
+        self.nothing_behind_list |= choice.children.is_empty() && lists.before > 0;
+    }
 }
 
 /// Whether an element is an optional choice or holds one at some depth.
 fn holds_optional(world: &World, element: &Element) -> bool {
-    is_optional(&world.embedded.source.types[element.element_type as usize])
+    world.embedded.model_of(element).is_optional()
         || element.children.iter().any(|child| holds_optional(world, child))
-}
-
-/// Whether a type is an optional choice.
-fn is_optional(model: &ContentModel) -> bool {
-    matches!(model, ContentModel::OptionalChoice(_))
 }
 
 /// The steps of a path, and which of them leave a list or an optional choice.
@@ -105,12 +125,11 @@ fn paths_of(world: &World, t: u8) -> Vec<Path> {
     let target = &world.embedded.target;
     let map = &world.embedded.embedding.maps[t as usize];
     let path = |steps: &Vec<u8>| {
-        let along = walk(target, map.target, steps).expect("a valid path");
-        let left = along[..steps.len()].iter().map(|&t| &target.types[t as usize]);
+        let left = left(target, map.target, steps);
         Path {
             steps: steps.clone(),
-            leaves_list: left.clone().map(|model| matches!(model, ContentModel::List(_))).collect(),
-            leaves_optional: left.map(is_optional).collect(),
+            leaves_list: left.iter().map(|model| model.is_list()).collect(),
+            leaves_optional: left.iter().map(|model| model.is_optional()).collect(),
         }
     };
     map.paths.iter().map(|path_map| path(&path_map.steps)).collect()

@@ -9,6 +9,7 @@ use super::tables::{random_table, TableSize};
 use super::trees::{pad, random_tree, recursive_types, Shape};
 use super::Rng;
 use crate::clauses::has_optional;
+use crate::clauses::lists::has_list_on_choice;
 use crate::image::Mapping;
 use crate::table::ContentModel;
 use crate::tree::{self, commands, Command, Element};
@@ -28,7 +29,7 @@ impl World {
         loop {
             let source = random_table(rng, size);
             if let Some(tree) = random_tree(rng, &source, shape) {
-                return World { embedded: random_embedded(rng, &source, size.optional), tree };
+                return World { embedded: random_embedded(rng, &source, size), tree };
             }
         }
     }
@@ -50,10 +51,27 @@ impl World {
     pub fn optional(rng: &mut Rng) -> World {
         let mut size = TableSize::random(rng);
         size.optional = rng.pick(&[40, 70, 100]);
+        World::first(rng, size, Embedded::has_optional)
+    }
+
+    /// A world of mixed size with a list on the path of a choice of either
+    /// kind. Half of these worlds have an optional choice in one of their
+    /// tables.
+    pub fn listed(rng: &mut Rng) -> World {
+        let mut size = TableSize::random(rng);
+        size.optional = rng.pick(&[0, 0, 0, 40, 70, 100]);
+        size.lists = rng.pick(&[30, 50, 70]);
+        World::first(rng, size, |embedded| {
+            embedded.has_list_on_choice() && (size.optional == 0 || embedded.has_optional())
+        })
+    }
+
+    /// The first of some random worlds whose embedding passes a test.
+    fn first(rng: &mut Rng, size: TableSize, test: impl Fn(&Embedded) -> bool) -> World {
         let shape = if rng.chance(90) { Shape::small(rng) } else { Shape::deep(rng) };
         loop {
             let world = World::random(rng, size, shape);
-            if world.embedded.has_optional() {
+            if test(&world.embedded) {
                 return world;
             }
         }
@@ -176,7 +194,8 @@ pub fn random_case(rng: &mut Rng) -> Case {
 pub fn random_small_case(rng: &mut Rng) -> Case {
     loop {
         let bytes = rng.pick(&[4, 8, 12, 20]);
-        let size = TableSize { types: rng.between(1, 4), members: 2, optional: rng.pick(&[0, 0, 40]) };
+        let (optional, lists) = (rng.pick(&[0, 0, 40]), rng.pick(&[0, 0, 30]));
+        let size = TableSize { types: rng.between(1, 4), members: 2, optional, lists };
         let shape = Shape { levels: 6, bytes, deep: rng.chance(30), wide: false };
         let world = World::random(rng, size, shape);
         // Tables of one type would else be most of those that fit.
@@ -194,15 +213,34 @@ pub fn random_small_case(rng: &mut Rng) -> Case {
 /// A case with an optional choice in one of its tables, whose documents have at
 /// most 60 bytes each and 110 together.
 pub fn random_small_optional_case(rng: &mut Rng) -> Case {
+    let entries = [6, 24, 12, 30, 28];
+    random_small_case_of(rng, entries, |rng| (80, rng.pick(&[0, 0, 15, 30])), has_optional)
+}
+
+/// A case with a list on the path of a choice of either kind, of the same size.
+pub fn random_small_listed_case(rng: &mut Rng) -> Case {
+    random_small_case_of(rng, [0, 24, 0, 32, 44], |rng| (rng.pick(&[0, 0, 80]), 40), has_list_on_choice)
+}
+
+/// The first of some small cases that passes a test, with entries drawn by
+/// weights. What is drawn for each is how many of 100 choices are optional and
+/// how many of 100 types on the paths of choices are lists.
+fn random_small_case_of(
+    rng: &mut Rng,
+    entries: [usize; 5],
+    kinds: impl Fn(&mut Rng) -> (usize, usize),
+    test: impl Fn(&Case) -> bool,
+) -> Case {
     loop {
         let bytes = rng.pick(&[4, 8, 12, 20]);
-        let size = TableSize { types: rng.between(1, 5), members: rng.pick(&[2, 3]), optional: 80 };
+        let (optional, lists) = kinds(rng);
+        let size = TableSize { types: rng.between(1, 5), members: rng.pick(&[2, 3]), optional, lists };
         let shape = Shape { levels: 6, bytes, deep: rng.chance(30), wide: false };
         let world = World::random(rng, size, shape);
-        let entry = Entry::ALL[rng.weighted(&[6, 24, 12, 30, 28])];
+        let entry = Entry::ALL[rng.weighted(&entries)];
         let case = case_of(rng, &world, entry);
         let lengths = || case.documents.iter().map(Vec::len);
-        if has_optional(&case) && lengths().all(|length| length <= 60) && lengths().sum::<usize>() <= 110 {
+        if test(&case) && lengths().all(|length| length <= 60) && lengths().sum::<usize>() <= 110 {
             return case;
         }
     }

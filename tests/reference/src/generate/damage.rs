@@ -132,8 +132,8 @@ pub fn damage_table(rng: &mut Rng, table: &Table) -> Vec<u8> {
 /// A type of a table; an optional choice in half of the cases where there is
 /// one.
 fn type_to_damage(rng: &mut Rng, table: &Table) -> usize {
-    let is_optional = |&t: &usize| matches!(table.types[t], ContentModel::OptionalChoice(_));
-    let optional: Vec<usize> = (0..table.types.len()).filter(is_optional).collect();
+    let types = 0..table.types.len();
+    let optional: Vec<usize> = types.filter(|&t| table.types[t].is_optional()).collect();
     match !optional.is_empty() && rng.chance(50) {
         true => rng.pick(&optional),
         false => rng.below(table.types.len()),

@@ -16,12 +16,11 @@ pub fn change_path(rng: &mut Rng, embedded: &Embedded) -> Option<Embedded> {
     let edges = embedded.source.types[t].edges();
     let edge = rng.below(edges);
     let other = (edge + 1 + rng.below(edges - 1)) % edges;
-    let steps = match rng.weighted(&[30, 30, 15, 20]) {
+    let steps = match rng.weighted(&[30, 15, 20, 30]) {
         0 => part(rng, &mut changed, t, edge),
-        1 => detour(rng, &mut changed, t, edge),
-        2 => shortcut(&mut changed, t, edge),
-        _ if other != edge => prolong(&mut changed, t, edge, other),
-        _ => None,
+        1 => shortcut(rng, &mut changed, t, edge),
+        2 if other != edge => prolong(&mut changed, t, edge, other),
+        _ => detour(rng, &mut changed, t, edge),
     }?;
     changed.embedding.maps[t].paths[edge].steps = steps;
     Some(changed)
@@ -84,34 +83,47 @@ fn part(rng: &mut Rng, embedded: &mut Embedded, t: usize, edge: usize) -> Option
     Some(steps)
 }
 
-/// The path with one of its steps led through a further member of a new type
-/// of any kind, which leads on to where the step led.
+/// The path with one of its steps led through a further member, by up to three
+/// new types of any kind, the last of which leads on to where the step led.
 fn detour(rng: &mut Rng, embedded: &mut Embedded, t: usize, edge: usize) -> Option<Vec<u8>> {
     let along = along(embedded, t, edge);
     let mut steps = embedded.embedding.maps[t].paths[edge].steps.clone();
     let target = &mut embedded.target;
-    let new = target.types.len();
-    if steps.is_empty() || steps.len() >= MOST_STEPS || new >= MOST_TYPES {
+    let (first, count) = (target.types.len(), rng.between(1, 3));
+    if steps.is_empty() || steps.len() + count > MOST_STEPS || first + count > MOST_TYPES {
         return None;
     }
     let at = rng.below(steps.len());
-    let end = along[at + 1];
-    steps[at] = add_member(target, along[at], new as u8)?;
-    steps.insert(at + 1, 1);
-    target.types.push(match rng.weighted(&[10, 25, 40, 25]) {
-        0 => ContentModel::Sequence(vec![end]),
-        1 => ContentModel::Choice(vec![end, new as u8]),
-        2 => ContentModel::OptionalChoice(vec![end]),
-        _ => ContentModel::List(end),
-    });
+    steps[at] = add_member(target, along[at], first as u8)?;
+    for new in first..first + count {
+        let next = if new + 1 < first + count { new as u8 + 1 } else { along[at + 1] };
+        steps.insert(at + 1, 1);
+        target.types.push(match rng.weighted(&[10, 25, 40, 25]) {
+            0 => ContentModel::Sequence(vec![next]),
+            1 => ContentModel::Choice(vec![next, new as u8]),
+            2 => ContentModel::OptionalChoice(vec![next]),
+            _ => ContentModel::List(next),
+        });
+    }
     Some(steps)
 }
 
-/// The path of one step, from the image of its source type to its end.
-fn shortcut(embedded: &mut Embedded, t: usize, edge: usize) -> Option<Vec<u8>> {
-    let end = *along(embedded, t, edge).last()?;
-    let start = embedded.embedding.maps[t].target;
-    Some(vec![add_member(&mut embedded.target, start, end)?])
+/// The path that goes from the first type but lists that it leaves straight to
+/// its end, or there by a new list.
+fn shortcut(rng: &mut Rng, embedded: &mut Embedded, t: usize, edge: usize) -> Option<Vec<u8>> {
+    let along = along(embedded, t, edge);
+    let target = &mut embedded.target;
+    let (end, new) = (*along.last()?, target.types.len());
+    let mut steps = embedded.embedding.maps[t].paths[edge].steps.clone();
+    let at = (0..steps.len()).find(|&at| !target.types[along[at] as usize].is_list())?;
+    steps.truncate(at);
+    if rng.chance(50) && new < MOST_TYPES && at + 2 <= MOST_STEPS {
+        target.types.push(ContentModel::List(end));
+        steps.extend([add_member(target, along[at], new as u8)?, 1]);
+    } else {
+        steps.push(add_member(target, along[at], end)?);
+    }
+    Some(steps)
 }
 
 /// The path that goes on where that of another edge ends.

@@ -3,8 +3,9 @@
 
 use super::tables::{random_table, tower, TableSize};
 use super::Rng;
-use crate::embedding::{self, before_choice, walk, Embedding, Path, TypeMap};
+use crate::embedding::{self, before_choice, left, walk, Embedding, Path, TypeMap};
 use crate::table::{self, ContentModel, Table};
+use crate::tree::Element;
 use crate::{MOST_MEMBERS, MOST_STEPS, MOST_TYPES, TARGET};
 
 /// Two tables and a valid embedding of the source in the target.
@@ -19,7 +20,36 @@ impl Embedded {
     /// Whether one of the tables has an optional choice.
     pub fn has_optional(&self) -> bool {
         let types = self.source.types.iter().chain(&self.target.types);
-        types.into_iter().any(|model| matches!(model, ContentModel::OptionalChoice(_)))
+        types.into_iter().any(ContentModel::is_optional)
+    }
+
+    /// Whether a path of a choice of either kind leaves a list.
+    pub fn has_list_on_choice(&self) -> bool {
+        let maps = self.source.types.iter().zip(&self.embedding.maps);
+        let mut choices = maps.filter(|(model, _)| model.is_choice());
+        choices.any(|(_, map)| {
+            let mut left = map.paths.iter().flat_map(|path| left(&self.target, map.target, &path.steps));
+            left.any(ContentModel::is_list)
+        })
+    }
+
+    /// The content model of a source element.
+    pub fn model_of(&self, element: &Element) -> &ContentModel {
+        &self.source.types[element.element_type as usize]
+    }
+
+    /// The target types left by the path that is built for a choice of either
+    /// kind: that of the member it holds, or where it holds nothing the steps
+    /// before the first choice.
+    pub fn left_by(&self, choice: &Element) -> Vec<&ContentModel> {
+        let map = &self.embedding.maps[choice.element_type as usize];
+        let held = choice.children.first().map(|child| child.element_type);
+        let edge = self.model_of(choice).named().iter().position(|&member| Some(member) == held);
+        let steps = match edge {
+            Some(edge) => &map.paths[edge].steps[..],
+            None => before_choice(&self.target, map.target, &map.paths[0].steps).unwrap_or_default(),
+        };
+        left(&self.target, map.target, steps)
     }
 
     /// Whether the embedding is valid.
@@ -28,14 +58,17 @@ impl Embedded {
     }
 }
 
-/// A target table and a valid embedding for a source table. So many of 100
-/// choices of the target are optional where the source leaves that open.
-pub fn random_embedded(rng: &mut Rng, source: &Table, optional: usize) -> Embedded {
+/// A target table and a valid embedding for a source table. The size says how
+/// many choices of the target are optional, where the source leaves that open,
+/// and how many lists are on the paths of choices.
+pub fn random_embedded(rng: &mut Rng, source: &Table, size: TableSize) -> Embedded {
+    let TableSize { optional, lists, .. } = size;
+    let steps = if lists > 0 { Steps::Valid } else { Steps::WithoutLists };
     for _ in 0..8 {
         let wrap = rng.pick(&[0, 20, 40, 60, 85]);
         let extra = rng.pick(&[0, 15, 30, 50]);
-        if let Some(mut embedded) = derive(rng, source, Chances { wrap, extra, optional }) {
-            vary(rng, &mut embedded);
+        if let Some(mut embedded) = derive(rng, source, Chances { wrap, extra, optional, lists }) {
+            vary(rng, &mut embedded, steps);
             return embedded;
         }
     }
@@ -61,13 +94,14 @@ fn type_map(target: u8, paths: Vec<Vec<u8>>) -> TypeMap {
     TypeMap { offset: 0, target, paths }
 }
 
-/// How many of 100 paths are longer, members are filler and choices are
-/// optional.
+/// How many of 100 paths are longer, members are filler, choices are optional
+/// and types that the path of a choice leaves are lists.
 #[derive(Debug, Clone, Copy)]
 struct Chances {
     wrap: usize,
     extra: usize,
     optional: usize,
+    lists: usize,
 }
 
 /// Builds a target table around the maps of a source table.
@@ -119,7 +153,10 @@ impl Derivation<'_> {
             0 => tower(self.rng.between(2, 40), self.rng.between(1, MOST_MEMBERS)),
             1..=5 => tower(self.rng.between(2, 7), self.rng.between(1, 8)),
             6..=12 => return Some(()),
-            _ => random_table(self.rng, TableSize { types: 4, members: 3, optional: self.chances.optional }),
+            _ => {
+                let Chances { optional, lists, .. } = self.chances;
+                random_table(self.rng, TableSize { types: 4, members: 3, optional, lists })
+            }
         };
         let first = self.target.len() as u8;
         for model in &table.types {
@@ -199,7 +236,7 @@ impl Derivation<'_> {
             0 => ContentModel::Text,
             1 => ContentModel::List(self.filler_type()),
             2 => ContentModel::Sequence(vec![self.filler_type(), self.filler_type()]),
-            3 if !self.fillers.is_empty() && self.draws_optional() => {
+            3 if !self.fillers.is_empty() && self.draws(self.chances.optional) => {
                 ContentModel::OptionalChoice(self.distinct_fillers(&[], 3))
             }
             3 if self.fillers.len() > 1 => ContentModel::Choice(self.distinct_fillers(&[], 2)),
@@ -207,10 +244,11 @@ impl Derivation<'_> {
         }
     }
 
-    /// Whether a choice is to be an optional one. Nothing is drawn where none
-    /// is, so that such tables stay the same for a seed.
-    fn draws_optional(&mut self) -> bool {
-        self.chances.optional > 0 && self.rng.chance(self.chances.optional)
+    /// True in so many of 100 cases. Nothing is drawn for 0, so that tables
+    /// without optional choices, or without lists on the paths of choices, stay
+    /// the same for a seed.
+    fn draws(&mut self, percent: usize) -> bool {
+        percent > 0 && self.rng.chance(percent)
     }
 
     /// Some distinct filler types besides the given ones.
@@ -295,17 +333,22 @@ impl Derivation<'_> {
         Some(t)
     }
 
-    /// Makes `at` a choice or sequence that the paths of some members of a
-    /// choice leave.
+    /// Makes `at` a choice, sequence or list that the paths of some members of
+    /// a choice leave.
     fn lay_choice(&mut self, route: &mut Route, at: u8, so_far: Stretch) -> Option<()> {
         let last = so_far.prefix.len() + 1 >= MOST_STEPS;
         let may_wait = !last || (so_far.passed && so_far.edges.len() == 1);
+        if may_wait && self.draws(self.chances.lists) {
+            let item = self.next_choice(route, so_far.onward(so_far.edges, 0, so_far.passed), &[])?;
+            self.target[at as usize] = Some(ContentModel::List(item));
+            return Some(());
+        }
         if may_wait && self.rng.chance(30) {
             return self.lay_beside(route, at, so_far);
         }
         // The first choice on the paths of an optional choice is optional.
-        let must = !so_far.passed && matches!(route.model, ContentModel::OptionalChoice(_));
-        let optional = must || self.draws_optional();
+        let must = !so_far.passed && route.model.is_optional();
+        let optional = must || self.draws(self.chances.optional);
         let groups = self.split(so_far.edges, last);
         let mut types: Vec<u8> = Vec::new();
         for (place, group) in groups.iter().enumerate() {
@@ -448,6 +491,8 @@ fn renumber(rng: &mut Rng, embedded: &mut Embedded) {
 pub enum Steps {
     /// Those that the source type asks for.
     Valid,
+    /// The same, but for lists on the path of a choice.
+    WithoutLists,
     /// Any that exist.
     Any,
 }
@@ -459,9 +504,8 @@ fn may_leave(source: &ContentModel, target: &ContentModel, steps: Steps, needs: 
         (_, ContentModel::Text | ContentModel::Empty) => None,
         _ if steps == Steps::Any => Some(true),
         (ContentModel::OptionalChoice(_), ContentModel::Choice(_)) if needs => None,
-        _ if source.is_choice() && target.is_choice() => Some(true),
-        (ContentModel::Choice(_) | ContentModel::OptionalChoice(_), ContentModel::List(_)) => None,
-        (_, ContentModel::Choice(_) | ContentModel::OptionalChoice(_)) => None,
+        _ if target.is_choice() => source.is_choice().then_some(true),
+        _ if source.is_choice() && target.is_list() && steps == Steps::WithoutLists => None,
         (ContentModel::List(_), ContentModel::List(_)) => Some(true),
         _ => Some(false),
     }
@@ -477,7 +521,7 @@ pub fn random_path(
     end: Option<u8>,
     steps: Steps,
 ) -> Option<Vec<u8>> {
-    let needs = (source.is_choice() || matches!(source, ContentModel::List(_))) && steps == Steps::Valid;
+    let needs = (source.is_choice() || source.is_list()) && steps != Steps::Any;
     let search = PathSearch::new(target, source, end, steps);
     let least = if *source == ContentModel::Text || steps == Steps::Any { 0 } else { 1 };
     let lengths: Vec<usize> =
@@ -547,16 +591,16 @@ impl<'a> PathSearch<'a> {
     }
 }
 
-/// Replaces some paths and maps by others that are valid too.
-fn vary(rng: &mut Rng, embedded: &mut Embedded) {
+/// Replaces some paths and maps by others that are valid too, with such steps.
+fn vary(rng: &mut Rng, embedded: &mut Embedded, steps: Steps) {
     for _ in 0..rng.pick(&[0, 0, 1, 3, 6]) {
         let before = embedded.embedding.clone();
         let t = rng.below(embedded.source.types.len());
         if rng.chance(60) {
             let edge = rng.below(embedded.source.types[t].edges());
-            reroute(rng, embedded, t, edge, Steps::Valid);
+            reroute(rng, embedded, t, edge, steps);
         } else {
-            remap(rng, embedded, t);
+            remap(rng, embedded, t, steps);
         }
         if !embedded.is_valid() {
             embedded.embedding = before;
@@ -575,10 +619,10 @@ pub fn reroute(rng: &mut Rng, embedded: &mut Embedded, t: usize, edge: usize, st
     let target = &embedded.target;
     let maps = &mut embedded.embedding.maps;
     let end = model.named().get(edge).map(|&named| maps[named as usize].target);
-    let begins_alike = matches!(model, ContentModel::OptionalChoice(_)) && model.edges() > 1;
+    let begins_alike = model.is_optional() && model.edges() > 1;
     let first = &maps[t].paths[0].steps;
     let beginning = match before_choice(target, maps[t].target, first) {
-        Some(beginning) if begins_alike && steps == Steps::Valid => beginning.to_vec(),
+        Some(beginning) if begins_alike && steps != Steps::Any => beginning.to_vec(),
         _ => Vec::new(),
     };
     let along = walk(target, maps[t].target, &beginning).unwrap_or_default();
@@ -589,8 +633,9 @@ pub fn reroute(rng: &mut Rng, embedded: &mut Embedded, t: usize, edge: usize, st
     }
 }
 
-/// Maps a type to another target type and replaces all paths from and to it.
-fn remap(rng: &mut Rng, embedded: &mut Embedded, t: usize) {
+/// Maps a type to another target type and replaces all paths from and to it by
+/// some with such steps.
+fn remap(rng: &mut Rng, embedded: &mut Embedded, t: usize, steps: Steps) {
     if t == 0 {
         return;
     }
@@ -599,7 +644,7 @@ fn remap(rng: &mut Rng, embedded: &mut Embedded, t: usize) {
         for edge in 0..embedded.source.types[other].edges() {
             let named = embedded.source.types[other].named().get(edge).copied();
             if other == t || named == Some(t as u8) {
-                reroute(rng, embedded, other, edge, Steps::Valid);
+                reroute(rng, embedded, other, edge, steps);
             }
         }
     }

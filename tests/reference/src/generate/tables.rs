@@ -4,12 +4,14 @@ use super::Rng;
 use crate::table::{ContentModel, Table};
 
 /// The greatest number of types and of members a type, and how many of 100
-/// choices are optional.
+/// choices are optional; and of the embedding of such a table, how many of 100
+/// types that the path of a choice leaves are lists.
 #[derive(Debug, Clone, Copy)]
 pub struct TableSize {
     pub types: usize,
     pub members: usize,
     pub optional: usize,
+    pub lists: usize,
 }
 
 impl TableSize {
@@ -17,7 +19,7 @@ impl TableSize {
     pub fn random(rng: &mut Rng) -> TableSize {
         let (types, members) =
             rng.pick(&[(3, 3), (5, 3), (6, 4), (6, 4), (8, 4), (12, 6), (20, 8), (64, 16)]);
-        TableSize { types, members, optional: rng.pick(&[0, 0, 40]) }
+        TableSize { types, members, optional: rng.pick(&[0, 0, 40]), lists: rng.pick(&[0, 0, 15, 30]) }
     }
 }
 
