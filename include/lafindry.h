@@ -1,6 +1,7 @@
 /*
  * Lafindry: judging tables, embeddings and tree documents of paper 01, carrying a source document into its image, and
- * bringing an image back. Tables may have optional choices, for what a document may leave out (paper 02, N3).
+ * bringing an image back. Tables may have optional choices, for what a document may leave out, and the paths of choices
+ * may lead through lists (paper 02, N3 and N6).
  *
  * Every function takes any bytes and always answers. A document is lent as a pointer and a length; nothing is read
  * beyond it, nothing is kept, and nothing is allocated. A pointer may be anything where its length is 0. The most

@@ -1,9 +1,9 @@
 -- Check 9 for one path: the choices and lists that its steps leave decide.
-use mathlib.Core.Path.{_≡_, refl, sym, ap, _∙_}
+use mathlib.Core.Path.{_≡_, refl, sym, ap, ap₂, _∙_}
 use mathlib.Core.Bool.{Bool, true, false, not, _&&_, _||_}
 use mathlib.Core.List.{List, [], _∷_}
 use mathlib.Core.Option.{some}
-use Prim.Native.Nat.{ℕ, zero, suc, _+_, _*_, _<_}
+use Prim.Native.Nat.{ℕ, suc, _+_, _*_, _<_}
 use native.Mathlib.Omega.{arith}
 use lib.ListN.{length, getD, take, drop}
 use lib.Dec.{ltb}
@@ -114,19 +114,15 @@ not-choice (sequence ms) p m e = refl
 not-choice (choice need ms) p m e = refl
 not-choice (list x) p m e = refl
 
--- two tests that agree on kinds that steps leave agree on a path
-same-some : (f g : Kind → Bool) → ((κ : Kind) (p m : ℕ) → stepFrom κ p ≡ some m → f κ ≡ g κ)
-    → {T : Table} {τ : ℕ} {ps : List ℕ} → Walks T τ ps → some-of f (leaves T τ ps) ≡ some-of g (leaves T τ ps)
+-- so a path leaves something else than sequences and lists exactly where it leaves a choice
+some-choice : {T : Table} {τ : ℕ} {ps : List ℕ} → Walks T τ ps → some-of (λ (κ : Kind). not (sequenceOrList κ)) (leaves T τ ps) ≡ some-of isChoice (leaves T τ ps)
 unfolding some-of leaves
-same-some f g same arrived = refl
-same-some f g same {T} {τ} (onward {p = p} {ps} e w) =
-    ap (λ (b : Bool). b || some-of f (leaves T (next T τ p) ps)) (same (kindOf T τ) p (next T τ p) e)
-    ∙ ap (λ (b : Bool). g (kindOf T τ) || b) (same-some f g same w)
+some-choice arrived = refl
+some-choice {T} {τ} (onward {p = p} e w) = ap₂ _||_ (not-choice (kindOf T τ) p (next T τ p) e) (some-choice w)
 
--- so a path leaves nothing else than sequences and lists exactly where it leaves no choice
 only-lists : {T : Table} {τ : ℕ} {ps : List ℕ} → Walks T τ ps → leavesOnly sequenceOrList (leaves T τ ps) ≡ not (some-of isChoice (leaves T τ ps))
 unfolding leavesOnly
-only-lists w = ap not (same-some (λ (κ : Kind). not (sequenceOrList κ)) isChoice not-choice w)
+only-lists w = ap not (some-choice w)
 
 -- it leaves something exactly where it has steps
 some-step : (T : Table) (τ : ℕ) (ps : List ℕ) → some-of (λ (κ : Kind). true) (leaves T τ ps) ≡ ltb 0 (length ps)
@@ -138,12 +134,10 @@ some-step T τ (p ∷ ps) = sym (lt-ltb 0 (suc (length ps)) (omega arith))
 pub right-by : {T : Table} {τ : ℕ} {ps : List ℕ} {left : Left} → Walks T τ ps → LeftAll left T τ ps
     → (code count : ℕ) (row : List ℕ) → rightBy code left (length ps) ≡ rightSteps (kindFrom code count row) (leaves T τ ps)
 unfolding rightSteps
-right-by w l zero count row = rw (l .choices, only-lists w)
-right-by w l (suc zero) count row = refl
-right-by {T} {τ} {ps} w l (suc (suc zero)) count row = rw (l .choices, only-lists w, some-step T τ ps)
-right-by w l (suc (suc (suc zero))) count row = l .choices
-right-by w l (suc (suc (suc (suc zero)))) count row = l .optionals
-right-by w l (suc (suc (suc (suc (suc code))))) count row = rw (l .choices, l .lists, only-lists w)
+right-by {T} {τ} {ps} {left} w l code count row =
+    each-code (λ (k : ℕ). rightBy k left (length ps) ≡ rightSteps (kindFrom k count row) (leaves T τ ps))
+    (rw (l .choices, only-lists w)) refl (rw (l .choices, only-lists w, some-step T τ ps)) (l .choices) (l .optionals)
+    (λ k. rw (l .choices, l .lists, only-lists w)) code
 
 module _ {source target em map : List ℕ}
     (r : Checkable source target em map)
