@@ -2,6 +2,7 @@
 -- choice whose paths go through lists before, between and behind its choice steps (02, N6).
 use mathlib.Core.List.{List, [], _∷_}
 use Prim.Native.Nat.{ℕ}
+use Rattle.model.specs.Definitions.Content.{Content, end, elem}
 
 -- a choice of two empty types, begun by 13 or 17
 unfoldable pub choiceOfEmpty : ℕ → List ℕ
@@ -16,3 +17,7 @@ listedTable =
 unfoldable pub listedEmbedding : List ℕ
 listedEmbedding =
     0x20 ∷ 0x00 ∷ 0x21 ∷ 0x22 ∷ 0x01 ∷ 0x22 ∷ 0x01 ∷ 0x22 ∷ 0x01 ∷ 0x22 ∷ 0x01 ∷ 0x22 ∷ 0x01 ∷ 0x21 ∷ 0x22 ∷ 0x01 ∷ 0x22 ∷ 0x02 ∷ 0x20 ∷ 0x06 ∷ 0x20 ∷ 0x03 ∷ 0x2F ∷ []
+
+-- what the root of the image of the choice's first member holds, what the list 5 on its path holds left open
+unfoldable pub listedImage : Content → Content
+listedImage items = elem 1 (elem 2 (elem 4 (elem 5 items end) end) end) end

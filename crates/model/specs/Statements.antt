@@ -4,7 +4,7 @@
 -- Documents here have any length and any number of levels, unless limits are named. `Theorems.Terms` has the few terms
 -- used: accepted by an entry, the image of a document given by its bytes, its levels.
 use mathlib.Core.Path.{_≡_, refl, sym, _∙_}
-use mathlib.Core.Bool.{Bool, true, _&&_, _||_}
+use mathlib.Core.Bool.{Bool, true, false, _&&_, _||_}
 use mathlib.Core.List.{List, [], _∷_, _++_}
 use mathlib.Core.Logic.{_↔_, _⊎_}
 use mathlib.Core.Option.{none, some}
@@ -29,7 +29,7 @@ use Rattle.model.specs.Definitions.SingleItems.{singleItems}
 use Rattle.model.specs.Definitions.Refusals.{wrong-steps, embedding, Refusal, faulty, output-too-short, no-image, maxLength}
 use Rattle.model.specs.Definitions.Entries.{accepted, refused, judgeEmbedding, settingOf, carry, bringWithin, bringBack}
 use Rattle.model.specs.Computing.{definitions}
-use Rattle.model.specs.Examples.{choiceOfEmpty, listedTable, listedEmbedding}
+use Rattle.model.specs.Examples.{choiceOfEmpty, listedTable, listedEmbedding, listedImage}
 use Rattle.model.specs.Theorems.Tools.{and-right}
 use Rattle.model.specs.Theorems.Conforms.{holds-conforms, conforms-holds}
 use Rattle.model.specs.Theorems.Documents.{document-injective, checks-conforming, conforming-checks}
@@ -298,6 +298,16 @@ accepted-before s t e n = answered-too earlierSteps earlier-stricter s t e
 pub one-item-on-paths : (s t e : List ℕ) → AcceptedEmbedding s t e → (d : List ℕ) → Conforming (tableOf s) d
     → singleItems (settingOf s t e) (contentOf d) (contentOf (imageOf s t e d)) ≡ true
 one-item-on-paths = single-on-paths
+
+-- A second item in such a list, or none, is told from one.
+pub record OneItemTold (X : Setting) (k : Content) : Type 0 where
+  pub one-passes : singleItems X k (listedImage (elem 6 end end)) ≡ true
+  pub two-fail : singleItems X k (listedImage (elem 6 end (elem 6 end end))) ≡ false
+  pub none-fails : singleItems X k (listedImage end) ≡ false
+
+pub one-item-told : OneItemTold (settingOf (choiceOfEmpty 0x13) listedTable listedEmbedding) (elem 1 end end)
+unfolding definitions choiceOfEmpty listedTable listedEmbedding listedImage
+one-item-told = record { one-passes = refl; two-fail = refl; none-fails = refl }
 
 -- Reading goes on in the first item of such a list, whatever comes behind it; where there is none, the path isn't there.
 pub first-item-read : (T : Table) (τ m p : ℕ) (ps : List ℕ) → kindOf T τ ≡ list m

@@ -1,13 +1,10 @@
 -- 01 "Edges of the rules": the starred cases, as one fact about the definitions, proved by computing.
 -- The bytes are those of "One patch, whole".
 use mathlib.Core.Path.{_≡_, refl}
-use mathlib.Core.Bool.{Bool, true, false}
 use mathlib.Core.List.{List, [], _∷_, _++_}
 use Prim.Native.Nat.{ℕ}
 use lib.ListN.{replicate}
-use Rattle.model.specs.Definitions.Content.{contentOf}
-use Rattle.model.specs.Definitions.SingleItems.{singleItems}
-use Rattle.model.specs.Definitions.Entries.{Answer, answerOf, judgeTable, judgeEmbedding, judgeTree, settingOf, carry, bringBack}
+use Rattle.model.specs.Definitions.Entries.{Answer, answerOf, judgeTable, judgeEmbedding, judgeTree, carry, bringBack}
 use Rattle.model.specs.Computing.{definitions}
 use Rattle.model.specs.Examples.{choiceOfEmpty, listedTable, listedEmbedding}
 
@@ -123,9 +120,9 @@ optional-cases = record { part-early = refl; needed-parts = refl; nothing-carrie
 
 -- ---- 02, N6: lists on the paths of choices
 
--- the image of the choice's first member by `listedEmbedding`, with what the list 2 and the list 5 hold left open
-unfoldable pub listedImage : List ℕ → List ℕ → List ℕ
-listedImage inOuter inInner =
+-- the bytes of the image of the choice's first member by `listedEmbedding`, with further items of the lists 2 and 5 left open
+unfoldable pub throughLists : List ℕ → List ℕ → List ℕ
+throughLists inOuter inInner =
     0x30 ∷ 0x00 ∷ 0x30 ∷ 0x01 ∷ 0x30 ∷ 0x02
     ∷ (inOuter ++ 0x30 ∷ 0x04 ∷ 0x30 ∷ 0x05 ∷ 0x30 ∷ 0x06 ∷ 0x32 ∷ (inInner ++ 0x32 ∷ 0x32 ∷ 0x32 ∷ 0x32 ∷ 0x32 ∷ 0x3F ∷ []))
 
@@ -133,37 +130,27 @@ listedImage inOuter inInner =
 unfoldable pub rootWith : ℕ → List ℕ
 rootWith t = 0x30 ∷ 0x00 ∷ 0x30 ∷ t ∷ 0x32 ∷ 0x32 ∷ 0x3F ∷ []
 
--- whether each list on the followed paths holds one item, for a source and a target document of `listedEmbedding`
-unfoldable pub listedSingle : ℕ → List ℕ → List ℕ → Bool
-listedSingle byte d image = singleItems (settingOf (choiceOfEmpty byte) listedTable listedEmbedding) (contentOf d) (contentOf image)
-
 -- a choice, begun by this byte, whose paths go through lists before, between and behind its choice steps
 pub record ListCases (byte : ℕ) : Type 0 where
   -- its first member is carried with one item in each of the three lists, and brought back
   pub first-carried : answerOf (carry (choiceOfEmpty byte) listedTable listedEmbedding (rootWith 1) (junk 19) .result) ≡ answer 19 0
-  pub first-bytes : carry (choiceOfEmpty byte) listedTable listedEmbedding (rootWith 1) (junk 19) .output ≡ listedImage [] []
-  pub first-brought : answerOf (bringBack (choiceOfEmpty byte) listedTable listedEmbedding (listedImage [] []) (junk 7) .result) ≡ answer 7 0
-  pub first-source : bringBack (choiceOfEmpty byte) listedTable listedEmbedding (listedImage [] []) (junk 7) .output ≡ rootWith 1
+  pub first-bytes : carry (choiceOfEmpty byte) listedTable listedEmbedding (rootWith 1) (junk 19) .output ≡ throughLists [] []
+  pub first-brought : answerOf (bringBack (choiceOfEmpty byte) listedTable listedEmbedding (throughLists [] []) (junk 7) .result) ≡ answer 7 0
+  pub first-source : bringBack (choiceOfEmpty byte) listedTable listedEmbedding (throughLists [] []) (junk 7) .output ≡ rootWith 1
   -- a second item in a list is no image, before the one that is followed and behind it; nor is an empty list
-  pub another-before : answerOf (bringBack (choiceOfEmpty byte) listedTable listedEmbedding (listedImage (0x30 ∷ 0x04 ∷ 0x30 ∷ 0x03 ∷ 0x32 ∷ 0x32 ∷ []) []) (junk 7) .result) ≡ refusal 15 4 0
-  pub another-behind : answerOf (bringBack (choiceOfEmpty byte) listedTable listedEmbedding (listedImage [] (0x30 ∷ 0x06 ∷ 0x32 ∷ [])) (junk 7) .result) ≡ refusal 15 4 0
+  pub another-before : answerOf (bringBack (choiceOfEmpty byte) listedTable listedEmbedding (throughLists (0x30 ∷ 0x04 ∷ 0x30 ∷ 0x03 ∷ 0x32 ∷ 0x32 ∷ []) []) (junk 7) .result) ≡ refusal 15 4 0
+  pub another-behind : answerOf (bringBack (choiceOfEmpty byte) listedTable listedEmbedding (throughLists [] (0x30 ∷ 0x06 ∷ 0x32 ∷ [])) (junk 7) .result) ≡ refusal 15 4 0
   pub no-item : answerOf (bringBack (choiceOfEmpty byte) listedTable listedEmbedding bareRoot (junk 7) .result) ≡ refusal 15 4 0
-  -- and each of these lists is seen to hold another number of items than one
-  pub single : listedSingle byte (rootWith 1) (listedImage [] []) ≡ true
-  pub single-not-before : listedSingle byte (rootWith 1) (listedImage (0x30 ∷ 0x04 ∷ 0x30 ∷ 0x03 ∷ 0x32 ∷ 0x32 ∷ []) []) ≡ false
-  pub single-not-behind : listedSingle byte (rootWith 1) (listedImage [] (0x30 ∷ 0x06 ∷ 0x32 ∷ [])) ≡ false
-  pub single-not-empty : listedSingle byte (rootWith 1) bareRoot ≡ false
 
--- what an optional choice holds nothing of stands behind a list of one item
+-- the optional choice that stands for nothing is the one item of a list
 pub record NothingBehindList : Type 0 where
   pub nothing-bytes : carry (choiceOfEmpty 0x17) listedTable listedEmbedding bareRoot (junk 7) .output ≡ rootWith 1
   pub nothing-brought : bringBack (choiceOfEmpty 0x17) listedTable listedEmbedding (rootWith 1) (junk 4) .output ≡ bareRoot
-  pub nothing-single : listedSingle 0x17 bareRoot (rootWith 1) ≡ true
 
 pub list-cases : ListCases 0x13 × ListCases 0x17 × NothingBehindList
-unfolding definitions choiceOfEmpty listedTable listedEmbedding listedImage rootWith listedSingle bareRoot junk refusal answer
+unfolding definitions choiceOfEmpty listedTable listedEmbedding throughLists rootWith bareRoot junk refusal answer
 list-cases = (
-  record { first-carried = refl; first-bytes = refl; first-brought = refl; first-source = refl; another-before = refl; another-behind = refl; no-item = refl; single = refl; single-not-before = refl; single-not-behind = refl; single-not-empty = refl },
-  record { first-carried = refl; first-bytes = refl; first-brought = refl; first-source = refl; another-before = refl; another-behind = refl; no-item = refl; single = refl; single-not-before = refl; single-not-behind = refl; single-not-empty = refl },
-  record { nothing-bytes = refl; nothing-brought = refl; nothing-single = refl },
+  record { first-carried = refl; first-bytes = refl; first-brought = refl; first-source = refl; another-before = refl; another-behind = refl; no-item = refl },
+  record { first-carried = refl; first-bytes = refl; first-brought = refl; first-source = refl; another-before = refl; another-behind = refl; no-item = refl },
+  record { nothing-bytes = refl; nothing-brought = refl },
 )
