@@ -64,8 +64,8 @@ static const struct {
 /* The words for LAFINDRY_WRONG_STEPS where the path belongs to an optional choice, such as of modules that a patch may
    leave out. */
 static const char optional_steps[] =
-    "a path of an optional choice leads through some choice, the first of them is an optional one, and up to there "
-    " it takes the same steps as the first member's path";
+    "a path of an optional choice leads through some choice, the first of them is an optional one, and up to there it "
+    "takes the same steps as the first member's path";
 
 /* Whether the path at an offset of the embedding belongs to an optional choice of the source table. Both documents have
    passed the checks of form, so each byte that is looked at is a command. */
