@@ -29,7 +29,7 @@ use Rattle.model.specs.Definitions.SingleItems.{singleItems}
 use Rattle.model.specs.Definitions.Refusals.{wrong-steps, embedding, Refusal, faulty, output-too-short, no-image, maxLength}
 use Rattle.model.specs.Definitions.Entries.{accepted, refused, judgeEmbedding, settingOf, carry, bringWithin, bringBack}
 use Rattle.model.specs.Computing.{definitions}
-use Rattle.model.specs.Examples.{choiceOfEmpty, listedTable, listedEmbedding, listedImage}
+use Rattle.model.specs.Examples.{choiceOfEmpty, listedTable, listedEmbedding, listedImage, memberTable, memberListsTable, memberListsEmbedding, memberContent, memberImage}
 use Rattle.model.specs.Theorems.Tools.{and-right}
 use Rattle.model.specs.Theorems.Conforms.{holds-conforms, conforms-holds}
 use Rattle.model.specs.Theorems.Documents.{document-injective, checks-conforming, conforming-checks}
@@ -46,7 +46,8 @@ use Rattle.model.specs.Theorems.BringingBack.{read-conforms}
 use Rattle.model.specs.Theorems.EntryLaws.{judges-accept, judge-accepts, judges-valid}
 use Rattle.model.specs.Theorems.Terms.{AcceptedTable, AcceptedEmbedding, AcceptedTree, imageOf, fillerOf, levelsIn}
 use Rattle.model.specs.Theorems.OnBytes.{conforming-content, conform, equal-exactly, read-gives-back, single-on-paths, shorter, refused-15, brought, brought-only, carried, not-carried, brought-back, not-brought-back, carry-beyond}
-use Rattle.model.specs.Theorems.StepRules.{judgedWith, judgeEmbeddingWith, stepsBy, judgedBy, AnsweredBy, answered-by-rule, answered-too}
+use Rattle.model.specs.Theorems.JudgedEmbeddings.{judgedWith}
+use Rattle.model.specs.Theorems.StepRules.{judgeEmbeddingWith, stepsBy, judgedBy, AnsweredBy, answered-by-rule, answered-too}
 use Rattle.model.specs.Theorems.RulesNeeded.{PrefixRuleTooWeak, prefix-rule-too-weak, FirstMemberEndless, first-member-endless}
 
 -- ---- 1. conforming and bytes
@@ -299,15 +300,23 @@ pub one-item-on-paths : (s t e : List ℕ) → AcceptedEmbedding s t e → (d : 
     → singleItems (settingOf s t e) (contentOf d) (contentOf (imageOf s t e d)) ≡ true
 one-item-on-paths = single-on-paths
 
--- A second item in such a list, or none, is told from one.
-pub record OneItemTold (X : Setting) (k : Content) : Type 0 where
-  pub one-passes : singleItems X k (listedImage (elem 6 end end)) ≡ true
-  pub two-fail : singleItems X k (listedImage (elem 6 end (elem 6 end end))) ≡ false
-  pub none-fails : singleItems X k (listedImage end) ≡ false
+-- A second item in such a list, or none, is told from one: on the path of a choice, of a sequence's member, of characters, and
+-- behind the list that takes the items of a list.
+pub record OneItemTold (onChoice : Content → Bool) (onMembers : Content → Content → Content → Bool) : Type 0 where
+  pub one-passes : onChoice (elem 6 end end) ≡ true
+  pub two-fail : onChoice (elem 6 end (elem 6 end end)) ≡ false
+  pub none-fails : onChoice end ≡ false
+  pub ones-pass : onMembers end end end ≡ true
+  pub two-on-member : onMembers (elem 3 end end) end end ≡ false
+  pub two-on-characters : onMembers end (elem 5 end end) end ≡ false
+  pub two-behind-items : onMembers end end (elem 3 end end) ≡ false
 
-pub one-item-told : OneItemTold (settingOf (choiceOfEmpty 0x13) listedTable listedEmbedding) (elem 1 end end)
-unfolding definitions choiceOfEmpty listedTable listedEmbedding listedImage
-one-item-told = record { one-passes = refl; two-fail = refl; none-fails = refl }
+pub one-item-told : OneItemTold
+    (λ items. singleItems (settingOf (choiceOfEmpty 0x13) listedTable listedEmbedding) (elem 1 end end) (listedImage items))
+    (λ a b c. singleItems (settingOf memberTable memberListsTable memberListsEmbedding) memberContent (memberImage a b c))
+unfolding definitions choiceOfEmpty listedTable listedEmbedding listedImage memberTable memberListsTable memberListsEmbedding memberContent memberImage
+one-item-told =
+    record { one-passes = refl; two-fail = refl; none-fails = refl; ones-pass = refl; two-on-member = refl; two-on-characters = refl; two-behind-items = refl }
 
 -- Reading goes on in the first item of such a list, whatever comes behind it; where there is none, the path isn't there.
 pub first-item-read : (T : Table) (τ m p : ℕ) (ps : List ℕ) → kindOf T τ ≡ list m

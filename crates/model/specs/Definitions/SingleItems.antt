@@ -62,6 +62,7 @@ followedPaths T (sequence ms) τ ps ks = alongPaths ps ks
 followedPaths T (choice need ms) τ ps ks = alongChoice unasked (beforeChoice T τ (firstPath ps)) ms ps ks
 followedPaths T (list m) τ ps ks = placed (divide T τ (firstPath ps) .before) (singleItemsOf T (divide T τ (firstPath ps)) ks) ∷ []
 
+-- all of some paths
 unfoldable pub allSingle : Table → ℕ → List (Placement (Content → Bool)) → Content → Bool
 allSingle T τ [] k = true
 allSingle T τ (placed path test ∷ ps) k = singleAlong T τ path test k && allSingle T τ ps k
@@ -74,6 +75,7 @@ singleElement X s ks k =
     allSingle (X .target) (targetOf (X .embedding) s)
     (followedPaths (X .target) (kindOf (X .source) s) (targetOf (X .embedding) s) (pathsOf (X .embedding) s) ks) k
 
+-- the children that some source content stands for, each with its test
 unfoldable pub singleChildren : Setting → Content → List (Child (Content → Bool))
 singleChildren X end = []
 singleChildren X (char c r) = letter c ∷ singleChildren X r

@@ -15,7 +15,7 @@ use Rattle.model.specs.Definitions.Table.{Kind, text, empty, sequence, c
 use Rattle.model.specs.Definitions.Embedding.{Edge, TypeMap, Embedding, noMap, targetOf, pathsOf, EmbeddingTail, withEmbeddingCommand, embeddingTail, embeddingOf, orRoot, next, endOf, leaves, firstPath, beforeChoice}
 use Rattle.model.specs.Definitions.EmbeddingChecks.{EmbeddingState, due, embeddingEnded, embeddingStep, embeddingComplete, embeddingForm, maxSteps, stepCount, embeddingLimits, Reached, reaches, pathStep, embeddingOperands, rootToRoot, firstEdge, eachType, endsAt, endsAtText, endsOf, wrongEnd, optionalFirst, rightSteps, agrees, stepsOf, wrongSteps, clash, firstClash, clashesOf, pathClash}
 use Rattle.model.specs.Definitions.Image.{Setting}
-use Rattle.model.specs.Definitions.Refusals.{sound, fits}
+use Rattle.model.specs.Definitions.Refusals.{too-long, bad-form, over-limit, bad-operand, root-moved, wrong-end, wrong-steps, path-clash, Judged, sound, faultAt, faultUnless, fits}
 use Rattle.model.specs.Definitions.Entries.{judgedTable, judgedEmbedding, settingOf}
 use Rattle.model.specs.Theorems.Facts.{SoundTable, Walks, arrived, onward, GoodPath, MemberPath, Along, along-none, along-both, All, all-none, all-more, Pairs, pairs-none, pairs-more, Compatible, ToOptional, ValidEdges, text-edge, no-edge, sequence-edges, choice-edges, list-edge, Valid}
 use Rattle.model.specs.Theorems.Tools.{true-false, pick-true, pick-false, and-left}
@@ -323,20 +323,38 @@ valid-edges X (list m) f n good chooses ends apart =
 
 -- ---- all checks
 
+-- an embedding between accepted tables, given what check 9 finds
+unfoldable pub judgedWith : Table → Table → List ℕ → Verdict → Judged
+judgedWith S T bs steps =
+    faultUnless too-long (fits bs) λ u.
+    faultAt bad-form (embeddingForm S bs) λ u.
+    faultAt over-limit (embeddingLimits bs) λ u.
+    faultAt bad-operand (embeddingOperands T bs) λ u.
+    faultUnless root-moved (rootToRoot (embeddingOf bs)) λ u.
+    faultAt wrong-end (wrongEnd S T (embeddingOf bs)) λ u.
+    faultAt wrong-steps steps λ u.
+    faultAt path-clash (pathClash S T (embeddingOf bs)) λ u.
+    sound
+
+-- an embedding is judged by what check 9 finds of it
+pub judged-with : (S T : Table) (bs : List ℕ) → judgedEmbedding S T bs ≡ judgedWith S T bs (wrongSteps S T (embeddingOf bs))
+unfolding judgedEmbedding judgedWith
+judged-with S T bs = refl
+
 -- the checks that an accepted embedding has passed
-pub record PassedEmbedding (S T : Table) (bs : List ℕ) : Type 0 where
+pub record PassedEmbedding (S T : Table) (bs : List ℕ) (steps : Verdict) : Type 0 where
   pub short : fits bs ≡ true
   pub form : embeddingForm S bs ≡ passes
   pub limits : embeddingLimits bs ≡ passes
   pub operands : embeddingOperands T bs ≡ passes
   pub root : rootToRoot (embeddingOf bs) ≡ true
   pub right-ends : wrongEnd S T (embeddingOf bs) ≡ passes
-  pub right-steps : wrongSteps S T (embeddingOf bs) ≡ passes
+  pub right-steps : steps ≡ passes
   pub no-clash : pathClash S T (embeddingOf bs) ≡ passes
 
-pub embedding-checks : (S T : Table) (bs : List ℕ) → judgedEmbedding S T bs ≡ sound → PassedEmbedding S T bs
-unfolding judgedEmbedding
-embedding-checks S T bs e =
+pub embedding-checks : (S T : Table) (bs : List ℕ) (steps : Verdict) → judgedWith S T bs steps ≡ sound → PassedEmbedding S T bs steps
+unfolding judgedWith
+embedding-checks S T bs steps e =
     let r1 = no-fault-unless _ _ _ e in
     let r2 = no-fault-at _ _ _ (r1 .1) in
     let r3 = no-fault-at _ _ _ (r2 .1) in
@@ -378,8 +396,8 @@ embedding-valid s t e source-accepted target-accepted accepted =
     E : Embedding
     E = embeddingOf e
 
-    checks : PassedEmbedding S T e
-    checks = embedding-checks S T e accepted
+    checks : PassedEmbedding S T e (wrongSteps S T E)
+    checks = embedding-checks S T e (wrongSteps S T E) (sym (judged-with S T e) ∙ accepted)
 
     target-sound : SoundTable T
     target-sound = table-sound t target-accepted

@@ -24,6 +24,7 @@ use Rattle.model.specs.Theorems.ReadBack.{Entered, enter-placed, found-h
 abbrev Passes : Placement Content → Placement (Content → Bool) → Type 0
 Passes (placed path a) (placed other test) = (path ≡ other) × (test a ≡ true)
 
+-- one placement more, and the test at its place
 one-passes : {path other : List ℕ} {a : Content} {test : Content → Bool} {ps : List (Placement Content)} {ts : List (Placement (Content → Bool))}
     → path ≡ other → test a ≡ true → Along Passes ps ts → Along Passes (placed path a ∷ ps) (placed other test ∷ ts)
 one-passes {path} {other} {a} {test} same e later = along-both {a = placed path a} {b = placed other test} (same, e) later
@@ -103,6 +104,7 @@ choice-passes shared ms pss no-child = one-passes refl refl along-none
 choice-passes shared ms pss (letter-passes later) = one-passes refl refl along-none
 choice-passes shared ms pss (element-passes same e later) = one-passes (ap (λ (t : ℕ). pathOfMember t ms pss) same) e along-none
 
+-- kind by kind
 placements-pass : (X : Setting) (fs : List Content) (τ : ℕ) {κ : Kind} {pss : List (List ℕ)} {ks : List (Child Content)} {ts : List (Child (Content → Bool))}
     → ValidEdges X τ κ pss → ChildrenPass ks ts
     → Along Passes (placements content (X .target) fs κ τ pss ks) (followedPaths (X .target) κ τ pss ts)
@@ -124,12 +126,14 @@ module _ (X : Setting) (v : Valid X) where
   abbrev Single : ℕ → Content → Type 0
   Single s k = singleElement X s (singleChildren X k) (imageOfElement content X fs s (children content X fs k)) ≡ true
 
+  -- where the elements of some content pass, so do the children that it stands for
   children-pass : {k : Content} → Each Single k → ChildrenPass (children content X fs k) (singleChildren X k)
   unfolding children singleChildren
   children-pass each-end = no-child
   children-pass (each-char later) = letter-passes (children-pass later)
   children-pass (each-elem single later) = element-passes refl single (children-pass later)
 
+  -- an element passes where those right below it do
   single-step : (s : ℕ) (k : Content) → s < length (X .source) → Holds (X .source) (kindOf (X .source) s) k → Each Single k → Single s k
   unfolding singleElement imageOfElement place
   single-step s k exists held below =

@@ -8,29 +8,16 @@ use Rattle.model.specs.Definitions.Basics.{Verdict, passes, fails, orEls
 use Rattle.model.specs.Definitions.Table.{Kind, Table, tableOf}
 use Rattle.model.specs.Definitions.Content.{contentOf}
 use Rattle.model.specs.Definitions.Embedding.{Edge, TypeMap, Embedding, embeddingOf, leaves, firstPath}
-use Rattle.model.specs.Definitions.EmbeddingChecks.{embeddingForm, embeddingLimits, embeddingOperands, rootToRoot, firstEdge, eachType, wrongEnd, rightSteps, agrees, stepsOf, wrongSteps, pathClash}
+use Rattle.model.specs.Definitions.EmbeddingChecks.{firstEdge, eachType, rightSteps, agrees, stepsOf, wrongSteps}
 use Rattle.model.specs.Definitions.Inverse.{bringBackContent}
-use Rattle.model.specs.Definitions.Refusals.{too-long, bad-form, over-limit, bad-operand, root-moved, wrong-end, wrong-steps, path-clash, source-table, target-table, embedding, tree, Judged, sound, faultAt, faultUnless, fits}
+use Rattle.model.specs.Definitions.Refusals.{source-table, target-table, embedding, tree, Judged, sound}
 use Rattle.model.specs.Definitions.Entries.{judgedTable, judgedEmbedding, judgedTree, Result, refused, accepted, Outcome, unlessFaulty, edgeCount, judgeEmbedding, untouched, settingOf, carryContent, carry, bringContent, bringBack}
 use Rattle.model.specs.Theorems.Tools.{pick-true, and-left, and-right, and-both}
-use Rattle.model.specs.Theorems.JudgedTables.{pick-passes, no-fault-at, no-fault-unless}
-use Rattle.model.specs.Theorems.JudgedEmbeddings.{or-else-passes}
+use Rattle.model.specs.Theorems.JudgedTables.{pick-passes}
+use Rattle.model.specs.Theorems.JudgedEmbeddings.{or-else-passes, judgedWith, judged-with, embedding-checks}
 use Rattle.model.specs.Theorems.EntryLaws.{past-judge}
 
--- ---- the entries, given what an embedding's judging says
-
--- an embedding between accepted tables, given what check 9 finds
-unfoldable pub judgedWith : Table → Table → List ℕ → Verdict → Judged
-judgedWith S T bs steps =
-    faultUnless too-long (fits bs) λ u.
-    faultAt bad-form (embeddingForm S bs) λ u.
-    faultAt over-limit (embeddingLimits bs) λ u.
-    faultAt bad-operand (embeddingOperands T bs) λ u.
-    faultUnless root-moved (rootToRoot (embeddingOf bs)) λ u.
-    faultAt wrong-end (wrongEnd S T (embeddingOf bs)) λ u.
-    faultAt wrong-steps steps λ u.
-    faultAt path-clash (pathClash S T (embeddingOf bs)) λ u.
-    sound
+-- ---- the three entries that take an embedding, as `Entries` has them, given how it is judged
 
 unfoldable pub judgeEmbeddingWith : List ℕ → List ℕ → Judged → Result
 judgeEmbeddingWith source target judged =
@@ -58,6 +45,7 @@ bringBackWith source target em judged tr out =
 -- ---- with a rule in place of `rightSteps`
 
 module _ (rule : Kind → List Kind → Bool) where
+  -- check 9 of a source type, and the judging of an embedding
   unfoldable pub stepsBy : Table → Kind → TypeMap → Verdict
   stepsBy T κ f =
       let first = firstPath (map (λ (e : Edge). e .steps) (f .edges)) in
@@ -74,14 +62,10 @@ pub record AnsweredBy (s t e : List ℕ) (judged : Judged) : Type 0 where
   pub carries-so : (d out : List ℕ) → carry s t e d out ≡ carryWith s t e judged d out
   pub brings-so : (d out : List ℕ) → bringBack s t e d out ≡ bringBackWith s t e judged d out
 
+-- they do where it is judged so
 answered : (s t e : List ℕ) (judged : Judged) → judgedEmbedding (tableOf s) (tableOf t) e ≡ judged → AnsweredBy s t e judged
 unfolding judgeEmbedding judgeEmbeddingWith carry carryWith bringBack bringBackWith
 answered s t e judged same = record { judges-so = rw same; carries-so = λ d out. rw same; brings-so = λ d out. rw same }
-
--- an embedding is judged by what check 9 finds of it
-judged-with : (S T : Table) (bs : List ℕ) → judgedEmbedding S T bs ≡ judgedWith S T bs (wrongSteps S T (embeddingOf bs))
-unfolding judgedEmbedding judgedWith
-judged-with S T bs = refl
 
 -- with the rule that holds
 pub answered-by-rule : (s t e : List ℕ) → AnsweredBy s t e (judgedBy rightSteps s t e)
@@ -98,6 +82,7 @@ edges-pass {f} {g} less (d ∷ es) e =
     let both = pick-passes (f d) (firstEdge f es) (d .at) e in
     pick-true (g d) (firstEdge g es) (fails (d .at)) (less d (both .0)) ∙ edges-pass less es (both .1)
 
+-- two checks that pass
 or-else-both : {v w : Verdict} → v ≡ passes → w ≡ passes → orElse v w ≡ passes
 unfolding orElse
 or-else-both {v} {w} p q = rw (p, q)
@@ -112,28 +97,17 @@ types-pass {f} {g} less (κ ∷ S) (m ∷ E) e =
     let both = or-else-passes (f κ m) (eachType f S E) e in
     or-else-both (less κ m (both .0)) (types-pass less S E (both .1))
 
--- an embedding judged sound passes check 9
-steps-passed : (S T : Table) (bs : List ℕ) (steps : Verdict) → judgedWith S T bs steps ≡ sound → steps ≡ passes
-unfolding judgedWith
-steps-passed S T bs steps e =
-    let r1 = no-fault-unless _ _ _ e in
-    let r2 = no-fault-at _ _ _ (r1 .1) in
-    let r3 = no-fault-at _ _ _ (r2 .1) in
-    let r4 = no-fault-at _ _ _ (r3 .1) in
-    let r5 = no-fault-unless _ _ _ (r4 .1) in
-    let r6 = no-fault-at _ _ _ (r5 .1) in
-    no-fault-at _ _ _ (r6 .1) .0
-
 module _ (rule : Kind → List Kind → Bool) (stricter : (κ : Kind) (κs : List Kind) → rule κ κs ≡ true → rightSteps κ κs ≡ true) (s t e : List ℕ) where
   -- what an embedding's steps pass by that rule they pass
   steps-pass : (κ : Kind) (f : TypeMap) → stepsBy rule (tableOf t) κ f ≡ passes → stepsOf (tableOf t) κ f ≡ passes
   unfolding stepsBy stepsOf
   steps-pass κ f = edges-pass (λ d h. and-both (stricter κ _ (and-left (rule κ _) _ h)) (and-right (rule κ _) _ h)) (f .edges)
 
+  -- so an embedding judged sound by that rule is sound
   judged-too : judgedBy rule s t e ≡ sound → judgedEmbedding (tableOf s) (tableOf t) e ≡ judgedBy rule s t e
   unfolding judgedBy wrongSteps
   judged-too h =
-      let by-rule : eachType (stepsBy rule (tableOf t)) (tableOf s) (embeddingOf e) ≡ passes = steps-passed _ _ e _ h in
+      let by-rule : eachType (stepsBy rule (tableOf t)) (tableOf s) (embeddingOf e) ≡ passes = embedding-checks _ _ e _ h .right-steps in
       let now : eachType (stepsOf (tableOf t)) (tableOf s) (embeddingOf e) ≡ passes = types-pass steps-pass (tableOf s) (embeddingOf e) by-rule in
       judged-with (tableOf s) (tableOf t) e ∙ ap (judgedWith (tableOf s) (tableOf t) e) (now ∙ sym by-rule)
 
