@@ -329,7 +329,7 @@ static const struct place {
     {"tree, table", JUDGE_TREE, SOURCE_TREE, 0, LAFINDRY_SOURCE_TABLE, 4, 0, NULL,
      {{20, 0, 2539, 0, 1007, 2, 2, 0, 0, 0, 0, 14, 0, 0, 0, 0}, 3606, 22198, 80, 0, 0}},
     {"tree", JUDGE_TREE, SOURCE_TREE, 1, LAFINDRY_TREE, 4, 0, NULL,
-     {{112, 0, 2550, 0, 1163, 0, 0, 0, 0, 0, 0, 15, 0, 0, 0, 0}, 14912, 25154, 448, 0, 0}},
+     {{208, 0, 2550, 0, 1067, 0, 0, 0, 0, 0, 0, 15, 0, 0, 0, 0}, 14528, 24770, 832, 0, 0}},
     {"carry, source table", CARRY, PATCH, 0, LAFINDRY_SOURCE_TABLE, 21, 1, &IMAGE,
      {{14, 0, 2543, 0, 1007, 2, 2, 0, 12, 4, 0, 0, 0, 0, 0, 0}, 3610, 22337, 294, 14, 129612}},
     {"carry, target table", CARRY, PATCH, 1, LAFINDRY_TARGET_TABLE, 21, 1, &IMAGE,
@@ -337,7 +337,7 @@ static const struct place {
     {"carry, embedding", CARRY, PATCH, 2, LAFINDRY_EMBEDDING, 21, 1, &IMAGE,
      {{27, 0, 4080, 0, 2528, 0, 0, 0, 21, 0, 0, 0, 0, 0, 0, 0}, 19887, 80258, 567, 27, 250106}},
     {"carry, tree", CARRY, PATCH, 3, LAFINDRY_TREE, 21, 1, &IMAGE,
-     {{112, 0, 2550, 0, 1163, 0, 0, 0, 0, 0, 0, 15, 0, 0, 0, 0}, 14912, 25154, 2352, 112, 1046631}},
+     {{208, 0, 2550, 0, 1067, 0, 0, 0, 0, 0, 0, 15, 0, 0, 0, 0}, 14528, 24770, 4368, 208, 2044839}},
     {"bring back, source table", BRING_BACK, PATCH_IMAGE, 0, LAFINDRY_SOURCE_TABLE, 15, 0, &TREE,
      {{14, 0, 2543, 0, 1007, 2, 2, 0, 12, 4, 0, 0, 0, 0, 0, 0}, 3610, 22337, 210, 0, 69874}},
     {"bring back, target table", BRING_BACK, PATCH_IMAGE, 1, LAFINDRY_TARGET_TABLE, 15, 0, &TREE,
@@ -345,7 +345,7 @@ static const struct place {
     {"bring back, embedding", BRING_BACK, PATCH_IMAGE, 2, LAFINDRY_EMBEDDING, 15, 0, &TREE,
      {{26, 0, 4080, 0, 2528, 0, 0, 0, 21, 0, 0, 0, 0, 0, 0, 1}, 19891, 80258, 390, 0, 129766}},
     {"bring back, tree", BRING_BACK, PATCH_IMAGE, 3, LAFINDRY_TREE, 15, 0, &TREE,
-     {{118, 0, 3570, 0, 1659, 0, 0, 0, 0, 0, 0, 29, 0, 0, 0, 0}, 21032, 51268, 1770, 0, 596263}},
+     {{214, 0, 3570, 0, 1563, 0, 0, 0, 0, 0, 0, 29, 0, 0, 0, 0}, 20648, 50692, 3210, 0, 1157479}},
 };
 
 enum { PLACES = sizeof places / sizeof places[0] };
@@ -650,6 +650,43 @@ static const struct document TEXT = BYTES(0x10, 0x1F);
 static const struct document TEXT_IN_SEQUENCE = BYTES(0x12, 0x15, 0x01, 0x10, 0x1F);
 static const struct document LIST_OF_ITSELF = BYTES(0x14, 0x00, 0x1F);
 
+/* Whether papers 01 and 02 (N5) allow a character. */
+static int is_allowed(uint8_t character)
+{
+    return character == 0x09 || character == 0x0A || (character >= 0x20 && character <= 0x7E) || character >= 0xA0;
+}
+
+/* Each byte as the character of a text, and in a list, which holds none. */
+static void all_characters(void)
+{
+    const struct document embedding = DOCUMENT(0x20, 0x00, 0x21, 0x22, 0x01, 0x2F);
+
+    begin_group("all bytes as characters");
+    for (size_t byte = 0; byte <= 0xFF; byte++) {
+        const uint8_t character = (uint8_t)byte;
+        const int allowed = is_allowed(character);
+        const struct document tree = DOCUMENT(0x30, 0x00, 0x31, character, 0x32, 0x3F);
+        const struct document image = DOCUMENT(0x30, 0x00, 0x30, 0x01, 0x31, character, 0x32, 0x32, 0x3F);
+        const struct expected in_tree = {refused(LAFINDRY_BAD_OPERAND, LAFINDRY_TREE, 2), NO_BYTES};
+        const struct expected in_image = {refused(LAFINDRY_BAD_OPERAND, LAFINDRY_TREE, 4), NO_BYTES};
+        const struct expected one_element = {accepted(1), NO_BYTES};
+        expect_at("text judged, byte", byte, allowed ? one_element : in_tree, judge_tree(TEXT, tree));
+        expect_at("text carried, byte", byte, allowed ? written_document(image, 0) : in_tree,
+                  carry(TEXT, TEXT_IN_SEQUENCE, embedding, tree, image.length));
+        expect_at("text brought back, byte", byte, allowed ? written_document(tree, 0) : in_image,
+                  bring_back(TEXT, TEXT_IN_SEQUENCE, embedding, image, tree.length));
+
+        const struct expected unexpected = {refused(LAFINDRY_UNEXPECTED, LAFINDRY_TREE, 2), NO_BYTES};
+        const struct expected in_list = allowed ? unexpected : in_tree;
+        expect_at("list judged, byte", byte, in_list, judge_tree(LIST_OF_ITSELF, tree));
+        expect_at("list carried, byte", byte, in_list,
+                  carry(LIST_OF_ITSELF, LIST_OF_ITSELF, embedding, tree, ROOM));
+        expect_at("list brought back, byte", byte, in_list,
+                  bring_back(LIST_OF_ITSELF, LIST_OF_ITSELF, embedding, tree, ROOM));
+    }
+    end_group();
+}
+
 static void limits_of_documents(void)
 {
     begin_group("limits of documents");
@@ -746,6 +783,7 @@ int main(int count, char **arguments)
     beginnings();
     null_pointers();
     changed_bytes();
+    all_characters();
     limits_of_documents();
     limits_of_levels();
     limits_of_length();

@@ -9,7 +9,7 @@
 #include "lafindry.h"
 
 /* A byte that no document written by an entry has. */
-enum { JUNK = 0xA5 };
+enum { JUNK = 0x95 };
 
 /* The greatest length of a document or output that can be lent. */
 enum { ROOM = LAFINDRY_MOST_BYTES + 100 };

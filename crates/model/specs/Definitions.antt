@@ -6,6 +6,7 @@ pub mod Table
 pub mod Heights
 pub mod TableChecks
 pub mod Content
+pub mod Characters
 pub mod Conformance
 pub mod TreeChecks
 pub mod Embedding

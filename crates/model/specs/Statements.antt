@@ -17,6 +17,7 @@ use Rattle.model.specs.Definitions.Table.{Kind, text, empty, sequence, c
 use Rattle.model.specs.Definitions.Heights.{heights, heightIn, heightOf, hasInstance, endlessType}
 use Rattle.model.specs.Definitions.TableChecks.{tableForm, tableOperands, tableRepeats}
 use Rattle.model.specs.Definitions.Content.{Content, end, elem, bytes, document, contentOf, levels}
+use Rattle.model.specs.Definitions.Characters.{CharacterClass, Ascii, Accented, Classed, characterClass, allowed}
 use Rattle.model.specs.Definitions.Conformance.{Holds, Conforming, Instance, conforms}
 use Rattle.model.specs.Definitions.TreeChecks.{treeForm, treeOperands, treeExpected, maxLevels}
 use Rattle.model.specs.Definitions.Filler.{content, known, fillers}
@@ -31,6 +32,7 @@ use Rattle.model.specs.Definitions.Entries.{accepted, refused, judgeEmbe
 use Rattle.model.specs.Computing.{definitions}
 use Rattle.model.specs.Examples.{choiceOfEmpty, listedTable, listedEmbedding, listedImage, memberTable, memberListsTable, memberListsEmbedding, memberContent, memberImage}
 use Rattle.model.specs.Theorems.Tools.{and-right}
+use Rattle.model.specs.Theorems.Characters.{class-exactly, allowed-values}
 use Rattle.model.specs.Theorems.Conforms.{holds-conforms, conforms-holds}
 use Rattle.model.specs.Theorems.Documents.{document-injective, checks-conforming, conforming-checks}
 use Rattle.model.specs.Theorems.Expected.{UnexpectedCommand, unexpected-command}
@@ -322,3 +324,13 @@ one-item-told =
 pub first-item-read : (T : Table) (τ m p : ℕ) (ps : List ℕ) → kindOf T τ ≡ list m
     → ((t : ℕ) (k r : Content) → follow T τ (p ∷ ps) (elem t k r) ≡ follow T (next T τ p) ps k) × (follow T τ (p ∷ ps) end ≡ none)
 first-item-read = first-item
+
+-- ---- 14. characters (02, N5)
+
+-- Test and predicate of a character's class agree.
+pub class-is-predicate : (c : ℕ) (κ : CharacterClass) → (characterClass c ≡ κ) ↔ Classed c κ
+class-is-predicate = class-exactly
+
+-- A document may hold 01's characters and A0 to FF, and no others.
+pub allowed-exactly : (c : ℕ) → (allowed c ≡ true) ↔ (Ascii c ⊎ Accented c)
+allowed-exactly = allowed-values

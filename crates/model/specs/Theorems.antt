@@ -3,6 +3,7 @@ pub mod Facts
 pub mod Tools
 pub mod Runs
 pub mod Bytes
+pub mod Characters
 pub mod Conforms
 pub mod Documents
 pub mod Expected

@@ -23,18 +23,25 @@ embeddingWith secondStep lastTarget =
 unfoldable pub embedding : List ℕ
 embedding = embeddingWith 0x01 0x04
 
+-- the tree, with the characters of its text left open
+unfoldable pub treeNamed : List ℕ → List ℕ
+treeNamed name = 0x30 ∷ 0x00 ∷ 0x30 ∷ 0x01 ∷ (name ++ 0x32 ∷ 0x30 ∷ 0x02 ∷ 0x30 ∷ 0x03 ∷ 0x32 ∷ 0x32 ∷ 0x32 ∷ 0x3F ∷ [])
+
 unfoldable pub tree : List ℕ
-tree = 0x30 ∷ 0x00 ∷ 0x30 ∷ 0x01 ∷ 0x31 ∷ 0x41 ∷ 0x32 ∷ 0x30 ∷ 0x02 ∷ 0x30 ∷ 0x03 ∷ 0x32 ∷ 0x32 ∷ 0x32 ∷ 0x3F ∷ []
+tree = treeNamed (0x31 ∷ 0x41 ∷ [])
 
--- the image, with what the filler text at offset 9 holds left open
+-- its image, with what the filler text behind these characters holds left open too
+unfoldable pub imageNamed : List ℕ → List ℕ → List ℕ
+imageNamed name inFiller =
+    0x30 ∷ 0x00 ∷ 0x30 ∷ 0x01 ∷ 0x30 ∷ 0x03
+    ∷ (name ++ 0x32 ∷ 0x30 ∷ 0x03 ∷ (inFiller ++ 0x32 ∷ 0x32 ∷ 0x30 ∷ 0x02 ∷ 0x30 ∷ 0x05 ∷ 0x32 ∷ 0x32 ∷ 0x32 ∷ 0x3F ∷ []))
+
 unfoldable pub imageWith : List ℕ → List ℕ
-imageWith inFiller =
-    0x30 ∷ 0x00 ∷ 0x30 ∷ 0x01 ∷ 0x30 ∷ 0x03 ∷ 0x31 ∷ 0x41 ∷ 0x32 ∷ 0x30 ∷ 0x03
-    ∷ (inFiller ++ 0x32 ∷ 0x32 ∷ 0x30 ∷ 0x02 ∷ 0x30 ∷ 0x05 ∷ 0x32 ∷ 0x32 ∷ 0x32 ∷ 0x3F ∷ [])
+imageWith = imageNamed (0x31 ∷ 0x41 ∷ [])
 
--- an output of n bytes with something in them
+-- an output of n bytes with something in them that no document written has
 unfoldable pub junk : ℕ → List ℕ
-junk n = replicate n 0xA5
+junk n = replicate n 0x95
 
 -- 01's answers
 unfoldable pub refusal : ℕ → ℕ → ℕ → Answer
@@ -81,7 +88,7 @@ pub record StarredCases : Type 0 where
       ≡ refusal 10 3 7
 
 pub starred-cases : StarredCases
-unfolding definitions sourceTable targetTable embeddingWith embedding tree imageWith junk refusal answer
+unfolding definitions sourceTable targetTable embeddingWith embedding treeNamed tree imageNamed imageWith junk refusal answer
 starred-cases =
     record { carried = refl; carried-bytes = refl; brought-back = refl; brought-back-bytes = refl; into-21 = refl; into-21-bytes = refl; into-20 = refl; into-20-bytes = refl; altered = refl; altered-bytes = refl; no-bytes = refl; bare-root = refl; endless = refl; list-of-itself = refl; same-paths = refl; same-ends = refl; part-at-sequence = refl }
 
@@ -154,3 +161,24 @@ list-cases = (
   record { first-carried = refl; first-bytes = refl; first-brought = refl; first-source = refl; another-before = refl; another-behind = refl; no-item = refl },
   record { nothing-bytes = refl; nothing-brought = refl },
 )
+
+-- ---- 02, N5: accented names
+
+-- the name Été as ISO 8859-1
+unfoldable pub accentedName : List ℕ
+accentedName = 0x31 ∷ 0xC9 ∷ 0x31 ∷ 0x74 ∷ 0x31 ∷ 0xE9 ∷ []
+
+pub record AccentCases : Type 0 where
+  -- the patch with this name, carried and brought back
+  pub named-carried : answerOf (carry sourceTable targetTable embedding (treeNamed accentedName) (junk 25) .result) ≡ answer 25 1
+  pub named-bytes : carry sourceTable targetTable embedding (treeNamed accentedName) (junk 25) .output ≡ imageNamed accentedName []
+  pub named-brought : answerOf (bringBack sourceTable targetTable embedding (imageNamed accentedName []) (junk 19) .result) ≡ answer 19 0
+  pub named-source : bringBack sourceTable targetTable embedding (imageNamed accentedName []) (junk 19) .output ≡ treeNamed accentedName
+  -- an accent in the filler
+  pub accent-in-filler : answerOf (bringBack sourceTable targetTable embedding (imageNamed accentedName (0x31 ∷ 0xE9 ∷ [])) (junk 19) .result) ≡ refusal 15 4 0
+  -- É as UTF-8
+  pub not-utf-8 : answerOf (judgeTree sourceTable (treeNamed (0x31 ∷ 0xC3 ∷ 0x31 ∷ 0x89 ∷ []))) ≡ refusal 4 4 6
+
+pub accent-cases : AccentCases
+unfolding definitions sourceTable targetTable embeddingWith embedding treeNamed imageNamed accentedName junk refusal answer
+accent-cases = record { named-carried = refl; named-bytes = refl; named-brought = refl; named-source = refl; accent-in-filler = refl; not-utf-8 = refl }

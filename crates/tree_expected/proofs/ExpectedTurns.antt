@@ -13,7 +13,8 @@ use borrow.Author.Tests.{eqb-true, eqb-false, ltb-true, ltb-false, ne-eqb}
 use Rattle.model.specs.Definitions.Basics.{pick, passes, fails, goes, stops, goesIf}
 use Rattle.model.specs.Definitions.Commands.{TreeCommand, opens, character, closes, treeEnd, alienT, treeCommand, treeCommands, treeWidth}
 use Rattle.model.specs.Definitions.Table.{Kind, sequence, Table, kindOf}
-use Rattle.model.specs.Definitions.Conformance.{admits, after, allowed}
+use Rattle.model.specs.Definitions.Characters.{allowed}
+use Rattle.model.specs.Definitions.Conformance.{admits, after}
 use Rattle.model.specs.Definitions.TreeChecks.{noRoot, treeStep, expectStep, treeExpected}
 use Rattle.model.specs.Theorems.Runs.{passes-fails}
 use Rattle.model.specs.Theorems.Reading.{rawAt, tree-reads, left-stops, left-goes, left-ends, no-tree-commands}

@@ -1,2 +1,1 @@
-mod Allowed
 pub mod OperandTurns

@@ -8,7 +8,7 @@ use lib.ListN.{length}
 use borrow.Author.Tests.{lt-ltb, le-ltb}
 use Rattle.model.specs.Definitions.Basics.{pick, passes, fails, goes, stops, goesIf}
 use Rattle.model.specs.Definitions.Commands.{TreeCommand, opens, character, closes, treeEnd, alienT, treeCommands, treeWidth}
-use Rattle.model.specs.Definitions.Conformance.{allowed}
+use Rattle.model.specs.Definitions.Characters.{allowed}
 use Rattle.model.specs.Definitions.TreeChecks.{operandStep, treeOperands}
 use Rattle.model.specs.Theorems.Reading.{left-stops, left-goes, goes-within, left-ends, no-tree-commands}
 use Rattle.tree_operands.specs.Operands.{InOperands}

@@ -1,3 +1,2 @@
-// Check 4 of a tree document, its operands: the characters that a document may hold, and types that exist.
-pub mod characters;
+// Check 4 of a tree document, its operands: types that exist, and characters that are allowed.
 pub mod operands;

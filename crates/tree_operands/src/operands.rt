@@ -1,6 +1,6 @@
 // Check 4 of a tree document: elements of types that exist, and characters that are allowed.
-use crate::characters::allowed;
 use answers::Verdict;
+use characters::allowed;
 use tree_form::command::TreeCommand;
 use tree_form::command::command_at;
 ghost use mathlib.Core.Path.{_≡_};

@@ -6,7 +6,7 @@ use Prim.Native.Nat.{ℕ, _+_, _-_, _≤_, _<_}
 use native.Mathlib.Omega.{arith}
 use lib.ListN.{length, getD, set}
 use Rattle.model.specs.Definitions.Commands.{TreeCommand, opens, treeCommand}
-use Rattle.model.specs.Definitions.Conformance.{allowed}
+use Rattle.model.specs.Definitions.Characters.{allowed}
 use Rattle.model.specs.Theorems.Reading.{rawAt, tree-reads}
 use Rattle.loaded_table.specs.Loaded.{typesIn}
 use Rattle.tree_form.specs.Commands.{ReadsCommand}

@@ -6,7 +6,7 @@ use Prim.Native.Nat.{ℕ, _+_, _≤_, _<_}
 use lib.ListN.{length}
 use Rattle.model.specs.Definitions.Basics.{passes}
 use Rattle.model.specs.Definitions.Commands.{opens, treeEnd, treeCommands}
-use Rattle.model.specs.Definitions.Conformance.{allowed}
+use Rattle.model.specs.Definitions.Characters.{allowed}
 use Rattle.model.specs.Definitions.TreeChecks.{treeForm, treeLevels, treeOperands, treeExpected}
 use Rattle.loaded_table.specs.Loaded.{tableBy, typesIn, Bounded}
 use Rattle.tree_form.specs.Commands.{ReadsCommand}

@@ -1,4 +1,5 @@
 // All checks of a tree document in one pass, for documents that are accepted.
+use characters::allowed;
 use codes::CHARACTER;
 use codes::CLOSES;
 use codes::MAX_BYTES;
@@ -11,7 +12,6 @@ use tree_expected::Turn;
 use tree_expected::complete;
 use tree_expected::is_text;
 use tree_expected::opening;
-use tree_operands::characters::allowed;
 ghost use mathlib.Core.Path.{_≡_};
 ghost use mathlib.Core.Bool.{true};
 ghost use Prim.Native.Nat.{_<_};

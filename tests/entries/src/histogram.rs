@@ -38,10 +38,10 @@ impl Histogram {
         counts.filter(|(key, _)| key.0 == entry && key.1 == number).map(|(_, count)| count).sum()
     }
 
-    /// Fails unless every answer that an entry can give occurred so often:
+    /// Fails unless every answer that these entries can give occurred so often:
     /// acceptance, and each refusal of each document.
-    pub fn ensure_all(&self, least: usize) -> Result<(), Failure> {
-        for entry in Entry::ALL {
+    pub fn ensure_all(&self, entries: &[Entry], least: usize) -> Result<(), Failure> {
+        for &entry in entries {
             for (number, document) in answers_of(entry) {
                 let count = self.counts.get(&(entry, number, document)).copied().unwrap_or(0);
                 let text = format!("{}: {number} of document {document} only {count} times", entry.name());

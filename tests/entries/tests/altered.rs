@@ -5,11 +5,11 @@ mod seed;
 
 use lafindry_entries::{ensure, report, Failure, Setting};
 use lafindry_reference::generate::damage::{alter, damage_bytes, damage_commands, damage_tree};
-use lafindry_reference::generate::trees::random_element;
+use lafindry_reference::generate::trees::{random_accent, random_element};
 use lafindry_reference::generate::{Rng, Shape, TableSize, World};
 use lafindry_reference::places::{element_at, places_of, Places};
 use lafindry_reference::table::ContentModel;
-use lafindry_reference::tree::Element;
+use lafindry_reference::tree::{commands, Command, Element};
 use lafindry_reference::vectors::{Answer, Entry};
 use lafindry_reference::{Refusal, TREE};
 use seed::seed;
@@ -192,6 +192,15 @@ fn fill_optional(rng: &mut Rng, world: &World, image: &Element) -> Option<Vec<u8
     Some(altered.to_bytes())
 }
 
+/// Some character replaced by one from A0 to FF.
+fn change_character(rng: &mut Rng, _: &World, image: &Element) -> Option<Vec<u8>> {
+    let mut altered = image.to_bytes();
+    let characters = commands(&altered).filter(|(_, command)| matches!(command, Command::Character(_)));
+    let offsets: Vec<usize> = characters.map(|(offset, _)| offset).collect();
+    altered[offsets.get(rng.below(offsets.len()))? + 1] = random_accent(rng);
+    Some(altered)
+}
+
 #[test]
 fn optional_choices_emptied() -> Result<(), Failure> {
     let title = "images with an optional choice emptied";
@@ -211,6 +220,16 @@ fn filler_changed() -> Result<(), Failure> {
     let outcomes = bring_altered("images with filler changed", change_filler)?;
     ensure(outcomes.source == 0, "a source for an image with other filler")?;
     ensure(outcomes.no_image > 200, "too few outcomes")
+}
+
+/// All characters of an image are its source's, so that with another character
+/// it is the image of another source.
+#[test]
+fn characters_changed() -> Result<(), Failure> {
+    let title = "images with a character changed";
+    let outcomes = bring_altered_of(title, World::accented, change_character)?;
+    ensure(outcomes.no_image + outcomes.refused == 0, "no source for an image with another character")?;
+    ensure(outcomes.source > 2000, "too few outcomes")
 }
 
 #[test]

@@ -7,12 +7,14 @@ mod traits;
 
 use counts::Counts;
 use lafindry_entries::{compare, ensure, Failure, Setting};
+use lafindry_reference::clauses::characters::characters;
 use lafindry_reference::generate::trees::{pad, random_tree};
 use lafindry_reference::generate::{Rng, Shape, TableSize, World};
-use lafindry_reference::tree::levels;
+use lafindry_reference::tree::{is_character, levels};
 use lafindry_reference::vectors::{Answer, Entry};
 use lafindry_reference::{Refusal, MOST_BYTES, MOST_LEVELS, OUTPUT};
 use seed::seed;
+use std::collections::BTreeSet;
 use std::time::{Duration, Instant};
 use traits::Traits;
 
@@ -77,7 +79,7 @@ fn comes_back(rng: &mut Rng, world: &World) -> Result<Option<Image>, Failure> {
 fn round_trips(
     stream: u64,
     draw: fn(&mut Rng) -> World,
-    tally: fn(&mut Counts, &Image, &Traits),
+    mut tally: impl FnMut(&mut Counts, &Image, &Traits),
 ) -> Result<Counts, Failure> {
     let mut rng = Rng::new(seed().wrapping_add(stream));
     let mut counts = Counts::default();
@@ -127,6 +129,20 @@ fn images_with_lists_on_paths_come_back() -> Result<(), Failure> {
         counts.add("of an optional choice left empty behind a list", traits.nothing_behind_list);
     })?;
     counts.finish("round trips of lists on the paths of choices", 50)
+}
+
+/// Every character that a tree may hold stands in some of the images.
+#[test]
+fn images_with_accents_come_back() -> Result<(), Failure> {
+    let mut images_with = [0; 0x100];
+    let counts = round_trips(900, World::accented, |counts, image, _| {
+        counts.add("images", true);
+        let held: BTreeSet<u8> = characters(&image.bytes).collect();
+        held.into_iter().for_each(|character| images_with[character as usize] += 1);
+    })?;
+    let rare = (0..=0xFF).find(|&byte| is_character(byte) && images_with[byte as usize] < 20);
+    ensure(rare.is_none(), format!("{rare:02X?} is in too few images"))?;
+    counts.finish("round trips of accents", 2000)
 }
 
 /// Carries the tree of a world whose image is near a limit. Fails unless it

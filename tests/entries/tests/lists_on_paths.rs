@@ -13,7 +13,7 @@ use lafindry_reference::generate::{Rng, World};
 use lafindry_reference::vectors::Entry;
 use seed::seed;
 
-/// How often each clause has to occur. With seed 1 the rarest occurs 29 times.
+/// How often each clause has to occur. With seed 1 the rarest occurs 28 times.
 const LEAST: usize = 5;
 
 /// Lists on the paths of choices. A case is counted only where its tables are

@@ -4,8 +4,8 @@ use lafindry_entries::{check, ensure, report, Failure, Histogram};
 use lafindry_reference::vectors::{is_skipped, parse_line, Entry};
 
 /// Runs every line of a file under tests/data; there must be at least so many,
-/// and some for each entry.
-fn run_file(name: &str, least: usize) -> Result<(), Failure> {
+/// and of some entries lines that they accept.
+fn run_file(name: &str, least: usize, entries: &[Entry]) -> Result<(), Failure> {
     let path = format!("{}/../data/{name}", env!("CARGO_MANIFEST_DIR"));
     let text = std::fs::read_to_string(&path).map_err(|error| Failure(format!("{path}: {error}")))?;
     let mut histogram = Histogram::default();
@@ -17,36 +17,46 @@ fn run_file(name: &str, least: usize) -> Result<(), Failure> {
     }
     report(&format!("{name}: {} lines agree\n{histogram}", histogram.total()));
     ensure(histogram.total() >= least, format!("{name}: only {} lines", histogram.total()))?;
-    let accepted = Entry::ALL.map(|entry| histogram.of(entry, 0));
-    ensure(accepted.iter().all(|&count| count > 0), format!("{name}: an entry accepted nothing"))
+    let idle = entries.iter().find(|&&entry| histogram.of(entry, 0) == 0);
+    ensure(idle.is_none(), format!("{name}: {idle:?} accepted nothing"))
 }
 
 #[test]
 fn base_vectors_agree() -> Result<(), Failure> {
-    run_file("base.txt", 3851)
+    run_file("base.txt", 3851, &Entry::ALL)
 }
 
 #[test]
 fn worked_cases_agree() -> Result<(), Failure> {
-    run_file("cases-01.txt", 177)
+    run_file("cases-01.txt", 177, &Entry::ALL)
 }
 
 #[test]
 fn optional_choice_vectors_agree() -> Result<(), Failure> {
-    run_file("n3.txt", 1178)
+    run_file("n3.txt", 1178, &Entry::ALL)
 }
 
 #[test]
 fn optional_choice_cases_agree() -> Result<(), Failure> {
-    run_file("cases-n3.txt", 288)
+    run_file("cases-n3.txt", 288, &Entry::ALL)
 }
 
 #[test]
 fn list_vectors_agree() -> Result<(), Failure> {
-    run_file("n6.txt", 1019)
+    run_file("n6.txt", 1019, &Entry::ALL)
 }
 
 #[test]
 fn list_cases_agree() -> Result<(), Failure> {
-    run_file("cases-n6.txt", 280)
+    run_file("cases-n6.txt", 280, &Entry::ALL)
+}
+
+#[test]
+fn accent_vectors_agree() -> Result<(), Failure> {
+    run_file("n5.txt", 828, &Entry::WITH_TREE)
+}
+
+#[test]
+fn accent_cases_agree() -> Result<(), Failure> {
+    run_file("cases-n5.txt", 278, &Entry::WITH_TREE)
 }

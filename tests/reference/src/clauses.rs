@@ -1,9 +1,11 @@
 //! Which clause about optional choices decides the answer to a case; in
-//! [`lists`], which clause about lists on the paths of choices.
+//! [`lists`], which clause about lists on the paths of choices; in
+//! [`characters`], which clause about characters.
 //!
 //! A refusal is given a clause where the other clauses of the same check hold
 //! at the place that it marks, so that the clause is seen apart.
 
+pub mod characters;
 mod embeddings;
 mod images;
 pub mod lists;
@@ -125,6 +127,12 @@ fn accepted_table(document: &[u8]) -> Table {
     table::accept(document, SOURCE).expect("an accepted table")
 }
 
+/// The table by which the tree of a case is judged, where it is accepted.
+fn judging_table(case: &Case) -> Table {
+    let judging = if case.entry == Entry::BringBack { 1 } else { 0 };
+    accepted_table(&case.documents[judging])
+}
+
 /// The tables and the embedding of a case, if it has accepted tables and an
 /// embedding of the right form.
 fn embedded_of(case: &Case) -> Option<Embedded> {
@@ -149,10 +157,7 @@ fn refusal_clause(case: &Case, refusal: Refusal) -> Option<Clause> {
         TARGET => table_clause(&documents[1], refusal),
         EMBEDDING => embeddings::embedding_clause(&embedded_of(case)?, refusal),
         TREE if refusal.number == 15 => images::no_image_clause(case),
-        TREE => {
-            let judging = if case.entry == Entry::BringBack { 1 } else { 0 };
-            tree_clause(&accepted_table(&documents[judging]), documents.last()?, refusal)
-        }
+        TREE => tree_clause(&judging_table(case), documents.last()?, refusal),
         _ => None,
     }
 }
@@ -183,15 +188,30 @@ fn tree_clause(table: &Table, bytes: &[u8], refusal: Refusal) -> Option<Clause> 
     if refusal.number != 11 {
         return None;
     }
-    let mark = refusal.mark as usize;
-    let &(t, children) = open_elements(&bytes[..mark]).last()?;
-    let (_, command) = commands(bytes).find(|&(offset, _)| offset == mark)?;
-    match command {
-        _ if !table.types[t as usize].is_optional() => None,
-        Command::Open(_) if children == 0 => Some(Clause::WrongMember),
+    let marked = MarkedCommand::at(table, bytes, refusal.mark as usize)?;
+    match marked.command {
+        _ if !marked.model.is_optional() => None,
+        Command::Open(_) if marked.children == 0 => Some(Clause::WrongMember),
         Command::Open(_) => Some(Clause::SecondMember),
         Command::Character(_) => Some(Clause::Character),
         _ => None,
+    }
+}
+
+/// A command of a tree that a refusal marks: the element that it stands in has
+/// a model and so many children before it.
+struct MarkedCommand<'a> {
+    command: Command,
+    model: &'a ContentModel,
+    children: usize,
+}
+
+impl MarkedCommand<'_> {
+    /// The command at an offset, if it stands in an element.
+    fn at<'a>(table: &'a Table, tree: &[u8], offset: usize) -> Option<MarkedCommand<'a>> {
+        let &(t, children) = open_elements(&tree[..offset]).last()?;
+        let (_, command) = commands(tree).find(|command| command.0 == offset)?;
+        Some(MarkedCommand { command, model: &table.types[t as usize], children })
     }
 }
 

@@ -27,7 +27,8 @@ pub mod tables;
 pub mod trees;
 
 pub use cases::{
-    random_case, random_small_case, random_small_listed_case, random_small_optional_case, World,
+    random_case, random_small_accented_case, random_small_case, random_small_listed_case,
+    random_small_optional_case, World,
 };
 pub use embeddings::{random_embedded, Embedded};
 pub use tables::{random_table, TableSize};

@@ -1,6 +1,6 @@
 //! A reference for the five entries of paper 01, with the optional choices of
-//! paper 02 (N3) and its lists on the paths of choices (N6), written from these
-//! papers and the lists of readings alone, in plain Rust.
+//! paper 02 (N3), its lists on the paths of choices (N6) and its accents (N5),
+//! written from these papers and the lists of readings alone, in plain Rust.
 //!
 //! | Entry | Function |
 //! |---|---|

@@ -6,12 +6,16 @@
 //!   choice, spread over the answers and the clauses about optional choices.
 //! - `reference generate SEED COUNT lists` prints small ones with a list on the
 //!   path of a choice, spread over the answers and the clauses about such lists.
+//! - `reference generate SEED COUNT accents` prints small ones with a character
+//!   from A0 to FF, spread over the answers and the clauses about characters.
 //! - `reference ENTRY FILE.. [OUTLEN]` runs one entry on documents in files.
 
+use lafindry_reference::clauses::characters::{self, CharacterClause};
 use lafindry_reference::clauses::lists::{self, ListClause};
 use lafindry_reference::clauses::{self, Clause};
 use lafindry_reference::generate::{
-    random_case, random_small_case, random_small_listed_case, random_small_optional_case, Rng,
+    random_case, random_small_accented_case, random_small_case, random_small_listed_case,
+    random_small_optional_case, Rng,
 };
 use lafindry_reference::vectors::{check_line, is_skipped, Answer, Case, Entry};
 use std::collections::BTreeMap;
@@ -19,7 +23,7 @@ use std::io::Write;
 use std::process::ExitCode;
 
 const USAGE: &str = "usage: reference vectors FILE..
-       reference generate SEED COUNT [small|optional|lists]
+       reference generate SEED COUNT [small|optional|lists|accents]
        reference ENTRY FILE.. [OUTLEN]";
 
 fn main() -> ExitCode {
@@ -31,6 +35,7 @@ fn main() -> ExitCode {
         ["generate", seed, count, "small"] => generate(seed, count, random_small_case),
         ["generate", seed, count, "optional"] => generate_spread(seed, count, OPTIONAL),
         ["generate", seed, count, "lists"] => generate_spread(seed, count, LISTS),
+        ["generate", seed, count, "accents"] => generate_spread(seed, count, ACCENTS),
         [entry, ref files @ ..] => run_entry(entry, files),
         [] => Err(USAGE.to_string()),
     };
@@ -132,6 +137,17 @@ const LISTS: Spread<ListClause> = Spread {
     random: random_small_listed_case,
     shown: lists::shown,
     clauses: &ListClause::ALL,
+};
+
+/// Those with an accent.
+const ACCENTS: Spread<CharacterClause> = Spread {
+    word: "accents",
+    text: "random cases with a character from A0 to
+# FF in the tree, spread over the answers and the clauses about characters; the answers are the
+# reference's.",
+    random: random_small_accented_case,
+    shown: characters::shown,
+    clauses: &CharacterClause::ALL,
 };
 
 /// Cases by the kind of their answer and by the last clause that they show.

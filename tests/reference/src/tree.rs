@@ -95,9 +95,15 @@ pub fn open_elements(beginning: &[u8]) -> Vec<(u8, usize)> {
     open
 }
 
-/// Whether a byte is an allowed character.
+/// Whether a byte is an allowed character: of ISO 8859-1 the tab, the line feed
+/// and all but the controls.
 pub fn is_character(byte: u8) -> bool {
-    matches!(byte, 0x09 | 0x0A | 0x20..=0x7E)
+    matches!(byte, 0x09 | 0x0A | 0x20..=0x7E) || is_accent(byte)
+}
+
+/// Whether a byte is one of the characters that paper 02 (N5) allowed.
+pub fn is_accent(byte: u8) -> bool {
+    matches!(byte, 0xA0..=0xFF)
 }
 
 /// Judges a tree by an accepted table, by refusals 1 to 4 and 11.

@@ -10,8 +10,9 @@
 use crate::{bring_back, carry, judge_embedding, judge_table, judge_tree, Refusal};
 use std::fmt;
 
-/// The byte that lent outputs are filled with before a run.
-pub const JUNK: u8 = 0xA5;
+/// The byte that lent outputs are filled with before a run. No document that an
+/// entry writes has it.
+pub const JUNK: u8 = 0x95;
 
 /// One of the five entries.
 #[derive(Debug, Clone, Copy, PartialEq, Eq, PartialOrd, Ord)]
@@ -27,6 +28,9 @@ impl Entry {
     /// All entries, in the order of paper 01.
     pub const ALL: [Entry; 5] =
         [Entry::JudgeTable, Entry::JudgeEmbedding, Entry::JudgeTree, Entry::Carry, Entry::BringBack];
+
+    /// The entries that are given a tree.
+    pub const WITH_TREE: [Entry; 3] = [Entry::JudgeTree, Entry::Carry, Entry::BringBack];
 
     /// The name used in vector lines.
     pub fn name(self) -> &'static str {

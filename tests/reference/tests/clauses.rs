@@ -1,7 +1,8 @@
-//! The clauses about optional choices, and those about lists on the paths of
-//! choices, are told apart as they should be: cases worked by hand, each with
-//! its answer and what it shows.
+//! The clauses about optional choices, those about lists on the paths of
+//! choices and those about characters are told apart as they should be: cases
+//! worked by hand, each with its answer and what it shows.
 
+use lafindry_reference::clauses::characters::{self, has_accent, is_tree_judged, CharacterClause};
 use lafindry_reference::clauses::lists::{self, has_list_on_choice, ListClause};
 use lafindry_reference::clauses::{has_optional, shown, Clause};
 use lafindry_reference::vectors::check_line;
@@ -308,4 +309,130 @@ fn cases_with_a_list_on_the_path_of_a_choice() {
     assert!(!judged([NEEDED, BELOW_LIST, &BY_ITEM[2..]], "refused 2 3 0"));
     assert!(!judged(["121501111f", "1401111f", "200021220120012f"], "ok 1 0 -"));
     assert!(!has(&format!("judge_table {BELOW_LIST} -> ok 4 0 -")));
+}
+
+/// A text carried to the second of two texts; the first is filler.
+const BESIDE_FILLER: &str = "101f 1215011501101f 20002122022f";
+
+/// Asserts the answer of a line and the clauses about characters that it shows.
+fn assert_characters(line: &str, clauses: &[CharacterClause]) {
+    let (case, answer) = check_line(line).unwrap_or_else(|message| panic!("{line}: {message}"));
+    assert_eq!(characters::shown(&case, &answer), clauses, "{line}");
+}
+
+/// Asserts the answer of judging a tree and the clauses about characters.
+fn assert_judged(documents: &str, answer: &str, clauses: &[CharacterClause]) {
+    assert_characters(&format!("judge_tree {documents} -> {answer}"), clauses);
+}
+
+#[test]
+fn accents_where_none_may_stand() {
+    use CharacterClause::*;
+    let kinds = [
+        ("111f 300031e9323f", InEmpty, ForbiddenInEmpty),
+        ("121501101f 300031e9300132323f", InSequence, ForbiddenInSequence),
+        ("131501150210111f 300031e9300232323f", InNeeded, ForbiddenInNeeded),
+        ("171501150210111f 300031e9323f", InOptional, ForbiddenInOptional),
+        ("1401101f 300031e9323f", InList, ForbiddenInList),
+    ];
+    for (documents, accent, forbidden) in kinds {
+        assert_judged(documents, "refused 11 4 2", &[accent]);
+        assert_judged(&documents.replace("e9", "9f"), "refused 4 4 2", &[forbidden]);
+        assert_judged(&documents.replace("e9", "41"), "refused 11 4 2", &[]);
+    }
+    // The mark is an element, or stands in none.
+    assert_judged("121501101f 3000300031e932323f", "refused 11 4 2", &[]);
+    assert_judged("121501101f 300131e9323f", "refused 11 4 0", &[]);
+}
+
+#[test]
+fn forbidden_characters() {
+    use CharacterClause::*;
+    for (character, clause) in
+        [("00", ForbiddenLow), ("1f", ForbiddenLow), ("7f", ForbiddenHigh), ("9f", ForbiddenHigh)]
+    {
+        assert_judged(&format!("101f 300031e931{character}323f"), "refused 4 4 4", &[clause]);
+    }
+    // The root is of another type; an accent stands in the empty element.
+    assert_judged("121501101f 30013180323f", "refused 4 4 2", &[ForbiddenHigh, ForbiddenBehind]);
+    assert_judged("111f 300031e93100323f", "refused 4 4 4", &[ForbiddenInEmpty, ForbiddenBehind]);
+    // The fault of 11 is behind it; the mark is a type.
+    assert_judged("111f 3000310031e9323f", "refused 4 4 2", &[ForbiddenInEmpty]);
+    assert_judged("121501101f 30003002310032323f", "refused 4 4 2", &[]);
+}
+
+#[test]
+fn checks_before_that_of_characters() {
+    use CharacterClause::*;
+    assert_judged("101f 3000318032", "refused 2 4 5", &[FormFirst]);
+    assert_judged("121501101f 300030023100323231e93f", "refused 2 4 8", &[FormFirst]);
+    // The form breaks before the character, or at the command that lacks it.
+    assert_judged("101f 30003f3180323f", "refused 2 4 2", &[]);
+    assert_judged("101f 300031e931", "refused 2 4 4", &[]);
+    let deep = |first: &str, last: &str| {
+        format!("14001f 3000{first}{}{last}{}3f", "3000".repeat(128), "32".repeat(129))
+    };
+    assert_judged(&deep("3180", ""), "refused 3 4 258", &[LevelsFirst]);
+    assert_judged(&deep("31e9", ""), "refused 3 4 258", &[]);
+    assert_judged(&deep("", "3180"), "refused 3 4 256", &[]);
+}
+
+#[test]
+fn accents_in_filler() {
+    let refused = |image: &str, clauses: &[CharacterClause]| {
+        assert_characters(&format!("bring_back {BESIDE_FILLER} {image} 60 -> refused 15 4 0"), clauses);
+    };
+    refused("3000300131e932300132323f", &[CharacterClause::InFiller]);
+    // Only a letter is in the filler.
+    refused("30003001314132300131e932323f", &[]);
+    // Two such texts.
+    let two = "101f 12150115011501101f 20002122032f 3000300131e932300131e932300132323f 60";
+    assert_characters(&format!("bring_back {two} -> refused 15 4 0"), &[]);
+}
+
+#[test]
+fn accents_and_outputs() {
+    use CharacterClause::*;
+    let carried = |tree: &str, room: &str, answer: &str, clauses: &[CharacterClause]| {
+        assert_characters(&format!("carry {BESIDE_FILLER} {tree} {room} -> {answer}"), clauses);
+    };
+    let (tree, image) = ("300031e9323f", "3000300132300131e932323f");
+    carried(tree, "12", &format!("ok 12 1 {image}"), &[Carried]);
+    carried(tree, "11", "refused 14 5 0", &[ShortForImage]);
+    carried(tree, "10", "refused 14 5 0", &[]);
+    carried("30003141323f", "12", "ok 12 1 30003001323001314132323f", &[]);
+    carried("30003141323f", "11", "refused 14 5 0", &[]);
+    let brought = |room: &str, answer: &str, clauses: &[CharacterClause]| {
+        assert_characters(&format!("bring_back {BESIDE_FILLER} {image} {room} -> {answer}"), clauses);
+    };
+    brought("6", &format!("ok 6 0 {tree}"), &[BroughtBack]);
+    brought("5", "refused 14 5 0", &[ShortForSource]);
+    brought("4", "refused 14 5 0", &[]);
+    assert_judged("101f 300031a0323f", "ok 1 0 -", &[Conforms]);
+    assert_judged("101f 3000317e323f", "ok 1 0 -", &[]);
+}
+
+/// Only an operand of a command 31 of a tree counts.
+#[test]
+fn cases_with_an_accent() {
+    let has = |line: &str| has_accent(&check_line(line).unwrap().0);
+    assert!(has("judge_tree 101f 300031a0323f -> ok 1 0 -"));
+    assert!(has("judge_tree 101f 300031ff -> refused 2 4 4"));
+    assert!(has("judge_tree 10 300031e9323f -> refused 2 1 1"));
+    assert!(has(&format!("carry {BESIDE_FILLER} 300031e9323f 0 -> refused 14 5 0")));
+    assert!(!has("judge_tree 101f 3000319f323f -> refused 4 4 2"));
+    assert!(!has("judge_tree 101f 30e9323f -> refused 4 4 0"));
+    assert!(!has("judge_embedding 101f 101f 31e9 -> refused 2 3 0"));
+    assert!(!has("judge_table 31e9 -> refused 2 1 0"));
+}
+
+#[test]
+fn cases_whose_tree_is_judged() {
+    let judged = |line: &str| is_tree_judged(&check_line(line).unwrap().0);
+    assert!(judged("judge_tree 101f - -> refused 2 4 0"));
+    assert!(judged(&format!("bring_back {BESIDE_FILLER} - 0 -> refused 2 4 0")));
+    assert!(!judged("judge_tree 10 300031a0323f -> refused 2 1 1"));
+    assert!(!judged("carry 101f 10 2000212f 300031e9323f 0 -> refused 2 2 1"));
+    assert!(!judged("carry 101f 101f 20002f 300031e9323f 0 -> refused 2 3 2"));
+    assert!(!judged("judge_embedding 101f 101f 2000212f -> ok 1 0 -"));
 }

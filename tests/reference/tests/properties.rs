@@ -1,12 +1,14 @@
 //! What holds of every random world and case.
 
+use lafindry_reference::clauses::characters::{has_accent, holds_accent, is_tree_judged};
 use lafindry_reference::clauses::has_optional;
 use lafindry_reference::clauses::lists::has_list_on_choice;
 use lafindry_reference::embedding::walk;
 use lafindry_reference::generate::damage::{alter, damage_bytes, damage_commands, damage_tree};
+use lafindry_reference::generate::trees::{forbidden_character, random_character};
 use lafindry_reference::generate::{
-    random_case, random_small_case, random_small_listed_case, random_small_optional_case, Rng, Shape,
-    TableSize, World,
+    random_case, random_small_accented_case, random_small_case, random_small_listed_case,
+    random_small_optional_case, Rng, Shape, TableSize, World,
 };
 use lafindry_reference::image::fillers;
 use lafindry_reference::places::{element_at, Places};
@@ -250,7 +252,7 @@ fn every_changed_byte_is_told_apart() {
             continue;
         };
         for at in 0..image.len() {
-            for byte in (0..8).chain(0x2E..0x43) {
+            for byte in (0..8).chain(0x2E..0x43).chain([0x7E, 0x7F, 0x9F, 0xA0, 0xFF]) {
                 let mut given = image.clone();
                 given[at] = byte;
                 assert_brought_back(&world, &given);
@@ -535,6 +537,39 @@ fn lists_on_paths_hold_one_item() {
     assert!(lists > 1000 && (300..500).contains(&optional), "{lists} {optional}");
 }
 
+/// Characters drawn as allowed are all those that a text may hold, and about a
+/// third of them are accents; those drawn as forbidden are all the others.
+#[test]
+fn characters_are_drawn_from_all() {
+    let mut rng = Rng::new(17);
+    let (mut allowed, mut forbidden, mut accents) = (BTreeSet::new(), BTreeSet::new(), 0);
+    for _ in 0..6000 {
+        let character = random_character(&mut rng);
+        accents += (character >= 0xA0) as usize;
+        allowed.insert(character);
+        forbidden.insert(forbidden_character(&mut rng));
+    }
+    let text = |character: &u8| judge_tree(&[0x10, 0x1F], &[0x30, 0, 0x31, *character, 0x32, 0x3F]).is_ok();
+    let (texts, others): (BTreeSet<u8>, BTreeSet<u8>) = (0..=0xFF).partition(text);
+    assert_eq!((allowed, forbidden), (texts, others));
+    assert!((1800..2200).contains(&accents), "{accents}");
+}
+
+/// Worlds drawn for accents have them, and of all sizes.
+#[test]
+fn accented_worlds_hold_accents() {
+    let mut rng = Rng::new(18);
+    let (mut small, mut large) = (0, 0);
+    for _ in 0..1000 {
+        let world = World::accented(&mut rng);
+        let tree = world.tree.to_bytes();
+        assert!(holds_accent(&tree));
+        small += (tree.len() < 100) as usize;
+        large += (tree.len() > 10_000) as usize;
+    }
+    assert!(small > 100 && large > 10, "{small} {large}");
+}
+
 /// Small cases keep their promise.
 #[test]
 fn small_cases_are_small() {
@@ -546,5 +581,8 @@ fn small_cases_are_small() {
         assert!(case.documents.iter().map(Vec::len).sum::<usize>() <= 110 && has_optional(&case));
         let case = random_small_listed_case(&mut rng);
         assert!(case.documents.iter().map(Vec::len).sum::<usize>() <= 110 && has_list_on_choice(&case));
+        let case = random_small_accented_case(&mut rng);
+        assert!(case.documents.iter().map(Vec::len).sum::<usize>() <= 110 && has_accent(&case));
+        assert!(is_tree_judged(&case));
     }
 }

@@ -48,6 +48,16 @@ fn list_cases_agree() {
 }
 
 #[test]
+fn accent_vectors_agree() {
+    run_file("n5.txt");
+}
+
+#[test]
+fn accent_cases_agree() {
+    run_file("cases-n5.txt");
+}
+
+#[test]
 fn a_printed_line_is_read_back() {
     let mut rng = Rng::new(11);
     for _ in 0..500 {

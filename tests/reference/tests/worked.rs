@@ -1,6 +1,7 @@
 //! The worked cases of paper 01 and the examples of the lists of readings, a
 //! test each. A star in a name's comment marks a starred case.
 
+use lafindry_reference::vectors::JUNK;
 use lafindry_reference::{bring_back, carry, judge_embedding, judge_table, judge_tree, Carried, Refusal};
 
 const S: &str = "12 15 01 15 02 10 13 15 03 15 04 11 11 1F";
@@ -34,20 +35,20 @@ fn tree(t: &str, tr: &str) -> Result<u64, Refusal> {
 /// checks that all other bytes are kept.
 fn carried(docs: [&str; 4], length: usize) -> Result<(Vec<u8>, u64), Refusal> {
     let [s, t, e, tr] = docs.map(hex);
-    let mut output = vec![0xA5; length];
+    let mut output = vec![JUNK; length];
     let answer = carry(&s, &t, &e, &tr, &mut output);
     let written = answer.map_or(0, |Carried { length, .. }| length as usize);
-    assert!(output[written..].iter().all(|&byte| byte == 0xA5));
+    assert!(output[written..].iter().all(|&byte| byte == JUNK));
     answer.map(|Carried { filler, .. }| (output[..written].to_vec(), filler))
 }
 
 /// Brings back in the same way.
 fn brought_back(docs: [&str; 4], length: usize) -> Result<Vec<u8>, Refusal> {
     let [s, t, e, tr] = docs.map(hex);
-    let mut output = vec![0xA5; length];
+    let mut output = vec![JUNK; length];
     let answer = bring_back(&s, &t, &e, &tr, &mut output);
     let written = answer.map_or(0, |length| length as usize);
-    assert!(output[written..].iter().all(|&byte| byte == 0xA5));
+    assert!(output[written..].iter().all(|&byte| byte == JUNK));
     answer.map(|_| output[..written].to_vec())
 }
 
@@ -611,4 +612,54 @@ fn only_choices_go_through_a_choice_and_a_list() {
     assert_eq!(embedding("14 01 10 1F", target, member), refused(9, 3, 2));
     assert_eq!(embedding("10 1F", target, "20 00 21 22 01 22 01 2F"), refused(9, 3, 2));
     assert_eq!(embedding("17 15 01 10 1F", target, member), Ok(2));
+}
+
+// Paper 02, N5: the characters from A0 to FF.
+
+/// The characters at the ends of the ranges, and their neighbours.
+#[test]
+fn accents_are_characters() {
+    let text = |c: &str| tree("10 1F", &format!("30 00 31 {c} 32 3F"));
+    for allowed in ["09", "0A", "20", "7E", "A0", "E9", "FF"] {
+        assert_eq!(text(allowed), Ok(1), "{allowed}");
+    }
+    for forbidden in ["00", "08", "0B", "1F", "7F", "80", "9F"] {
+        assert_eq!(text(forbidden), refused(4, 4, 2), "{forbidden}");
+    }
+}
+
+/// Where no character may stand: 11 for an accent, 4 for a forbidden one.
+#[test]
+fn accents_in_other_elements() {
+    let documents = [
+        ("11 1F", "30 00 31 E9 32 3F"),
+        ("12 15 01 10 1F", "30 00 31 E9 30 01 32 32 3F"),
+        (NEEDED, "30 00 31 E9 30 02 32 32 3F"),
+        (OPTIONAL, "30 00 31 E9 32 3F"),
+        ("14 01 10 1F", "30 00 31 E9 32 3F"),
+    ];
+    for (table, document) in documents {
+        assert_eq!(tree(table, document), refused(11, 4, 2), "{table}");
+        assert_eq!(tree(table, &document.replace("E9", "9F")), refused(4, 4, 2), "{table}");
+    }
+}
+
+/// 4 precedes a fault of 11 before it; 2 precedes it behind it.
+#[test]
+fn forbidden_characters_and_other_faults() {
+    assert_eq!(tree("11 1F", "30 00 31 E9 31 9F 32 3F"), refused(4, 4, 4));
+    assert_eq!(tree("11 1F", "30 00 31 9F 32"), refused(2, 4, 5));
+}
+
+/// In the filler of an image an accent is 15, a forbidden character 4.
+#[test]
+fn accents_are_carried() {
+    let documents = |tree| ["10 1F", "12 15 01 15 01 10 1F", "20 00 21 22 02 2F", tree];
+    let image = "30 00 30 01 32 30 01 31 A0 31 FF 32 32 3F";
+    assert_image(documents("30 00 31 A0 31 FF 32 3F"), image, 1);
+    assert_eq!(carried(documents("30 00 31 A0 31 FF 32 3F"), 13), refused(14, 5, 0));
+    assert_eq!(brought_back(documents(image), 7), refused(14, 5, 0));
+    let filled = image.replacen("30 01", "30 01 31 E9", 1);
+    assert_eq!(brought_back(documents(&filled), 60), refused(15, 4, 0));
+    assert_eq!(brought_back(documents(&filled.replace("E9", "80")), 60), refused(4, 4, 4));
 }

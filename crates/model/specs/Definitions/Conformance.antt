@@ -1,24 +1,21 @@
 -- 01 "Three kinds of document", Tree: when a tree document conforms to a table, as a predicate to be read against 01's
 -- list of kinds, and as a test that computes. That the two agree is a theorem.
 use mathlib.Core.Path.{_≡_}
-use mathlib.Core.Bool.{Bool, true, false, _&&_, _||_}
+use mathlib.Core.Bool.{Bool, true, false, _&&_}
 use mathlib.Core.List.{List, [], _∷_, _++_, List·Memᴰ}
 use Prim.Native.Nat.{ℕ}
-use lib.Dec.{T, eqb, leb}
+use lib.Dec.{T, eqb}
 use Rattle.model.specs.Definitions.Basics.{memberOf}
 use Rattle.model.specs.Definitions.Commands.{Need, needed, optional}
 use Rattle.model.specs.Definitions.Table.{Kind, text, empty, sequence, choice, list, Table, kindOf, isText}
 use Rattle.model.specs.Definitions.Content.{Content, end, char, elem, document}
-
--- characters are 09, 0A and 20 to 7E
-unfoldable pub allowed : ℕ → Bool
-allowed c = eqb c 0x09 || eqb c 0x0A || leb 0x20 c && leb c 0x7E
+use Rattle.model.specs.Definitions.Characters.{allowed}
 
 -- ---- the predicate
 
 -- `Holds S κ k`: under table S, k is what an element of kind κ holds
 pub data Holds (S : Table) : Kind → Content → Type 0 where
-  -- text: zero or more characters
+  -- text: zero or more characters that are allowed
   no-character : Holds S text end
   one-character : {c : ℕ} {r : Content} → T (allowed c) → Holds S text r → Holds S text (char c r)
   -- empty

@@ -7,7 +7,8 @@ use lib.Dec.{ltb}
 use Rattle.model.specs.Definitions.Basics.{Verdict, Next, goes, stops, goesIf, run}
 use Rattle.model.specs.Definitions.Commands.{TreeCommand, opens, character, closes, treeEnd, alienT, treeCommands, treeWidth}
 use Rattle.model.specs.Definitions.Table.{Kind, sequence, Table, kindOf, isText}
-use Rattle.model.specs.Definitions.Conformance.{allowed, admits, after, complete, Begins}
+use Rattle.model.specs.Definitions.Characters.{allowed}
+use Rattle.model.specs.Definitions.Conformance.{admits, after, complete, Begins}
 
 -- ---- 2, form: one root element and then 3F; a character may stand in any element here
 

@@ -9,7 +9,8 @@ use Rattle.model.specs.Definitions.Basics.{memberOf}
 use Rattle.model.specs.Definitions.Commands.{needed, optional}
 use Rattle.model.specs.Definitions.Table.{Kind, text, empty, sequence, choice, list, Table, kindOf, isText}
 use Rattle.model.specs.Definitions.Content.{Content, end, char, elem}
-use Rattle.model.specs.Definitions.Conformance.{allowed, Holds, no-character, one-character, nothing, no-member, one-member, chosen, left-out, no-item, one-item, admits, after, complete, conforms}
+use Rattle.model.specs.Definitions.Characters.{allowed}
+use Rattle.model.specs.Definitions.Conformance.{Holds, no-character, one-character, nothing, no-member, one-member, chosen, left-out, no-item, one-item, admits, after, complete, conforms}
 use Rattle.model.specs.Theorems.Tools.{true-false, and-left, and-right, and-both, member-sound}
 
 -- a test that is true, as a type

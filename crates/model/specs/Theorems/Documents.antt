@@ -12,7 +12,8 @@ use Rattle.model.specs.Definitions.Basics.{passes, goes, goesIf}
 use Rattle.model.specs.Definitions.Commands.{TreeCommand, opens, character, closes, treeEnd, alienT, treeCommands, treeWidth}
 use Rattle.model.specs.Definitions.Content.{Content, end, char, elem, bytes, document, withTreeCommand, contents, topOf, insideOf, contentOf}
 use Rattle.model.specs.Definitions.Table.{Kind, empty, sequence, list, Table, kindOf, membersOf, isText}
-use Rattle.model.specs.Definitions.Conformance.{allowed, Holds, no-character, one-character, nothing, no-member, one-member, chosen, left-out, no-item, one-item, admits, after, complete, conforms, Conforming}
+use Rattle.model.specs.Definitions.Characters.{allowed}
+use Rattle.model.specs.Definitions.Conformance.{Holds, no-character, one-character, nothing, no-member, one-member, chosen, left-out, no-item, one-item, admits, after, complete, conforms, Conforming}
 use Rattle.model.specs.Definitions.TreeChecks.{TreeState, noRoot, inside, rootClosed, treeEnded, closed, treeStep, treeComplete, treeForm, operandStep, treeOperands, expectStep, treeExpected}
 use Rattle.model.specs.Theorems.Facts.{WellFormed}
 use Rattle.model.specs.Theorems.Tools.{true-false, and-both}

@@ -12,7 +12,8 @@ use Rattle.model.specs.Definitions.Basics.{passes, fails, goes, stops, g
 use Rattle.model.specs.Definitions.Commands.{TreeCommand, opens, character, closes, treeEnd, alienT, treeCommands, treeWidth}
 use Rattle.model.specs.Definitions.Content.{Content, end}
 use Rattle.model.specs.Definitions.Table.{Kind, text, empty, sequence, choice, list, Table, kindOf, membersOf, isText}
-use Rattle.model.specs.Definitions.Conformance.{allowed, Holds, no-character, one-character, nothing, no-member, one-member, chosen, left-out, no-item, one-item, admits, after, complete, Conforming, Begins, Instance}
+use Rattle.model.specs.Definitions.Characters.{allowed}
+use Rattle.model.specs.Definitions.Conformance.{Holds, no-character, one-character, nothing, no-member, one-member, chosen, left-out, no-item, one-item, admits, after, complete, Conforming, Begins, Instance}
 use Rattle.model.specs.Definitions.TreeChecks.{TreeState, noRoot, inside, rootClosed, treeEnded, closed, treeStep, treeForm, operandStep, treeOperands, expectStep, treeExpected, FirstUnexpected}
 use Rattle.model.specs.Theorems.Facts.{WellFormed, SoundTable}
 use Rattle.model.specs.Theorems.Runs.{goes-stops, followed, followed-if, reach, reach-append, reach-front, widthOf, width-append, Refused, run-fails}

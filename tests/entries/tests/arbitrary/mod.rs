@@ -14,7 +14,7 @@ fn arbitrary_bytes(rng: &mut Rng, length: usize) -> Vec<u8> {
     let alphabet: Vec<u8> = match rng.below(4) {
         0 => (0..=0xFF).collect(),
         1 => rng.pick(&COMMANDS).to_vec(),
-        2 => [COMMANDS.concat(), vec![0, 1, 2, 3, 0x41]].concat(),
+        2 => [COMMANDS.concat(), vec![0, 1, 2, 3, 0x41, 0xE9]].concat(),
         _ => (0..0x40).collect(),
     };
     (0..length).map(|_| rng.pick(&alphabet)).collect()

@@ -118,11 +118,12 @@ pub fn no_image_clause(case: &Case) -> Option<Clause> {
 /// if there is one.
 fn changed_choice(repair: &mut Repair, place: &[usize]) -> Option<Clause> {
     let (held, members) = repair.at(place);
-    if !held.is_empty() && repair.brought_back(place, Vec::new()).is_some() {
+    if !held.is_empty() && repair.brought_back(place, |choice| choice.children.clear()).is_some() {
         return Some(Clause::FullForNothing);
     }
     let fillers: Vec<Element> = members.iter().filter_map(|&member| repair.filler(member)).collect();
     let mut fillers = fillers.into_iter();
-    let is_image = fillers.any(|filler| repair.brought_back(place, vec![filler]).is_some());
+    let mut brought_back = |filler| repair.brought_back(place, |choice| choice.children = vec![filler]);
+    let is_image = fillers.any(|filler| brought_back(filler).is_some());
     is_image.then_some(if held.is_empty() { Clause::EmptyForMember } else { Clause::FullForOther })
 }

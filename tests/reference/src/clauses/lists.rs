@@ -278,7 +278,8 @@ fn changed_list(mapping: &Mapping, repair: &mut Repair, place: &[usize]) -> Opti
         2 => (ListClause::SecondItem, items),
         _ => return None,
     };
-    let mut sources = single.into_iter().filter_map(|item| repair.brought_back(place, vec![item]));
+    let brought_back = |item| repair.brought_back(place, |list| list.children = vec![item]);
+    let mut sources = single.into_iter().filter_map(brought_back);
     let is_on_path = |source: Vec<u8>| {
         let lists = Places::of(mapping, &tree::build(&source)).lists;
         lists.iter().any(|list| list == place)

@@ -42,13 +42,20 @@ impl Repair<'_> {
         (element.children.clone(), named.to_vec())
     }
 
+    /// The characters of the element at a place.
+    pub fn characters(&mut self, place: &[usize]) -> &[u8] {
+        &element_at(&mut self.root, place).characters
+    }
+
     /// The source document that is brought back where the element at a place
-    /// holds these children instead.
-    pub fn brought_back(&mut self, place: &[usize], children: Vec<Element>) -> Option<Vec<u8>> {
-        let held = std::mem::replace(&mut element_at(&mut self.root, place).children, children);
+    /// is changed.
+    pub fn brought_back(&mut self, place: &[usize], change: impl FnOnce(&mut Element)) -> Option<Vec<u8>> {
+        let element = element_at(&mut self.root, place);
+        let unchanged = element.clone();
+        change(element);
         let mut case = self.case.clone();
         case.documents[3] = self.root.to_bytes();
-        element_at(&mut self.root, place).children = held;
+        *element_at(&mut self.root, place) = unchanged;
         match case.run_into(&mut vec![0; MOST_BYTES]) {
             Answer::Ok { output, .. } => Some(output),
             Answer::Refused(_) => None,

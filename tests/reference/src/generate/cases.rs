@@ -6,13 +6,15 @@ use super::damage::{
 use super::detours::change_path;
 use super::embeddings::{random_embedded, Embedded};
 use super::tables::{random_table, TableSize};
-use super::trees::{pad, random_tree, recursive_types, Shape};
+use super::trees::{pad, random_accent, random_tree, recursive_types, Shape};
 use super::Rng;
+use crate::clauses::characters::{has_accent, is_tree_judged};
 use crate::clauses::has_optional;
 use crate::clauses::lists::has_list_on_choice;
 use crate::image::Mapping;
+use crate::places::{element_at, places_of};
 use crate::table::ContentModel;
-use crate::tree::{self, commands, Command, Element};
+use crate::tree::{self, Element};
 use crate::vectors::{Answer, Case, Entry};
 use crate::{MOST_BYTES, MOST_LEVELS};
 
@@ -66,6 +68,35 @@ impl World {
         })
     }
 
+    /// A world with an accent in its source tree: of mixed size, with an
+    /// optional choice in one of its tables, or small.
+    pub fn accented(rng: &mut Rng) -> World {
+        loop {
+            let mut world = match rng.weighted(&[30, 45, 25]) {
+                0 => World::mixed(rng),
+                1 => World::optional(rng),
+                _ => {
+                    let (size, shape) = (TableSize::random(rng), Shape::small(rng));
+                    World::random(rng, size, shape)
+                }
+            };
+            if world.add_accent(rng) {
+                return world;
+            }
+        }
+    }
+
+    /// Puts an accent into some text of the source tree; false if there is none.
+    fn add_accent(&mut self, rng: &mut Rng) -> bool {
+        let texts = self.texts();
+        let Some(place) = texts.get(rng.below(texts.len())) else {
+            return false;
+        };
+        let characters = &mut element_at(&mut self.tree, place).characters;
+        characters.insert(rng.between(0, characters.len()), random_accent(rng));
+        true
+    }
+
     /// The first of some random worlds whose embedding passes a test.
     fn first(rng: &mut Rng, size: TableSize, test: impl Fn(&Embedded) -> bool) -> World {
         let shape = if rng.chance(90) { Shape::small(rng) } else { Shape::deep(rng) };
@@ -114,7 +145,7 @@ impl World {
     /// source tree has a text element.
     pub fn at_most_bytes(rng: &mut Rng, size: TableSize) -> World {
         let shape = Shape::small(rng);
-        let mut world = World::found(rng, size, shape, World::has_text);
+        let mut world = World::found(rng, size, shape, |world| !world.texts().is_empty());
         let source = world.tree.to_bytes().len();
         let image = world.measure().1.min(u64::MAX / 2) as usize;
         let length = if rng.chance(60) { image } else { source };
@@ -124,15 +155,9 @@ impl World {
         world
     }
 
-    /// Whether the source tree has a text element.
-    fn has_text(&self) -> bool {
-        let source = &self.embedded.source;
-        let document = self.tree.to_bytes();
-        let texts = commands(&document).filter(|(_, command)| match command {
-            Command::Open(t) => source.types[*t as usize] == ContentModel::Text,
-            _ => false,
-        });
-        texts.count() > 0
+    /// The places of the text elements of the source tree.
+    fn texts(&self) -> Vec<Vec<usize>> {
+        places_of(&self.embedded.source, &self.tree, |model| *model == ContentModel::Text)
     }
 
     /// The embedding prepared for carrying.
@@ -220,6 +245,13 @@ pub fn random_small_optional_case(rng: &mut Rng) -> Case {
 /// A case with a list on the path of a choice of either kind, of the same size.
 pub fn random_small_listed_case(rng: &mut Rng) -> Case {
     random_small_case_of(rng, [0, 24, 0, 32, 44], |rng| (rng.pick(&[0, 0, 80]), 40), has_list_on_choice)
+}
+
+/// A case with an accent in its tree and with all that is judged before it
+/// accepted, of the same size.
+pub fn random_small_accented_case(rng: &mut Rng) -> Case {
+    let kinds = |rng: &mut Rng| (rng.pick(&[0, 0, 80]), rng.pick(&[0, 0, 30]));
+    random_small_case_of(rng, [0, 0, 30, 30, 40], kinds, |case| has_accent(case) && is_tree_judged(case))
 }
 
 /// The first of some small cases that passes a test, with entries drawn by

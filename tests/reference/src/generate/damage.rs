@@ -2,7 +2,7 @@
 //! to tables, embeddings and trees in memory; and altered images.
 
 use super::embeddings::{reroute, Embedded, Steps};
-use super::trees::{random_character, random_element, Shape};
+use super::trees::{forbidden_character, random_character, random_element, Shape};
 use super::Rng;
 use crate::embedding;
 use crate::table::{ContentModel, Table};
@@ -325,43 +325,54 @@ fn member_pairs(embedded: &Embedded) -> Vec<(usize, usize, usize)> {
     pairs
 }
 
-/// A tree with an error of refusals 3, 4 or 11, or another conforming one.
+/// A tree with one or more errors of refusals 2, 3, 4 or 11, or another
+/// conforming one.
 pub fn damage_tree(rng: &mut Rng, table: &Table, root: &Element) -> Vec<u8> {
-    if rng.chance(10) {
-        return too_deep(rng, table, root);
-    }
     let mut root = root.clone();
-    let element = random_descendant(rng, &mut root);
+    let is_deep = rng.chance(10);
+    let errors = if is_deep { rng.pick(&[0, 1]) } else { rng.pick(&[1, 1, 1, 1, 1, 2]) };
+    for _ in 0..errors {
+        let element = random_descendant(rng, &mut root);
+        damage_element(rng, table, element);
+    }
+    let mut bytes = root.to_bytes();
+    if is_deep {
+        make_too_deep(rng, table, &mut bytes);
+    }
+    if rng.chance(8) {
+        damage_bytes(rng, &mut bytes);
+    }
+    bytes
+}
+
+/// Gives an element other children, a character or another type.
+fn damage_element(rng: &mut Rng, table: &Table, element: &mut Element) {
     let count = element.children.len();
     let at = rng.below(count);
-    match rng.below(7) {
+    match rng.weighted(&[1, 1, 1, 2, 2, 1, 1]) {
         0 if count > 0 => {
             element.children.remove(at);
         }
         1 if count > 0 => element.children.insert(at, element.children[at].clone()),
         2 if count > 1 => element.children.swap(at, count - 1),
         3 => element.characters.push(random_character(rng)),
-        4 => {
-            let character = rng.pick(&[0x00, 0x08, 0x0B, 0x0D, 0x1F, 0x7F, 0x80, 0xFF]);
-            element.characters.push(character);
-        }
+        4 => element.characters.push(forbidden_character(rng)),
         5 => {
             let added = rng.below(table.types.len()) as u8;
             element.children.insert(at, Element::new(added));
         }
         _ => element.element_type = rng.below(table.types.len() + 1) as u8,
     }
-    root.to_bytes()
 }
 
-/// A tree document of 128 or more levels, some of which needn't conform.
-fn too_deep(rng: &mut Rng, table: &Table, root: &Element) -> Vec<u8> {
-    let mut bytes = root.to_bytes();
+/// Gives a tree document 128 or more levels, some of which needn't conform: as
+/// the first or the last of what the root holds.
+fn make_too_deep(rng: &mut Rng, table: &Table, bytes: &mut Vec<u8>) {
     let levels = MOST_LEVELS - 1 + rng.below(3);
     let t = rng.below(table.types.len() + 1) as u8;
     let chain = [[0x30, t].repeat(levels), vec![0x32; levels]].concat();
-    bytes.splice(2..2, chain);
-    bytes
+    let at = rng.pick(&[2, bytes.len() - 2]);
+    bytes.splice(at..at, chain);
 }
 
 /// Any element of a tree.

@@ -167,12 +167,29 @@ impl Grower<'_> {
     }
 }
 
-/// An allowed character, with those at the ends of the ranges more often.
+/// An allowed character, in about a third of the cases an accent, with those at
+/// the ends of the ranges and two that are commands too more often.
 pub fn random_character(rng: &mut Rng) -> u8 {
-    if rng.chance(20) {
-        return rng.pick(&[0x09, 0x0A, 0x20, 0x7E, 0x30, 0x32]);
+    match rng.weighted(&[20, 52, 28]) {
+        0 => rng.pick(&[0x09, 0x0A, 0x20, 0x7E, 0x30, 0x32, 0xA0, 0xFF]),
+        1 => rng.between(0x20, 0x7E) as u8,
+        _ => random_accent(rng),
     }
-    rng.between(0x20, 0x7E) as u8
+}
+
+/// Any of the characters from A0 to FF.
+pub fn random_accent(rng: &mut Rng) -> u8 {
+    rng.between(0xA0, 0xFF) as u8
+}
+
+/// A character that isn't allowed, with those at the ends of the ranges more
+/// often.
+pub fn forbidden_character(rng: &mut Rng) -> u8 {
+    if rng.chance(60) {
+        return rng.pick(&[0x00, 0x08, 0x0B, 0x0D, 0x1F, 0x7F, 0x80, 0x9F]);
+    }
+    let (first, last) = rng.pick(&[(0x00, 0x08), (0x0B, 0x1F), (0x7F, 0x9F)]);
+    rng.between(first, last) as u8
 }
 
 /// Adds characters to the first text element found; false if there is none.
