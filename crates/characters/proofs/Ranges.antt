@@ -1,4 +1,4 @@
--- The ranges into which the code's `match` divides the bytes, and their classes.
+-- The ranges into which the code divides the bytes, and their classes.
 use mathlib.Core.Path.{_≡_, refl}
 use mathlib.Core.Bool.{Bool, true, false}
 use mathlib.Core.Logic.{inl, inr}
@@ -9,8 +9,8 @@ use borrow.Author.Tests.{eqb-true, eqb-false}
 use Rattle.model.specs.Definitions.Characters.{plain, decimal-reference, not-allowed, Range, Ascii, Markup, Classed, as-itself, as-reference, forbidden}
 
 -- tab and line feed
-pub from-tab : {c : ℕ} → (Markup c → ⊥) → 0x09 ≤ c → c < 0x0B → Classed c plain
-from-tab {c} other low high = as-itself (go (eqb c 0x09) refl) other
+pub from-tab : {c : ℕ} → 0x09 ≤ c → c < 0x0B → Classed c plain
+from-tab {c} low high = as-itself (go (eqb c 0x09) refl) other
   where
     go : (b : Bool) → eqb c 0x09 ≡ b → Ascii c
     go true e = inl (eqb-true c 0x09 e)
@@ -19,9 +19,14 @@ from-tab {c} other low high = as-itself (go (eqb c 0x09) refl) other
         after : (c ≡ 0x09 → ⊥) → c ≡ 0x0A
         after unequal = omega arith
 
+    other : Markup c → ⊥
+    other (inl e) = omega arith
+    other (inr (inl e)) = omega arith
+    other (inr (inr e)) = omega arith
+
 -- 20 to 7E, the entities aside
-pub printed : {c : ℕ} → (Markup c → ⊥) → 0x20 ≤ c → c < 0x7F → Classed c plain
-printed other low high = as-itself (inr (inr (low, omega arith))) other
+pub printed : {c : ℕ} → 0x20 ≤ c → c < 0x7F → (Markup c → ⊥) → Classed c plain
+printed low high other = as-itself (inr (inr (low, omega arith))) other
 
 -- A0 to FF
 pub accents : {c : ℕ} → 0xA0 ≤ c → c < 0x100 → Classed c decimal-reference

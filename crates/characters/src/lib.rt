@@ -11,13 +11,16 @@ pub enum CharacterClass {
     NotAllowed,
 }
 
-// The class of a byte.
+// The class of a byte. The entities are told apart last, so that whether a byte is allowed costs no branch for them.
 pub fn class_of(c: u8) -> CharacterClass
     ensures { λ r. ⌜ class r ≡ model.characterClass c ⌝ }
 {
     match c {
-        0x26 | 0x3C | 0x3E => CharacterClass::Entity,
-        0x09 | 0x0A | 0x20..=0x7E => CharacterClass::Plain,
+        0x09 | 0x0A => CharacterClass::Plain,
+        0x20..=0x7E => match c {
+            0x26 | 0x3C | 0x3E => CharacterClass::Entity,
+            _ => CharacterClass::Plain,
+        },
         0xA0..=0xFF => CharacterClass::DecimalReference,
         _ => CharacterClass::NotAllowed,
     }
