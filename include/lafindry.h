@@ -1,12 +1,15 @@
 /*
  * Lafindry: judging tables, embeddings and tree documents of paper 01, carrying a source document into its image, and
- * bringing an image back. Tables may have optional choices, for what a document may leave out, and the paths of choices
- * may lead through lists (paper 02, N3 and N6).
+ * bringing an image back. Tables may have optional choices, for what a document may leave out, the paths of choices
+ * may lead through lists, and texts may have accents (paper 02, N3, N6 and N5).
  *
  * Every function takes any bytes and always answers. A document is lent as a pointer and a length; nothing is read
  * beyond it, nothing is kept, and nothing is allocated. A pointer may be anything where its length is 0. The most
  * stack that was measured, on documents of 128 levels and 60,000 bytes, is 549 KB (lafindry_bring_back), 491 KB
  * (lafindry_carry) and 15 KB (the others), so a thread that calls should have a megabyte.
+ *
+ * Characters of a tree are bytes of ISO 8859-1: 09, 0A, 20 to 7E and A0 to FF (hexadecimal); others are refused with
+ * LAFINDRY_BAD_OPERAND. Bytes of UTF-8 are not recognised as such: turn names into ISO 8859-1 first.
  *
  * The caller's duty, which no function checks: each buffer has the length stated with it, and the output shares no byte
  * with a document.
