@@ -45,13 +45,21 @@ pub data Classed (c : ℕ) : CharacterClass → Type 0 where
 unfoldable pub between : ℕ → ℕ → ℕ → Bool
 between low high c = leb low c && leb c high
 
+-- whether it is one of 01's characters
+unfoldable pub isAscii : ℕ → Bool
+isAscii c = eqb c 0x09 || eqb c 0x0A || between 0x20 0x7E c
+
+-- whether it is & < or >
+unfoldable pub isMarkup : ℕ → Bool
+isMarkup c = eqb c 0x26 || eqb c 0x3C || eqb c 0x3E
+
+-- whether it is from A0 to FF
+unfoldable pub isAccented : ℕ → Bool
+isAccented c = between 0xA0 0xFF c
+
 -- the class of a value
 unfoldable pub characterClass : ℕ → CharacterClass
-characterClass c =
-    pick
-    (eqb c 0x26 || eqb c 0x3C || eqb c 0x3E)
-    entity
-    (pick (eqb c 0x09 || eqb c 0x0A || between 0x20 0x7E c) plain (pick (between 0xA0 0xFF c) decimal-reference not-allowed))
+characterClass c = pick (isMarkup c) entity (pick (isAscii c) plain (pick (isAccented c) decimal-reference not-allowed))
 
 -- whether a class is `not-allowed`
 unfoldable pub isNotAllowed : CharacterClass → Bool
