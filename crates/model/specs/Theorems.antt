@@ -1,6 +1,7 @@
 -- What is proved of the definitions.
 pub mod Facts
 pub mod Tools
+pub mod Arms
 pub mod Runs
 pub mod Bytes
 pub mod Characters

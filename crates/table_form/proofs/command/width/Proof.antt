@@ -2,8 +2,8 @@
 use mathlib.Core.List.{[], _∷_}
 use borrow.Author.Needs.{needs}
 use Rattle.model.specs.Definitions.Commands.{tableWidth}
+use Rattle.model.specs.Theorems.Arms.{in-arm}
 use Rattle.table_form.specs.Read.{command}
-use Rattle.table_form.proofs.Arms.{in-arm}
 use Rattle.table_form.proofs.command.TableCommand.{enum}
 use Rattle.table_form.proofs.command.width.Statement.{statement}
 use Rattle.table_form.proofs.command.width.Tie as tie

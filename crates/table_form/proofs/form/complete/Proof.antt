@@ -3,8 +3,8 @@ use mathlib.Core.Bool.{false}
 use mathlib.Core.List.{[], _∷_}
 use borrow.Author.Needs.{needs}
 use Rattle.model.specs.Definitions.TableChecks.{tableComplete}
+use Rattle.model.specs.Theorems.Arms.{in-arm}
 use Rattle.table_form.specs.Forms.{state}
-use Rattle.table_form.proofs.Arms.{in-arm}
 use Rattle.table_form.proofs.form.State.{enum}
 use Rattle.table_form.proofs.form.complete.Statement.{statement}
 use Rattle.table_form.proofs.form.complete.Tie as tie

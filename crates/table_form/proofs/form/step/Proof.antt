@@ -3,9 +3,9 @@ use mathlib.Core.Path.{_∙_}
 use mathlib.Core.List.{[], _∷_}
 use borrow.Author.Needs.{needs}
 use Rattle.model.specs.Definitions.TableChecks.{begins, whole, tableMove, tableRole, tableStep}
+use Rattle.model.specs.Theorems.Arms.{in-arm}
 use Rattle.table_form.specs.Forms.{state}
 use Rattle.table_form.specs.Read.{command}
-use Rattle.table_form.proofs.Arms.{in-arm}
 use Rattle.table_form.proofs.FormMachine.{unknown-stops}
 use Rattle.table_form.proofs.command.TableCommand.{enum}
 use Rattle.table_form.proofs.form.step.Statement.{statement}

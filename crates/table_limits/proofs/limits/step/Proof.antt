@@ -3,9 +3,9 @@ use mathlib.Core.Path.{_∙_}
 use mathlib.Core.List.{[], _∷_}
 use borrow.Author.Needs.{needs}
 use Rattle.model.specs.Definitions.TableChecks.{limitStep, oneTypeMore}
+use Rattle.model.specs.Theorems.Arms.{in-arm}
 use Rattle.table_limits.specs.Limits.{counts, oneMemberMore}
 use Rattle.table_form.specs.Read.{command}
-use Rattle.table_form.proofs.Arms.{in-arm}
 use Rattle.table_form.proofs.command.TableCommand.{enum}
 use Rattle.table_limits.proofs.limits.step.Statement.{statement}
 use Rattle.table_limits.proofs.limits.step.Tie as tie

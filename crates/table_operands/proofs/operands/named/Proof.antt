@@ -4,8 +4,8 @@ use mathlib.Core.List.{[], _∷_}
 use borrow.Author.Needs.{needs}
 use Rattle.model.specs.Definitions.Basics.{goes, goesIf}
 use Rattle.model.specs.Definitions.TableChecks.{namesType}
+use Rattle.model.specs.Theorems.Arms.{in-arm}
 use Rattle.table_form.specs.Read.{command}
-use Rattle.table_form.proofs.Arms.{in-arm}
 use Rattle.table_form.proofs.command.TableCommand.{enum}
 use Rattle.table_operands.proofs.operands.named.Statement.{statement}
 use Rattle.table_operands.proofs.operands.named.Tie as tie

@@ -3,8 +3,8 @@ use mathlib.Core.List.{[], _∷_}
 use borrow.Author.Needs.{needs}
 use Rattle.model.specs.Definitions.Basics.{goes}
 use Rattle.model.specs.Definitions.TableChecks.{elsewhere, among, repeatStep}
+use Rattle.model.specs.Theorems.Arms.{in-arm}
 use Rattle.table_form.specs.Read.{command}
-use Rattle.table_form.proofs.Arms.{in-arm}
 use Rattle.table_form.proofs.command.TableCommand.{enum}
 use Rattle.table_operands.proofs.repeats.role_of.Statement.{statement}
 use Rattle.table_operands.proofs.repeats.role_of.Tie as tie
