@@ -18,3 +18,4 @@ pub mod Inverse
 pub mod SingleItems
 pub mod Refusals
 pub mod Entries
+pub mod Decimal

@@ -28,11 +28,13 @@ use Rattle.model.specs.Definitions.EmbeddingChecks.{leavesOnly, sequence
 use Rattle.model.specs.Definitions.Inverse.{follow, readTo, readBack}
 use Rattle.model.specs.Definitions.SingleItems.{singleItems}
 use Rattle.model.specs.Definitions.Refusals.{wrong-steps, embedding, Refusal, faulty, output-too-short, no-image, maxLength}
+use Rattle.model.specs.Definitions.Decimal.{DecimalForm, DecimalText, Line}
 use Rattle.model.specs.Definitions.Entries.{accepted, refused, judgeEmbedding, settingOf, carry, bringWithin, bringBack}
 use Rattle.model.specs.Computing.{definitions}
 use Rattle.model.specs.Examples.{choiceOfEmpty, listedTable, listedEmbedding, listedImage, memberTable, memberListsTable, memberListsEmbedding, memberContent, memberImage}
 use Rattle.model.specs.Theorems.Tools.{and-right}
 use Rattle.model.specs.Theorems.Characters.{class-exactly, allowed-values}
+use Rattle.model.specs.Theorems.Decimal.{has-form, form-unique, text-unique, text-of-one, line-unique}
 use Rattle.model.specs.Theorems.Conforms.{holds-conforms, conforms-holds}
 use Rattle.model.specs.Theorems.Documents.{document-injective, checks-conforming, conforming-checks}
 use Rattle.model.specs.Theorems.Expected.{UnexpectedCommand, unexpected-command}
@@ -334,3 +336,27 @@ class-is-predicate = class-exactly
 -- A document may hold 01's characters and A0 to FF, and no others.
 pub allowed-exactly : (c : ℕ) → (allowed c ≡ true) ↔ (Ascii c ⊎ Accented c)
 allowed-exactly = allowed-values
+
+-- ---- 15. numbers in decimal (02, N2)
+
+-- Each number has a decimal form, and no other.
+pub record OneDecimalForm (n : ℕ) : Type 0 where
+  pub digits : List ℕ
+  pub is-form : DecimalForm n digits
+  pub no-other : (others : List ℕ) → DecimalForm n others → others ≡ digits
+
+pub one-decimal-form : (n : ℕ) → OneDecimalForm n
+one-decimal-form n =
+    let it = has-form n in
+    record { digits = it .0; is-form = it .1; no-other = λ others f. form-unique n others (it .0) f (it .1) }
+
+-- The same of its bytes; and they are those of no other number.
+pub decimal-text-unique : (n : ℕ) (bs cs : List ℕ) → DecimalText n bs → DecimalText n cs → bs ≡ cs
+decimal-text-unique = text-unique
+
+pub decimal-text-of-one : (m n : ℕ) (bs : List ℕ) → DecimalText m bs → DecimalText n bs → m ≡ n
+decimal-text-of-one = text-of-one
+
+-- A word and numbers determine the line.
+pub one-line : (word ns bs cs : List ℕ) → Line word ns bs → Line word ns cs → bs ≡ cs
+one-line = line-unique

@@ -5,6 +5,7 @@ pub mod Arms
 pub mod Runs
 pub mod Bytes
 pub mod Characters
+pub mod Decimal
 pub mod Conforms
 pub mod Documents
 pub mod Expected
