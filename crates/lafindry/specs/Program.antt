@@ -20,11 +20,12 @@ use Rattle.model.specs.Definitions.Conformance.{Conforming}
 use Rattle.model.specs.Definitions.Image.{Setting}
 use Rattle.model.specs.Definitions.TreeChecks.{maxLevels}
 use Rattle.model.specs.Definitions.Refusals.{Judged, sound, has, Document, source-table, tree, Fault, too-long, bad-form, over-limit, bad-operand, repeated-member, no-finite-instance, root-moved, wrong-end, wrong-steps, path-clash, unexpected, faultNumber, Refusal, faulty, no-image, image-too-deep, image-too-long, output-too-short, numbersOf, documentNumber, maxLength}
+use Rattle.model.specs.Definitions.Decimal.{DecimalText, DecimalWritten, with-room, without-room}
 use Rattle.model.specs.Definitions.Entries as model
 use Rattle.model.specs.Definitions.Entries.{Result, refused, accepted, Outcome, answerOf, unlessFaulty, judgeEmbedding, judgeTree, edgeCount, untouched, written, carryWithin, carryContent, carry, bringWithin, bringContent, bringBack, judgedTable, judgedTree}
 use Rattle.model.specs.Theorems.Terms.{AcceptedEmbedding, AcceptedTree, imageOf, fillerOf, levelsIn}
 use Rattle.model.specs.Theorems.EntryLaws.{Judges, judges-accept, past-judge}
-use Rattle.model.specs.Statements.{DemandThree, demand-three, refused-15-exactly}
+use Rattle.model.specs.Statements.{DemandThree, demand-three, refused-15-exactly, decimal-text-unique}
 
 -- ---- calls, by what the contracts say of them
 
@@ -308,3 +309,30 @@ answers-15-exactly s t e tr a b c embedding-call zero tree-call zero2 before aft
     let exactly = refused-15-exactly s t e (accepted-call s t e a embedding-call zero) tr (accepted-tree-call t tr b tree-call zero2) before in
     let same : c .refusal ≡ answerOf (bringBack s t e tr before .result) .refusal = refusal-is c _ (call .same-answer) in
     (λ h. exactly .0 (fifteen _ (sym same ∙ h)), λ none-has. same ∙ is-fifteen _ (exactly .1 none-has))
+
+-- ---- numbers in decimal (02, N2)
+
+abbrev pub DecimalCall : ℕ → List ℕ → List ℕ → ℕ → Type 0
+DecimalCall n before after r = DecimalWritten n before after r
+
+-- A number has one decimal form (statement 15). A call of lafindry_decimal leaves its bytes at the start of the output, later bytes
+-- as they were, and answers how many they are, exactly when the output is long enough. If not, it answers 0 and no byte changes.
+pub record DecimalDemand (n : ℕ) (text : List ℕ) : Type 0 where
+  pub writes : (before after : List ℕ) (r : ℕ) → DecimalCall n before after r → length text ≤ length before → (after ≡ text ++ drop (length text) before) × (r ≡ length text)
+  pub needs-room : (before after : List ℕ) (r : ℕ) → DecimalCall n before after r → length before < length text → (after ≡ before) × (r ≡ 0)
+
+module _ (n : ℕ) (text : List ℕ) (form : DecimalText n text) where
+  -- what a call has written, or had no room for, is that text
+  is-text : {other : List ℕ} → DecimalText n other → other ≡ text
+  is-text {other} f = decimal-text-unique n other text f form
+
+  writes-decimal : (before after : List ℕ) (r : ℕ) → DecimalCall n before after r → length text ≤ length before → (after ≡ text ++ drop (length text) before) × (r ≡ length text)
+  writes-decimal before after r (with-room f fits same long) room = rw (sym (is-text f)) (same, long)
+  writes-decimal before after r (without-room f less same zero) room = absurd (omega (arith, less, ap length (is-text f)))
+
+  keeps-decimal : (before after : List ℕ) (r : ℕ) → DecimalCall n before after r → length before < length text → (after ≡ before) × (r ≡ 0)
+  keeps-decimal before after r (with-room f fits same long) few = absurd (omega (arith, fits, ap length (is-text f)))
+  keeps-decimal before after r (without-room f less same zero) few = (same, zero)
+
+pub decimal-written-exactly : (n : ℕ) (text : List ℕ) → DecimalText n text → DecimalDemand n text
+decimal-written-exactly n text form = record { writes = writes-decimal n text form; needs-room = keeps-decimal n text form }

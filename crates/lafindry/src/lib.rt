@@ -1,5 +1,6 @@
 // The entries that a C program calls, each on any bytes. include/lafindry.h declares them.
 ghost use mathlib.Core.Path.{_≡_};
+ghost use Rattle.model.specs.Definitions.Decimal.{DecimalWritten};
 ghost use Rattle.model.specs.Definitions.Entries as model;
 ghost use Rattle.answer_numbers.specs.Numbers.{numbers};
 use answer_numbers::Answer;
@@ -56,4 +57,12 @@ pub extern "C" fn lafindry_bring_back<'a>(
     ensures output { λ r. ⌜ now (output .exit) ≡ model.bringBack (now (source .entry)) (now (target .entry)) (now (embedding .entry)) (now (tree .entry)) (now (output .entry)) .output ⌝ }
 {
     bring_entry::bring_back(source, target, embedding, tree, output)
+}
+
+// Writes a number in decimal at the start of the output: number of digits, or 0 where there is no room for them.
+#[no_mangle]
+pub extern "C" fn lafindry_decimal(number: u64, output: &mut [u8]) -> usize
+    ensures { λ r. ⌜ DecimalWritten number (now (output .entry)) (now (output .exit)) r ⌝ }
+{
+    decimal::write_decimal(number, output)
 }

@@ -1,0 +1,2 @@
+-- What the functions that find digits promise.
+pub mod Digits
