@@ -25,7 +25,5 @@ fn main() {
         console::refused(a);
         return;
     }
-    io::write_all(1, b"brought");
-    console::number(a.value);
-    console::end_line();
+    console::print_line(b"brought", &[a.value]);
 }

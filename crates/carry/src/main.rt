@@ -25,8 +25,5 @@ fn main() {
         console::refused(a);
         return;
     }
-    io::write_all(1, b"carried");
-    console::number(a.value);
-    console::number(a.filler);
-    console::end_line();
+    console::print_line(b"carried", &[a.value, a.filler]);
 }

@@ -1,69 +1,63 @@
-// Printing an answer.
-ghost use Prim.Native.Nat.{_≤_};
+// Printing an answer: a line, by one write.
+ghost use mathlib.Core.Path.{_≡_};
+ghost use mathlib.Core.List.{[], _∷_};
+ghost use Prim.Native.Nat.{_+_, _*_, _≤_, min};
 ghost use lib.ListN.{length};
+ghost use Rattle.case_text.specs.Hexadecimal.{DocumentLine};
+use crate::hexadecimal::put_hex;
 use answer_numbers::Answer;
-use console::end_line;
-use console::number;
+use codes::MAX_BYTES;
+use console::print_line;
 use console::refused;
+use lines::BLANK;
+use lines::LINE_END;
+use lines::put_numbers;
+use writing::copy;
 
-// The words of an answer that accepts.
-fn accepted(a: Answer) {
-    io::write_all(1, b"ok");
-    number(a.value);
-    number(a.filler);
-}
+// The room for a line with a document: `ok`, two numbers, a blank, two digits for each of 60,000 bytes, and the end.
+const LINE_BYTES: usize = 120046;
 
 // A line for an answer.
 pub fn print(a: Answer) {
     if a.refusal == 0 {
-        accepted(a);
-        end_line();
+        print_line(b"ok", &[a.value, a.filler]);
     } else {
         refused(a);
     }
 }
 
-// A hexadecimal digit.
-fn digit(n: u8) -> u8 {
-    if n < 10 {
-        return n + 48;
-    }
-    if n < 16 {
-        return n + 87;
-    }
-    63
-}
-
-// The bytes in hexadecimal.
-fn print_bytes(bytes: &[u8]) {
-    let mut i = 0;
-    while i < bytes.len() {
-        let b = bytes[i];
-        let pair = [digit(b / 16), digit(b % 16)];
-        io::write_all(1, &pair);
-        i += 1;
-    }
-}
-
-// A number of bytes as it was answered, or the length of the slice where that is less.
-fn within(n: u64, bytes: &[u8]) -> usize
-    ensures { λ r. ⌜ r ≤ length (now (bytes .entry)) ⌝ }
+// The lesser of two numbers.
+fn least(n: u64, most: usize) -> usize
+    ensures { λ r. ⌜ r ≡ min n most ⌝ }
 {
-    if n <= bytes.len() as u64 {
+    if n <= most as u64 {
         return n as usize;
     }
-    bytes.len()
+    most
 }
 
-// A line for an answer of an entry that writes, with the document written.
+// Makes the line of an answer that accepts, with the document that was written, at the start of lent bytes, and lends it.
+fn written_line<'a>(line: &'a mut [u8], a: Answer, document: &[u8]) -> &'a mut [u8]
+    requires { ⌜ 2 * length (now document) + 46 ≤ length (now line) ⌝ }
+    ensures { λ r. ⌜ DocumentLine (a .value ∷ a .filler ∷ []) (now (document .entry)) (now r) ⌝ }
+{
+    let word = copy(b"ok", 0, 2, line, 0);
+    let behind = put_numbers(line, word, &[a.value, a.filler]);
+    line[behind] = BLANK;
+    let end = put_hex(line, behind + 1, document);
+    line[end] = LINE_END;
+    let n = end + 1;
+    &mut line[..n]
+}
+
+// A line for an answer of an entry that writes.
 pub fn print_written(a: Answer, out: &[u8]) {
-    if a.refusal == 0 {
-        accepted(a);
-        io::write_all(1, b" ");
-        let n = within(a.value, out);
-        print_bytes(&out[..n]);
-        end_line();
-    } else {
+    if a.refusal != 0 {
         refused(a);
+        return;
     }
+    let n = least(a.value, least(out.len() as u64, MAX_BYTES));
+    let mut room = [0u8; LINE_BYTES];
+    let text = written_line(&mut room, a, &out[..n]);
+    io::write_all(1, text);
 }

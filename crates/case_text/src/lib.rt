@@ -7,3 +7,4 @@ pub use documents::read_document;
 
 mod answers_of;
 mod documents;
+mod hexadecimal;

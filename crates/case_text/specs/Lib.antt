@@ -1,0 +1,2 @@
+-- What the functions that print cases promise.
+pub mod Hexadecimal

@@ -1,0 +1,2 @@
+-- What the proofs of both functions use.
+pub mod Numbers

@@ -1,0 +1,2 @@
+-- What the functions that make lines promise.
+pub mod Lines
