@@ -1,12 +1,13 @@
 /*
  * Lafindry: judging tables, embeddings and tree documents of paper 01, carrying a source document into its image, and
  * bringing an image back. Tables may have optional choices, for what a document may leave out, the paths of choices
- * may lead through lists, and texts may have accents (paper 02, N3, N6 and N5).
+ * may lead through lists, and texts may have accents (paper 02, N3, N6 and N5). One more function writes a number, such
+ * as those of an answer, in decimal (N2).
  *
- * Every function takes any bytes and always answers. A document is lent as a pointer and a length; nothing is read
- * beyond it, nothing is kept, and nothing is allocated. A pointer may be anything where its length is 0. The most
- * stack that was measured, on documents of 128 levels and 60,000 bytes, is 549 KB (lafindry_bring_back), 491 KB
- * (lafindry_carry) and 15 KB (the others), so a thread that calls should have a megabyte.
+ * Every function takes any bytes or any number and always answers. A document is lent as a pointer and a length;
+ * nothing is read beyond it, nothing is kept, and nothing is allocated. A pointer may be anything where its length is
+ * 0. The most stack that was measured, on documents of 128 levels and 60,000 bytes, is 549 KB (lafindry_bring_back),
+ * 491 KB (lafindry_carry) and 15 KB (the others), so a thread that calls should have a megabyte.
  *
  * Characters of a tree are bytes of ISO 8859-1: 09, 0A, 20 to 7E and A0 to FF (hexadecimal); others are refused with
  * LAFINDRY_BAD_OPERAND. Bytes of UTF-8 are not recognised as such: turn names into ISO 8859-1 first.
@@ -67,6 +68,9 @@ enum {
 /* The greatest length of a document, so that an output of this length is never too short. */
 enum { LAFINDRY_MOST_BYTES = 60000 };
 
+/* The greatest number of digits of a number, so that an output of this length is never too short for one. */
+enum { LAFINDRY_MOST_DIGITS = 20 };
+
 /* Judges a table; `value` is its number of types. */
 struct lafindry_answer lafindry_judge_table(const uint8_t *table, size_t table_length);
 
@@ -100,6 +104,13 @@ struct lafindry_answer lafindry_bring_back(const uint8_t *source_table, size_t s
                                            const uint8_t *embedding, size_t embedding_length,
                                            const uint8_t *tree, size_t tree_length,
                                            uint8_t *output, size_t output_length);
+
+/*
+ * Writes a number in decimal, as ASCII digits without leading zeros, 0 being one digit, at the start of the output, and
+ * answers how many digits these are. Every later byte of the output is left as it was; no null character is added.
+ * Where the output is shorter than the digits, answers 0, and every byte of it is left as it was.
+ */
+size_t lafindry_decimal(uint64_t number, uint8_t *output, size_t output_length);
 
 #ifdef __cplusplus
 }

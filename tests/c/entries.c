@@ -1,7 +1,7 @@
 /*
- * Calls the five entries through include/lafindry.h, with buffers lent as lend.h says. Prints one line for each group
- * and last 'N passed, M failed'. With the argument 'tallies' it prints the tallies of all changes instead, as they
- * stand in `places`.
+ * Calls the five entries and lafindry_decimal through include/lafindry.h, with buffers lent as lend.h says. Prints one
+ * line for each group and last 'N passed, M failed'. With the argument 'tallies' it prints the tallies of all changes
+ * instead, as they stand in `places`.
  */
 #include "lend.h"
 
@@ -10,6 +10,7 @@
 #include <string.h>
 
 _Static_assert(sizeof(struct lafindry_answer) == 5 * sizeof(uint64_t), "an answer is five numbers");
+_Static_assert(LAFINDRY_MOST_DIGITS == sizeof "18446744073709551615" - 1, "no number has more digits than UINT64_MAX");
 
 /* The patch of paper 01, and its image. */
 static const struct document SOURCE =
@@ -28,29 +29,34 @@ static const struct document IMAGE = BYTES(0x30, 0x00, 0x30, 0x01, 0x30, 0x03, 0
 
 static struct call judge_table(struct document table)
 {
-    return (struct call){JUDGE_TABLE, {table}, 0};
+    return (struct call){.entry = JUDGE_TABLE, .documents = {table}};
 }
 
 static struct call judge_embedding(struct document source, struct document target, struct document embedding)
 {
-    return (struct call){JUDGE_EMBEDDING, {source, target, embedding}, 0};
+    return (struct call){.entry = JUDGE_EMBEDDING, .documents = {source, target, embedding}};
 }
 
 static struct call judge_tree(struct document table, struct document tree)
 {
-    return (struct call){JUDGE_TREE, {table, tree}, 0};
+    return (struct call){.entry = JUDGE_TREE, .documents = {table, tree}};
 }
 
 static struct call carry(struct document source, struct document target, struct document embedding,
                          struct document tree, size_t room)
 {
-    return (struct call){CARRY, {source, target, embedding, tree}, room};
+    return (struct call){.entry = CARRY, .documents = {source, target, embedding, tree}, .room = room};
 }
 
 static struct call bring_back(struct document source, struct document target, struct document embedding,
                               struct document tree, size_t room)
 {
-    return (struct call){BRING_BACK, {source, target, embedding, tree}, room};
+    return (struct call){.entry = BRING_BACK, .documents = {source, target, embedding, tree}, .room = room};
+}
+
+static struct call decimal(uint64_t number, size_t room)
+{
+    return (struct call){.entry = DECIMAL, .number = number, .room = room};
 }
 
 /* The patch carried, and a tree brought back by it. */
@@ -427,6 +433,8 @@ static void null_pointers(void)
          lafindry_bring_back(NULL, 0, NULL, 0, NULL, 0, NULL, 0, NULL, 0)},
         {refused(LAFINDRY_OUTPUT_TOO_SHORT, LAFINDRY_OUTPUT, 0),
          lafindry_bring_back(s, sn, t, tn, e, en, IMAGE.bytes, IMAGE.length, NULL, 0)},
+        {accepted(0), accepted(lafindry_decimal(0, NULL, 0))},
+        {accepted(0), accepted(lafindry_decimal(UINT64_MAX, NULL, 0))},
     };
 
     begin_group("null pointers with length 0");
@@ -769,6 +777,55 @@ static void limits_of_length(void)
     end_group();
 }
 
+/* Numbers in decimal: those at which one digit more begins, the greatest length of a document, and the greatest numbers
+   of all. */
+static const struct {
+    uint64_t number;
+    const char *digits;
+} numbers[] = {
+    {0, "0"},
+    {1, "1"},
+    {9, "9"},
+    {10, "10"},
+    {99, "99"},
+    {100, "100"},
+    {101, "101"},
+    {999, "999"},
+    {1000, "1000"},
+    {9999, "9999"},
+    {10000, "10000"},
+    {59999, "59999"},
+    {LAFINDRY_MOST_BYTES, "60000"},
+    {65536, "65536"},
+    {99999, "99999"},
+    {100000, "100000"},
+    {1234567890, "1234567890"},
+    {UINT32_MAX, "4294967295"},
+    {UINT32_MAX + UINT64_C(1), "4294967296"},
+    {INT64_MAX, "9223372036854775807"},
+    {UINT64_C(9999999999999999999), "9999999999999999999"},
+    {UINT64_C(10000000000000000000), "10000000000000000000"},
+    {UINT64_MAX - 1, "18446744073709551614"},
+    {UINT64_MAX, "18446744073709551615"},
+};
+
+/* Each of them into all lengths of output up to some more than is ever needed, and longer ones. */
+static void decimal_numbers(void)
+{
+    const struct expected too_short = {accepted(0), NO_BYTES};
+    begin_group("numbers in decimal");
+    for (size_t i = 0; i < sizeof numbers / sizeof numbers[0]; i++) {
+        const char *text = numbers[i].digits;
+        const struct document digits = {(const uint8_t *)text, strlen(text)};
+        char name[LAFINDRY_MOST_DIGITS + sizeof " into"];
+        snprintf(name, sizeof name, "%s into", text);
+        for (size_t room = 0; room <= ROOM; room += room < LAFINDRY_MOST_DIGITS + 4 ? 1 : 20025)
+            expect_at(name, room, room < digits.length ? too_short : written_document(digits, 0),
+                      decimal(numbers[i].number, room));
+    }
+    end_group();
+}
+
 int main(int count, char **arguments)
 {
     map_buffers();
@@ -787,6 +844,7 @@ int main(int count, char **arguments)
     limits_of_documents();
     limits_of_levels();
     limits_of_length();
+    decimal_numbers();
     printf("%lu passed, %lu failed\n", passed, failed);
     return failed == 0 ? 0 : 1;
 }

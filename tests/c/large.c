@@ -1,7 +1,7 @@
 /*
- * The entries called in a thread whose stack has a megabyte, on the deepest and longest documents and with tables of 64
- * types; and with an output of more than 4 GiB, mapped without reserve. Prints the most stack that each entry took, one
- * line for each case that failed, and last 'N passed, M failed'.
+ * The entries and lafindry_decimal, called in a thread whose stack has a megabyte, on the deepest and longest documents
+ * and with tables of 64 types; and with an output of more than 4 GiB, mapped without reserve. Prints the most stack
+ * that each took, one line for each case that failed, and last 'N passed, M failed'.
  */
 #define _DEFAULT_SOURCE
 #include "lafindry.h"
@@ -84,9 +84,12 @@ static struct document tree(int levels, size_t length)
 
 static struct document source, target, map;
 
-enum entry { JUDGE_TABLE, JUDGE_EMBEDDING, JUDGE_TREE, CARRY, BRING_BACK, ENTRIES };
-static const char *const NAMES[ENTRIES] = {"judge a table", "judge an embedding", "judge a tree", "carry", "bring back"};
+/* The five entries, and lafindry_decimal. */
+enum entry { JUDGE_TABLE, JUDGE_EMBEDDING, JUDGE_TREE, CARRY, BRING_BACK, DECIMAL, ENTRIES };
+static const char *const NAMES[ENTRIES] = {"judge a table", "judge an embedding", "judge a tree",
+                                           "carry",         "bring back",         "write a number"};
 
+/* What lafindry_decimal answers is the `value` of an answer that accepts. */
 struct call {
     enum entry entry;
     const struct document *tree;
@@ -113,11 +116,24 @@ static void *make_call(void *argument)
         c->answer = lafindry_carry(source.bytes, source.length, target.bytes, target.length, map.bytes, map.length,
                                    t->bytes, t->length, c->output, c->room);
         break;
+    case DECIMAL:
+        c->answer = (struct lafindry_answer){.value = lafindry_decimal(UINT64_MAX, c->output, c->room)};
+        break;
     default:
         c->answer = lafindry_bring_back(source.bytes, source.length, target.bytes, target.length, map.bytes, map.length,
                                         t->bytes, t->length, c->output, c->room);
     }
     return NULL;
+}
+
+/* Whether a call wrote what it should: a document, which is its own image, or the greatest number. */
+static int wrote_right(const struct call *c)
+{
+    static const char greatest[] = "18446744073709551615";
+    int is_number = c->entry == DECIMAL;
+    size_t length = is_number ? strlen(greatest) : c->tree->length;
+    const void *written = is_number ? (const void *)greatest : c->tree->bytes;
+    return c->answer.value == length && memcmp(c->output, written, length) == 0;
 }
 
 /* Makes a call in a thread on a stack of its own; how much of the stack was touched. */
@@ -162,9 +178,8 @@ static void small_stacks(void)
             if (taken > most[entry])
                 most[entry] = taken;
             expect(c.answer.refusal == LAFINDRY_ACCEPTED, NAMES[entry]);
-            if (entry == CARRY || entry == BRING_BACK)
-                expect(c.answer.value == trees[i].length && memcmp(output, trees[i].bytes, trees[i].length) == 0,
-                       "the document is its own image");
+            if (entry >= CARRY)
+                expect(wrote_right(&c), "what is written");
         }
     }
     for (int entry = 0; entry < ENTRIES; entry++)
@@ -186,12 +201,12 @@ static void large_outputs(void)
     const size_t count = sizeof probes / sizeof *probes;
     for (size_t i = 0; i < count; i++)
         output[probes[i]] = UNTOUCHED;
-    for (int entry = CARRY; entry <= BRING_BACK; entry++) {
+    for (int entry = CARRY; entry <= DECIMAL; entry++) {
         struct call c = {(enum entry)entry, &document, output, room, {0, 0, 0, 0, 0}};
         memset(output, 0, document.length);
         make_call(&c);
-        expect(c.answer.refusal == LAFINDRY_ACCEPTED && c.answer.value == document.length, "an output of more than 4 GiB");
-        expect(memcmp(output, document.bytes, document.length) == 0, "what is written there");
+        expect(c.answer.refusal == LAFINDRY_ACCEPTED, "an output of more than 4 GiB");
+        expect(wrote_right(&c), "what is written there");
         for (size_t i = 0; i < count; i++)
             expect(output[probes[i]] == UNTOUCHED, "a later byte stays");
     }

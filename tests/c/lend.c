@@ -31,6 +31,8 @@ int documents_of(enum entry entry)
         return 2;
     case JUDGE_EMBEDDING:
         return 3;
+    case DECIMAL:
+        return 0;
     default:
         return 4;
     }
@@ -38,7 +40,7 @@ int documents_of(enum entry entry)
 
 int writes(enum entry entry)
 {
-    return entry == CARRY || entry == BRING_BACK;
+    return entry == CARRY || entry == BRING_BACK || entry == DECIMAL;
 }
 
 int same_answer(struct lafindry_answer a, struct lafindry_answer b)
@@ -135,6 +137,8 @@ static struct lafindry_answer call_entry(const struct call *call, const struct l
     case CARRY:
         return lafindry_carry(p[0], d[0].length, p[1], d[1].length, p[2], d[2].length, p[3], d[3].length,
                               lent->output, call->room);
+    case DECIMAL:
+        return (struct lafindry_answer){.value = lafindry_decimal(call->number, lent->output, call->room)};
     default:
         return lafindry_bring_back(p[0], d[0].length, p[1], d[1].length, p[2], d[2].length, p[3], d[3].length,
                                    lent->output, call->room);
@@ -170,7 +174,7 @@ static const char *take_output_back(const struct call *call, const struct lent *
         length = call->room;
     }
     if (!is_junk(lent->output + length, lent->output + call->room))
-        wrong = accepted ? "bytes after what was written were changed" : "a refusal changed the output";
+        wrong = length > 0 ? "bytes after what was written were changed" : "an output changed where nothing is written";
     if (!junk_beside(OUTPUT, lent->output, call->room, side))
         wrong = "bytes beside the output were changed";
     memcpy(kept, lent->output, length);

@@ -1,14 +1,15 @@
 /*
- * Documents lent to the five entries so that every byte read or written outside them is noticed. A call is made twice:
- * with each buffer ending where an inaccessible page begins, so that going beyond it faults, and with each starting
- * where one ends. The other bytes of the buffers hold junk, which has to stay.
+ * Documents and outputs lent to the five entries, and outputs to lafindry_decimal, so that every byte read or written
+ * outside them is noticed. A call is made twice: with each buffer ending where an inaccessible page begins, so that
+ * going beyond it faults, and with each starting where one ends. The other bytes of the buffers hold junk, which has to
+ * stay.
  */
 #ifndef LEND_H
 #define LEND_H
 
 #include "lafindry.h"
 
-/* A byte that no document written by an entry has. */
+/* A byte that no document written by an entry has, and that is no digit. */
 enum { JUNK = 0x95 };
 
 /* The greatest length of a document or output that can be lent. */
@@ -25,16 +26,20 @@ struct document {
 
 static const struct document NO_BYTES = {NULL, 0};
 
-enum entry { JUDGE_TABLE, JUDGE_EMBEDDING, JUDGE_TREE, CARRY, BRING_BACK };
+/* The five entries, and lafindry_decimal. */
+enum entry { JUDGE_TABLE, JUDGE_EMBEDDING, JUDGE_TREE, CARRY, BRING_BACK, DECIMAL };
 
-/* An entry with its documents in paper 01's order, and the length of the output for those that write. */
+/* An entry with its documents in paper 01's order, and the length of the output for those that write. DECIMAL has no
+   document but a number. */
 struct call {
     enum entry entry;
     struct document documents[4];
     size_t room;
+    uint64_t number;
 };
 
-/* What a call gave: its answer, what it wrote, and what is wrong with the bytes of the buffers, or NULL. */
+/* What a call gave: its answer, what it wrote, and what is wrong with the bytes of the buffers, or NULL. What
+   lafindry_decimal answers is the `value` of an answer that accepts. */
 struct result {
     struct lafindry_answer answer;
     struct document written;

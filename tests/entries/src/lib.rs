@@ -1,12 +1,14 @@
 //! The library's C entries, called as `include/lafindry.h` declares them, and
 //! compared with the cases and answers of the reference.
 //!
-//! [`compare`] runs one case through both; every test is built on it or on
-//! [`check`].
+//! [`compare`] runs one case through both; every test of an entry is built on
+//! it or on [`check`]. [`decimal`] is no entry: it writes a number.
 
+mod decimal;
 mod histogram;
 mod setting;
 
+pub use decimal::{decimal, MOST_DIGITS};
 pub use histogram::Histogram;
 pub use setting::Setting;
 
@@ -89,7 +91,7 @@ pub fn call(entry: Entry, documents: &[Vec<u8>], output: &mut [u8]) -> CAnswer {
 }
 
 /// How many bytes on each side of the lent output are watched.
-const WATCHED: usize = 64;
+pub const WATCHED: usize = 64;
 
 /// Runs a case through its C entry, on an output that holds junk. The error
 /// says that a field which doesn't apply isn't 0, or that a byte changed which

@@ -1,0 +1,247 @@
+//! The programs: `carry` and `bring` print the line of their answer, just as
+//! Rust formats it and by one write, and `cases` does so for each of its cases.
+//! They are looked for in the folder that LAFINDRY_PROGRAM_DIR names, else in
+//! `target/bin`; both are taken from the root of the repository unless absolute.
+//! LAFINDRY_SEED sets another seed.
+
+mod counts;
+mod lines;
+mod seed;
+mod writes;
+
+use counts::Counts;
+use lafindry_entries::{ensure, report, Failure, Setting};
+use lafindry_reference::generate::{Rng, TableSize, World};
+use lafindry_reference::vectors::{is_skipped, parse_line, Answer, Case, Entry};
+use lafindry_reference::{Refusal, MOST_BYTES};
+use lines::{answer_to, at, case_of, place, program, Folder, Run, ENTRIES, FILES};
+use seed::seed;
+use std::collections::{BTreeMap, BTreeSet};
+use std::fs::{self, File};
+use std::path::{Path, PathBuf};
+use std::process::Stdio;
+use writes::writes_of;
+
+/// How many cases of each answer are taken from a file of vectors.
+const MOST_OF_EACH: usize = 4;
+
+/// The cases of carrying and bringing back of a file of vectors with their
+/// answers, at most [`MOST_OF_EACH`] of an entry with the same refusal of the
+/// same document.
+fn some_vectors(path: &Path) -> Result<Vec<(Case, Answer)>, Failure> {
+    let text = fs::read_to_string(path).map_err(at(path))?;
+    let mut taken: BTreeMap<_, usize> = BTreeMap::new();
+    let mut vectors = Vec::new();
+    for line in text.lines().filter(|line| !is_skipped(line)) {
+        let (case, answer) = parse_line(line).map_err(|message| Failure(format!("{line}: {message}")))?;
+        let refusal = match answer {
+            Answer::Ok { .. } => (0, 0),
+            Answer::Refused(refusal) => (refusal.number, refusal.document),
+        };
+        let count = taken.entry((case.entry, refusal)).or_default();
+        if ENTRIES.contains(&case.entry) && *count < MOST_OF_EACH {
+            *count += 1;
+            vectors.push((case, answer));
+        }
+    }
+    Ok(vectors)
+}
+
+/// The files of vectors.
+fn vector_files() -> Result<BTreeSet<PathBuf>, Failure> {
+    let folder = place("tests/data");
+    let files = fs::read_dir(&folder).map_err(at(&folder))?;
+    files.map(|file| file.map(|file| file.path()).map_err(at(&folder))).collect()
+}
+
+/// The documents of each vector go to both programs. The answer of its own
+/// entry is the vector's, unless that output was too short; the programs lend
+/// one that never is.
+#[test]
+fn lines_of_vectors() -> Result<(), Failure> {
+    let mut run = Run::new("vectors")?;
+    for file in vector_files()? {
+        for (vector, answer) in some_vectors(&file)? {
+            let too_short = matches!(answer, Answer::Refused(Refusal { number: 14, .. }));
+            for entry in ENTRIES {
+                let case = case_of(entry, vector.documents.clone());
+                match entry == vector.entry && !too_short {
+                    true => run.ensure_line(&case, &answer)?,
+                    false => run.compare(&case).map(drop)?,
+                }
+            }
+        }
+    }
+    run.report("lines of vectors");
+    report(&run.histogram.to_string());
+    let carried = (0..=13).map(|number| (Entry::Carry, number));
+    let brought = (0..=11).chain([15]).map(|number| (Entry::BringBack, number));
+    let missing = carried.chain(brought).find(|&(entry, number)| run.histogram.of(entry, number) == 0);
+    ensure(missing.is_none(), format!("no line of {missing:?}"))?;
+    ensure(run.histogram.total() >= 800, "too few lines")
+}
+
+/// Lengths and offsets where a number gets one digit more, and about the
+/// greatest length.
+fn edges() -> impl Iterator<Item = usize> {
+    let edges = [0..=12, 97..=103, 997..=1003, 9_997..=10_003, MOST_BYTES - 3..=MOST_BYTES + 2];
+    edges.into_iter().flatten()
+}
+
+/// A text, and target tables where it is the member of a sequence, alone and
+/// beside an empty element, which is filler.
+const TEXT: &[u8] = &[0x10, 0x1F];
+const ALONE: &[u8] = &[0x12, 0x15, 1, 0x10, 0x1F];
+const BESIDE_FILLER: &[u8] = &[0x12, 0x15, 1, 0x15, 2, 0x10, 0x11, 0x1F];
+
+/// The setting of that text and such a table.
+fn text_setting(target: &[u8]) -> Setting {
+    Setting::new(TEXT.to_vec(), target.to_vec(), vec![0x20, 0, 0x21, 0x22, 1, 0x2F])
+}
+
+/// A text of so many characters.
+fn text(characters: usize) -> Vec<u8> {
+    [&[0x30, 0][..], &[0x31, 0x41].repeat(characters), &[0x32, 0x3F]].concat()
+}
+
+/// Trees and images of these lengths, or of one byte less.
+#[test]
+fn lines_with_lengths() -> Result<(), Failure> {
+    let mut run = Run::new("lengths")?;
+    for length in edges() {
+        // What the tree, and the image by each table, have beside characters.
+        for (target, rest) in [(ALONE, 4), (ALONE, 7), (BESIDE_FILLER, 10)] {
+            if let Some(left) = length.checked_sub(rest) {
+                run.round_trip(&text_setting(target), &text(left / 2))?;
+            }
+        }
+    }
+    run.report("lines with lengths");
+    run.ensure_printed(&["carried 9 0", "carried 10 1", "carried 99 0", "carried 100 1", "carried 999 0"])?;
+    run.ensure_printed(&["carried 1000 1", "carried 9999 0", "carried 10000 1", "carried 10003 0"])?;
+    run.ensure_printed(&["carried 59999 0", "carried 60000 1", "refused 13 5 0", "brought 4", "brought 8"])?;
+    run.ensure_printed(&["brought 10", "brought 98", "brought 100", "brought 998", "brought 1000"])?;
+    run.ensure_printed(&["brought 9998", "brought 10000", "brought 59994", "brought 59996"])
+}
+
+/// Trees whose bytes run out after so many, or within the command there.
+#[test]
+fn lines_with_marks() -> Result<(), Failure> {
+    let mut run = Run::new("marks")?;
+    let tree = text(MOST_BYTES);
+    for (length, entry) in edges().flat_map(|length| ENTRIES.map(|entry| (length, entry))) {
+        run.compare(&text_setting(ALONE).case(entry, &tree[..length], MOST_BYTES))?;
+    }
+    run.report("lines with marks");
+    run.ensure_printed(&["refused 2 4 0", "refused 2 4 8", "refused 2 4 10", "refused 2 4 98"])?;
+    run.ensure_printed(&["refused 2 4 100", "refused 2 4 998", "refused 2 4 1000", "refused 2 4 9998"])?;
+    run.ensure_printed(&["refused 2 4 10000", "refused 2 4 59998", "refused 2 4 60000", "refused 1 4 0"])
+}
+
+/// An empty element carried into a sequence of filler: so many elements, each a
+/// sequence of so many others, and so on.
+fn filler_setting(widths: &[usize]) -> Setting {
+    let mut target = Vec::new();
+    for (&width, next) in widths.iter().zip(1..) {
+        target.push(0x12);
+        target.extend([0x15, next].repeat(width));
+    }
+    target.extend([0x11, 0x1F]);
+    Setting::new(vec![0x11, 0x1F], target, vec![0x20, 0, 0x2F])
+}
+
+#[test]
+fn lines_with_filler() -> Result<(), Failure> {
+    let mut run = Run::new("filler")?;
+    let widths: [&[usize]; 11] = [
+        &[1],
+        &[9],
+        &[10],
+        &[9, 10],
+        &[10, 9],
+        &[9, 10, 10],
+        &[10, 9, 10],
+        &[9, 10, 10, 10],
+        &[10, 9, 10, 10],
+        &[16, 16, 16, 3],
+        &[16, 16, 16, 4],
+    ];
+    for widths in widths {
+        run.round_trip(&filler_setting(widths), &[0x30, 0, 0x32, 0x3F])?;
+    }
+    run.report("lines with filler");
+    run.ensure_printed(&[
+        "carried 7 1",
+        "carried 31 9",
+        "carried 34 10",
+        "carried 301 99",
+        "carried 304 100",
+    ])?;
+    run.ensure_printed(&[
+        "carried 3001 999",
+        "carried 3004 1000",
+        "carried 30001 9999",
+        "carried 30004 10000",
+    ])?;
+    run.ensure_printed(&["carried 49972 16656", "refused 13 5 0", "brought 4"])
+}
+
+/// Random trees and images of about the greatest length.
+#[test]
+fn lines_of_long_documents() -> Result<(), Failure> {
+    let mut rng = Rng::new(seed().wrapping_add(1200));
+    let (mut run, mut counts) = (Run::new("long")?, Counts::default());
+    for _ in 0..100 {
+        let size = TableSize::random(&mut rng);
+        let world = World::at_most_bytes(&mut rng, size);
+        let answer = run.round_trip(&Setting::of(&world), &world.tree.to_bytes())?;
+        let refused =
+            |expected| matches!(answer, Answer::Refused(Refusal { number, .. }) if number == expected);
+        counts.add(
+            "carried to more than 59,000 bytes",
+            matches!(answer, Answer::Ok { value, .. } if value > 59_000),
+        );
+        counts.add("refused as too long", refused(1));
+        counts.add("refused for too long an image", refused(13));
+    }
+    run.report("lines of long documents");
+    counts.finish("long documents", 5)
+}
+
+/// All ways to leave out some of the patch's files. One that can't be opened
+/// counts as empty.
+#[test]
+fn lines_without_some_files() -> Result<(), Failure> {
+    let mut run = Run::new("missing")?;
+    let read = |name| fs::read(place("examples/patch").join(name)).map_err(at(Path::new(name)));
+    let patch: Result<Vec<Vec<u8>>, Failure> = FILES.into_iter().map(read).collect();
+    let carried = case_of(Entry::Carry, patch?);
+    let Answer::Ok { output: image, .. } = answer_to(&carried)? else {
+        return Err(Failure("the patch is not carried".to_string()));
+    };
+    let brought = case_of(Entry::BringBack, [&carried.documents[..3], &[image]].concat());
+    for (case, bits) in [carried, brought].iter().flat_map(|case| (0..16).map(move |bits| (case, bits))) {
+        let mut case = case.clone();
+        let left_out: Vec<usize> = (0..FILES.len()).filter(|at| bits >> at & 1 == 1).collect();
+        left_out.iter().for_each(|&at| case.documents[at].clear());
+        run.ensure_line_without(&left_out, &case, &answer_to(&case)?)?;
+    }
+    run.report("lines without some files");
+    run.ensure_printed(&["carried 21 1", "brought 15"])?;
+    run.ensure_printed(&["refused 2 1 0", "refused 2 2 0", "refused 2 3 0", "refused 2 4 0"])
+}
+
+/// The program `cases` prints what is stored, a line by each write.
+#[test]
+fn lines_of_worked_cases() -> Result<(), Failure> {
+    let [input, stored] = ["crates/cases/stdin", "crates/cases/stdout"].map(place);
+    let folder = Folder::new("cases")?;
+    let input = File::open(&input).map_err(at(&input))?;
+    let writes = writes_of(&program("cases")?, folder.path(), Stdio::from(input))?;
+    let expected = fs::read(&stored).map_err(at(&stored))?;
+    ensure(writes.concat() == expected, "cases printed something else than crates/cases/stdout")?;
+    let lines: Vec<&[u8]> = expected.split_inclusive(|&byte| byte == b'\n').collect();
+    ensure(writes == lines, format!("cases wrote {} lines by {} writes", lines.len(), writes.len()))?;
+    report(&format!("lines of worked cases: {} agree", lines.len()));
+    ensure(lines.len() >= 165, "too few lines")
+}
