@@ -4,6 +4,8 @@
 use answer_numbers::Answer;
 use codes::MAX_BYTES;
 use console::read_file;
+use lines::LINE_BYTES;
+use lines::bring_line;
 
 // Brings back by the files' contents, into 60,000 bytes.
 fn bring_files() -> Answer {
@@ -20,10 +22,7 @@ fn bring_files() -> Answer {
 }
 
 fn main() {
-    let a = bring_files();
-    if a.refusal != 0 {
-        console::refused(a);
-        return;
-    }
-    console::print_line(b"brought", &[a.value]);
+    let mut room = [0u8; LINE_BYTES];
+    let text = bring_line(&mut room, bring_files());
+    io::write_all(1, text);
 }

@@ -4,6 +4,8 @@
 use answer_numbers::Answer;
 use codes::MAX_BYTES;
 use console::read_file;
+use lines::LINE_BYTES;
+use lines::carry_line;
 
 // Carries by the files' contents, into 60,000 bytes.
 fn carry_files() -> Answer {
@@ -20,10 +22,7 @@ fn carry_files() -> Answer {
 }
 
 fn main() {
-    let a = carry_files();
-    if a.refusal != 0 {
-        console::refused(a);
-        return;
-    }
-    console::print_line(b"carried", &[a.value, a.filler]);
+    let mut room = [0u8; LINE_BYTES];
+    let text = carry_line(&mut room, carry_files());
+    io::write_all(1, text);
 }

@@ -4,7 +4,7 @@ use mathlib.Core.List.{List, [], _∷_, _++_}
 use Prim.Native.Nat.{ℕ, _+_, _-_, _/_, _%_}
 use lib.Dec.{ltb}
 use Rattle.model.specs.Definitions.Basics.{pick}
-use Rattle.model.specs.Definitions.Decimal.{NumbersText}
+use Rattle.model.specs.Definitions.Lines.{NumbersText}
 
 -- 0 to 9 and a to f
 unfoldable pub hexDigit : ℕ → ℕ

@@ -7,23 +7,21 @@ ghost use Rattle.case_text.specs.Hexadecimal.{DocumentLine};
 use crate::hexadecimal::put_hex;
 use answer_numbers::Answer;
 use codes::MAX_BYTES;
-use console::print_line;
-use console::refused;
 use lines::BLANK;
+use lines::LINE_BYTES;
 use lines::LINE_END;
+use lines::answer_line;
 use lines::put_numbers;
 use writing::copy;
 
 // The room for a line with a document: `ok`, two numbers, a blank, two digits for each of 60,000 bytes, and the end.
-const LINE_BYTES: usize = 120046;
+const DOCUMENT_LINE_BYTES: usize = 120046;
 
 // A line for an answer.
 pub fn print(a: Answer) {
-    if a.refusal == 0 {
-        print_line(b"ok", &[a.value, a.filler]);
-    } else {
-        refused(a);
-    }
+    let mut room = [0u8; LINE_BYTES];
+    let text = answer_line(&mut room, a, b"ok", &[a.value, a.filler]);
+    io::write_all(1, text);
 }
 
 // The lesser of two numbers.
@@ -53,11 +51,11 @@ fn written_line<'a>(line: &'a mut [u8], a: Answer, document: &[u8]) -> &'a mut [
 // A line for an answer of an entry that writes.
 pub fn print_written(a: Answer, out: &[u8]) {
     if a.refusal != 0 {
-        refused(a);
+        print(a);
         return;
     }
     let n = least(a.value, least(out.len() as u64, MAX_BYTES));
-    let mut room = [0u8; LINE_BYTES];
+    let mut room = [0u8; DOCUMENT_LINE_BYTES];
     let text = written_line(&mut room, a, &out[..n]);
     io::write_all(1, text);
 }

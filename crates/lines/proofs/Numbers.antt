@@ -6,7 +6,8 @@ use native.Mathlib.Numerals.{add-one}
 use native.Mathlib.Omega.{arith}
 use lib.ListN.{length, take, drop, getD, set, length-set, length-append, length-take}
 use lib.Seq.{take-suc, take-all, take-length}
-use Rattle.model.specs.Definitions.Decimal.{DecimalText, NumbersText, no-number, number-then, Line}
+use Rattle.model.specs.Definitions.Decimal.{DecimalText}
+use Rattle.model.specs.Definitions.Lines.{NumbersText, no-number, number-then, Line}
 use Rattle.writing.specs.Writing.{Writes}
 use Rattle.writing.specs.Laws.{writes-then, writes-length, stored, written-from-start}
 use Rattle.decimal.specs.Digits.{WritesDecimal}

@@ -1,8 +1,10 @@
 // The lines that programs print, made before they are printed, so that each is printed whole.
 ghost use Prim.Native.Nat.{_+_, _*_, _≤_};
 ghost use lib.ListN.{length};
-ghost use Rattle.model.specs.Definitions.Decimal.{Line};
-ghost use Rattle.lines.specs.Lines.{numberBytes, WritesNumbers};
+ghost use Rattle.model.specs.Definitions.Lines.{Line, AnswerLine, CarryLine, BringLine};
+ghost use Rattle.answer_numbers.specs.Numbers.{numbers};
+ghost use Rattle.lines.specs.Lines.{numberBytes, mostWord, mostNumbers, lineBytes, WritesNumbers};
+use answer_numbers::Answer;
 use decimal::put_decimal;
 use writing::copy;
 
@@ -11,29 +13,60 @@ pub const BLANK: u8 = 0x20;
 
 pub const LINE_END: u8 = 0x0A;
 
-// Writes a blank and the decimal form for each of the numbers.
-pub fn put_numbers(out: &mut [u8], at: usize, numbers: &[u64]) -> usize
-    requires { ⌜ at + numberBytes * length (now numbers) ≤ length (now out) ⌝ }
-    ensures { λ r. ⌜ WritesNumbers (now (numbers .entry)) (now (out .entry)) (now (out .exit)) at r ⌝ }
+// The room that the line of an answer needs at most.
+pub const LINE_BYTES: usize = 80;
+
+// Writes a blank and the decimal form for each of some numbers.
+pub fn put_numbers(out: &mut [u8], at: usize, values: &[u64]) -> usize
+    requires { ⌜ at + numberBytes * length (now values) ≤ length (now out) ⌝ }
+    ensures { λ r. ⌜ WritesNumbers (now (values .entry)) (now (out .entry)) (now (out .exit)) at r ⌝ }
 {
     let mut next = at;
     let mut i = 0;
-    while i < numbers.len() {
+    while i < values.len() {
         out[next] = BLANK;
-        next = put_decimal(out, next + 1, numbers[i]);
+        next = put_decimal(out, next + 1, values[i]);
         i += 1;
     }
     next
 }
 
 // Makes a line, of a word and numbers, at the start of lent bytes, and lends it.
-pub fn line<'a>(out: &'a mut [u8], word: &[u8], numbers: &[u64]) -> &'a mut [u8]
-    requires { ⌜ length (now word) + numberBytes * length (now numbers) + 1 ≤ length (now out) ⌝ }
-    ensures { λ r. ⌜ Line (now (word .entry)) (now (numbers .entry)) (now r) ⌝ }
+fn line<'a>(out: &'a mut [u8], word: &[u8], values: &[u64]) -> &'a mut [u8]
+    requires { ⌜ length (now word) + numberBytes * length (now values) + 1 ≤ length (now out) ⌝ }
+    ensures { λ r. ⌜ Line (now (word .entry)) (now (values .entry)) (now r) ⌝ }
 {
     let behind = copy(word, 0, word.len(), out, 0);
-    let next = put_numbers(out, behind, numbers);
+    let next = put_numbers(out, behind, values);
     out[next] = LINE_END;
     let n = next + 1;
     &mut out[..n]
+}
+
+// Makes the line of an answer: where it accepts, of a word and numbers; else of its refusal.
+pub fn answer_line<'a>(out: &'a mut [u8], a: Answer, word: &[u8], values: &[u64]) -> &'a mut [u8]
+    requires { ⌜ (length (now word) ≤ mostWord) × (length (now values) ≤ mostNumbers) × (lineBytes ≤ length (now out)) ⌝ }
+    ensures { λ r. ⌜ AnswerLine (now (word .entry)) (now (values .entry)) (numbers a) (now r) ⌝ }
+{
+    if a.refusal == 0 {
+        line(out, word, values)
+    } else {
+        line(out, b"refused", &[a.refusal, a.document, a.mark])
+    }
+}
+
+// Makes the line of the program `carry` for an answer.
+pub fn carry_line(out: &mut [u8], a: Answer) -> &mut [u8]
+    requires { ⌜ lineBytes ≤ length (now out) ⌝ }
+    ensures { λ r. ⌜ CarryLine (numbers a) (now r) ⌝ }
+{
+    answer_line(out, a, b"carried", &[a.value, a.filler])
+}
+
+// Makes the line of the program `bring` for an answer.
+pub fn bring_line(out: &mut [u8], a: Answer) -> &mut [u8]
+    requires { ⌜ lineBytes ≤ length (now out) ⌝ }
+    ensures { λ r. ⌜ BringLine (numbers a) (now r) ⌝ }
+{
+    answer_line(out, a, b"brought", &[a.value])
 }

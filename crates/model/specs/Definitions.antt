@@ -19,3 +19,4 @@ pub mod SingleItems
 pub mod Refusals
 pub mod Entries
 pub mod Decimal
+pub mod Lines

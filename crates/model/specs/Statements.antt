@@ -28,13 +28,14 @@ use Rattle.model.specs.Definitions.EmbeddingChecks.{leavesOnly, sequence
 use Rattle.model.specs.Definitions.Inverse.{follow, readTo, readBack}
 use Rattle.model.specs.Definitions.SingleItems.{singleItems}
 use Rattle.model.specs.Definitions.Refusals.{wrong-steps, embedding, Refusal, faulty, output-too-short, no-image, maxLength}
-use Rattle.model.specs.Definitions.Decimal.{DecimalForm, DecimalText, Line}
-use Rattle.model.specs.Definitions.Entries.{accepted, refused, judgeEmbedding, settingOf, carry, bringWithin, bringBack}
+use Rattle.model.specs.Definitions.Decimal.{DecimalForm, DecimalText}
+use Rattle.model.specs.Definitions.Lines.{AnswerLine}
+use Rattle.model.specs.Definitions.Entries.{Answer, accepted, refused, judgeEmbedding, settingOf, carry, bringWithin, bringBack}
 use Rattle.model.specs.Computing.{definitions}
 use Rattle.model.specs.Examples.{choiceOfEmpty, listedTable, listedEmbedding, listedImage, memberTable, memberListsTable, memberListsEmbedding, memberContent, memberImage}
 use Rattle.model.specs.Theorems.Tools.{and-right}
 use Rattle.model.specs.Theorems.Characters.{class-exactly, allowed-values}
-use Rattle.model.specs.Theorems.Decimal.{has-form, form-unique, text-unique, text-of-one, line-unique}
+use Rattle.model.specs.Theorems.Decimal.{has-form, form-unique, text-unique, text-of-one, answer-line-unique}
 use Rattle.model.specs.Theorems.Conforms.{holds-conforms, conforms-holds}
 use Rattle.model.specs.Theorems.Documents.{document-injective, checks-conforming, conforming-checks}
 use Rattle.model.specs.Theorems.Expected.{UnexpectedCommand, unexpected-command}
@@ -357,6 +358,6 @@ decimal-text-unique = text-unique
 pub decimal-text-of-one : (m n : ℕ) (bs : List ℕ) → DecimalText m bs → DecimalText n bs → m ≡ n
 decimal-text-of-one = text-of-one
 
--- A word and numbers determine the line.
-pub one-line : (word ns bs cs : List ℕ) → Line word ns bs → Line word ns cs → bs ≡ cs
-one-line = line-unique
+-- The word for acceptance, the numbers told then and the answer determine the line.
+pub one-line : (word ns : List ℕ) (a : Answer) (bs cs : List ℕ) → AnswerLine word ns a bs → AnswerLine word ns a cs → bs ≡ cs
+one-line = answer-line-unique

@@ -1,13 +1,20 @@
--- Numbers in decimal (02, N2): what is a form and what is none, and the line of the patch.
-use mathlib.Core.Path.{_≡_, refl}
+-- Numbers in decimal (02, N2): what is a form and what is none, and the line of carry for the patch.
+use mathlib.Core.Path.{_≡_, refl, sym, subst}
 use mathlib.Core.Bool.{true}
 use mathlib.Core.List.{List, [], _∷_}
 use Prim.Native.Nat.{ℕ, suc}
 use native.Mathlib.Omega.{arith}
 use lib.Dec.{ltb}
 use borrow.Author.Tests.{leb-true}
-use Rattle.model.specs.Definitions.Decimal.{Digits, no-digit, one-more, valueFrom, NoLeadingZero, only-digit, first-not-zero, DecimalForm, digitBytes, DecimalText, no-number, number-then, Line}
+use Rattle.model.specs.Definitions.Decimal.{Digits, no-digit, one-more, valueFrom, NoLeadingZero, only-digit, first-not-zero, DecimalForm, digitBytes, DecimalText}
+use Rattle.model.specs.Definitions.Entries.{Answer, answerOf, carry}
+use Rattle.model.specs.Definitions.Lines.{no-number, number-then, acceptance, CarryLine}
 use Rattle.model.specs.Theorems.Decimal.{some-digit}
+use Rattle.starred_cases.specs.Starred.{sourceTable, targetTable, embedding, tree, junk, answer, starred-cases}
+
+-- `carried 21 1`
+abbrev pub patchLine : List ℕ
+patchLine = 0x63 ∷ 0x61 ∷ 0x72 ∷ 0x72 ∷ 0x69 ∷ 0x65 ∷ 0x64 ∷ 0x20 ∷ 0x32 ∷ 0x31 ∷ 0x20 ∷ 0x31 ∷ 0x0A ∷ []
 
 pub record DecimalCases : Type 0 where
   -- 0 is one digit, and not none
@@ -20,9 +27,9 @@ pub record DecimalCases : Type 0 where
   pub ten-no-digit : DecimalForm 10 (10 ∷ []) → ⊥
   -- the highest digit is the first
   pub not-backwards : DecimalForm 21 (1 ∷ 2 ∷ []) → ⊥
-  -- `carried 21 1`
-  pub patch-line : Line (0x63 ∷ 0x61 ∷ 0x72 ∷ 0x72 ∷ 0x69 ∷ 0x65 ∷ 0x64 ∷ []) (21 ∷ 1 ∷ [])
-      (0x63 ∷ 0x61 ∷ 0x72 ∷ 0x72 ∷ 0x69 ∷ 0x65 ∷ 0x64 ∷ 0x20 ∷ 0x32 ∷ 0x31 ∷ 0x20 ∷ 0x31 ∷ 0x0A ∷ [])
+  -- the patch's line
+  pub patch-line : CarryLine (answerOf (carry sourceTable targetTable embedding tree (junk 60000) .result))
+      patchLine
 
 -- a digit before others, and one by itself
 before : (d : ℕ) {ds : List ℕ} → ltb d 10 ≡ true → Digits ds → Digits (d ∷ ds)
@@ -56,6 +63,10 @@ one : DecimalText 1 (0x31 ∷ [])
 unfolding digitBytes
 one = record { digits = 1 ∷ []; is-form = alone 1 refl; as-bytes = refl }
 
+patch-carried : CarryLine (answer 21 1) patchLine
+unfolding answer
+patch-carried = acceptance refl (record { numbers = _; in-decimal = number-then twenty-one (number-then one no-number); as-bytes = refl })
+
 pub decimal-cases : DecimalCases
 unfolding valueFrom
 decimal-cases =
@@ -70,5 +81,5 @@ decimal-cases =
       no-zero-before = λ f. zero-leads (f .no-leading-zero);
       ten-no-digit = λ f. ten-below-ten (f .below-ten);
       not-backwards = λ f. twelve (f .gives-back);
-      patch-line = record { numbers = _; in-decimal = number-then twenty-one (number-then one no-number); as-bytes = refl };
+      patch-line = subst (λ (a : Answer). CarryLine a patchLine) (sym (starred-cases .carried)) patch-carried;
     }

@@ -17,21 +17,21 @@ put-numbers-requires : tie.Need-put-numbers-requires
 put-numbers-requires c κs =
     let word = c .before .before .before in
     let args = begun word .args in
-    room-for-numbers (now (args .word)) (now (args .numbers)) _ _ _ (word .copy .ensures) (begun word .pre)
+    room-for-numbers (now (args .word)) (now (args .values)) _ _ _ (word .copy .ensures) (begun word .pre)
 
 slice-write-out : tie.Need-slice-write-out
 slice-write-out c =
     let numbers = c .before .before in
     let word = numbers .before .before .before .before in
     let args = begun word .args in
-    room-for-end (now (args .word)) (now (args .numbers)) _ _ _ (word .copy .ensures) (begun word .pre) _ _ (numbers .put-numbers .ensures)
+    room-for-end (now (args .word)) (now (args .values)) _ _ _ (word .copy .ensures) (begun word .pre) _ _ (numbers .put-numbers .ensures)
 
 returns : tie.Need-returns
 returns c =
     let numbers = c .before .before .before in
     let word = numbers .before .before .before .before in
     let args = begun word .args in
-    line-made (now (args .word)) (now (args .numbers)) _ _ _ (word .copy .ensures) (begun word .pre) _ _ (numbers .put-numbers .ensures)
+    line-made (now (args .word)) (now (args .values)) _ _ _ (word .copy .ensures) (begun word .pre) _ _ (numbers .put-numbers .ensures)
 
 slice-aggregate-result : tie.Need-slice-aggregate-result
 slice-aggregate-result c =

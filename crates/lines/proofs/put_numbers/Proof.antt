@@ -9,10 +9,10 @@ use Rattle.lines.proofs.put_numbers.Statement.{statement}
 use Rattle.lines.proofs.put_numbers.Tie as tie
 
 abbrev Inv-loop : tie.InvT-loop
-Inv-loop out₀ at numbers next₀ i₀ out next i = Numbered numbers out₀ at out next i
+Inv-loop out₀ at values next₀ i₀ out next i = Numbered values out₀ at out next i
 
 abbrev μ-loop : tie.MeasureT-loop
-μ-loop out₀ at numbers next₀ i₀ out next i = length numbers - i
+μ-loop out₀ at values next₀ i₀ out next i = length values - i
 
 -- in a turn there is room for a blank and a number more
 room : (turn : tie.In-loop Inv-loop μ-loop) → turn .before .loop .next + 21 ≤ length (turn .before .loop .out)

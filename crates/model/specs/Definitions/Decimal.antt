@@ -1,10 +1,8 @@
--- 02, N2, and 01 "One patch, whole", of the program `carry`: numbers in decimal, and the lines that programs print.
+-- 02, N2: numbers in decimal.
 use mathlib.Core.Path.{_≡_}
 use mathlib.Core.List.{List, [], _∷_, _++_, map}
 use Prim.Native.Nat.{ℕ, _+_, _*_, _≤_, _<_}
 use lib.ListN.{length, drop}
-
--- ---- decimal form
 
 -- each digit is below ten
 pub data Digits : List ℕ → Type 0 where
@@ -42,16 +40,3 @@ pub record DecimalText (n : ℕ) (bs : List ℕ) : Type 0 where
 pub data DecimalWritten (n : ℕ) (old new : List ℕ) (answer : ℕ) : Type 0 where
   with-room : {text : List ℕ} → DecimalText n text → length text ≤ length old → new ≡ text ++ drop (length text) old → answer ≡ length text → DecimalWritten n old new answer
   without-room : {text : List ℕ} → DecimalText n text → length old < length text → new ≡ old → answer ≡ 0 → DecimalWritten n old new answer
-
--- ---- lines
-
--- 01: a single blank before each number, which is in decimal
-pub data NumbersText : List ℕ → List ℕ → Type 0 where
-  no-number : NumbersText [] []
-  number-then : {n : ℕ} {ns text more : List ℕ} → DecimalText n text → NumbersText ns more → NumbersText (n ∷ ns) (0x20 ∷ (text ++ more))
-
--- 01: `Line word ns bs`: the bytes bs are the line of a word and the numbers ns, which ends with 0A
-pub record Line (word ns bs : List ℕ) : Type 0 where
-  pub numbers : List ℕ
-  pub in-decimal : NumbersText ns numbers
-  pub as-bytes : bs ≡ word ++ (numbers ++ 0x0A ∷ [])

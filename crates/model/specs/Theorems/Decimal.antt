@@ -1,4 +1,4 @@
--- A number has one decimal form, and so a word and numbers have one line.
+-- A number has one decimal form, and so an answer has one line.
 use mathlib.Core.Path.{_≡_, refl, sym, ap, ap₂, _∙_, subst}
 use mathlib.Core.List.{List, [], _∷_, _++_}
 use Prim.Native.Nat.{ℕ, zero, suc, _+_, _*_, _/_, _%_, _^_, _≤_, _<_}
@@ -6,7 +6,9 @@ use native.Mathlib.Decide.{decLe}
 use native.Mathlib.Nat.{lt-of-not-le, mul-one, one-mul, mul-comm, mul-assoc, mul-le-mul-right, pow-succ'}
 use native.Mathlib.Omega.{arith}
 use lib.ListN.{length}
-use Rattle.model.specs.Definitions.Decimal.{Digits, no-digit, one-more, valueFrom, NoLeadingZero, only-digit, first-not-zero, DecimalForm, digitBytes, DecimalText, NumbersText, no-number, number-then, Line}
+use Rattle.model.specs.Definitions.Decimal.{Digits, no-digit, one-more, valueFrom, NoLeadingZero, only-digit, first-not-zero, DecimalForm, digitBytes, DecimalText}
+use Rattle.model.specs.Definitions.Entries.{Answer}
+use Rattle.model.specs.Definitions.Lines.{NumbersText, no-number, number-then, Line, AnswerLine, acceptance, refusing}
 
 -- ---- one form
 
@@ -100,6 +102,12 @@ numbers-unique (number-then {n = n} t later) (number-then u later2) =
 pub line-unique : (word ns bs cs : List ℕ) → Line word ns bs → Line word ns cs → bs ≡ cs
 line-unique word ns bs cs l k =
     l .as-bytes ∙ ap (λ (text : List ℕ). word ++ (text ++ 0x0A ∷ [])) (numbers-unique (l .in-decimal) (k .in-decimal)) ∙ sym (k .as-bytes)
+
+pub answer-line-unique : (word ns : List ℕ) (a : Answer) (bs cs : List ℕ) → AnswerLine word ns a bs → AnswerLine word ns a cs → bs ≡ cs
+answer-line-unique word ns a bs cs (acceptance is l) (acceptance is2 k) = line-unique word ns bs cs l k
+answer-line-unique word ns a bs cs (acceptance is l) (refusing not k) = absurd (not is)
+answer-line-unique word ns a bs cs (refusing not l) (acceptance is k) = absurd (not is)
+answer-line-unique word ns a bs cs (refusing not l) (refusing not2 k) = line-unique _ _ bs cs l k
 
 -- ---- a digit more
 
