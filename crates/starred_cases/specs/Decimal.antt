@@ -9,7 +9,6 @@ use borrow.Author.Tests.{leb-true}
 use Rattle.model.specs.Definitions.Decimal.{Digits, no-digit, one-more, valueFrom, NoLeadingZero, only-digit, first-not-zero, DecimalForm, digitBytes, DecimalText}
 use Rattle.model.specs.Definitions.Entries.{Answer, answerOf, carry}
 use Rattle.model.specs.Definitions.Lines.{no-number, number-then, acceptance, CarryLine}
-use Rattle.model.specs.Theorems.Decimal.{some-digit}
 use Rattle.starred_cases.specs.Starred.{sourceTable, targetTable, embedding, tree, junk, answer, starred-cases}
 
 -- `carried 21 1`
@@ -38,6 +37,9 @@ before d small = one-more (leb-true (suc d) 10 small)
 alone : (d : ℕ) → ltb d 10 ≡ true → DecimalForm d (d ∷ [])
 unfolding valueFrom
 alone d small = record { below-ten = before d small no-digit; gives-back = omega arith; no-leading-zero = only-digit }
+
+none-leads : NoLeadingZero [] → ⊥
+none-leads = elim [ ]
 
 zero-leads : NoLeadingZero (0 ∷ 7 ∷ []) → ⊥
 zero-leads (first-not-zero h) = omega arith
@@ -72,7 +74,7 @@ unfolding valueFrom
 decimal-cases =
     record {
       zero-is-one = alone 0 refl;
-      zero-not-none = λ f. absurd (omega (arith, some-digit (f .no-leading-zero)));
+      zero-not-none = λ f. none-leads (f .no-leading-zero);
       zeros-behind = record {
         below-ten = before 6 refl (before 0 refl (before 0 refl (before 0 refl (before 0 refl no-digit))));
         gives-back = refl;

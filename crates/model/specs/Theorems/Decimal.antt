@@ -42,7 +42,7 @@ same-digits v w (d ∷ ds) (x ∷ es) e (one-more small h) (one-more small2 k) s
     (omega (arith, rest .0), ap₂ (λ (y : ℕ) (ys : List ℕ). y ∷ ys) first (rest .1))
 
 -- a form has a digit
-pub some-digit : {ds : List ℕ} → NoLeadingZero ds → 0 < length ds
+some-digit : {ds : List ℕ} → NoLeadingZero ds → 0 < length ds
 some-digit only-digit = omega arith
 some-digit (first-not-zero more) = omega arith
 
