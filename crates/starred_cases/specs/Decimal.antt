@@ -38,6 +38,7 @@ alone : (d : ℕ) → ltb d 10 ≡ true → DecimalForm d (d ∷ [])
 unfolding valueFrom
 alone d small = record { below-ten = before d small no-digit; gives-back = omega arith; no-leading-zero = only-digit }
 
+-- what is no form: no digit, a leading zero, ten as a digit, the digits of 12 for 21
 none-leads : NoLeadingZero [] → ⊥
 none-leads = elim [ ]
 

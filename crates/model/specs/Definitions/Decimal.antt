@@ -9,7 +9,8 @@ pub data Digits : List ℕ → Type 0 where
   no-digit : Digits []
   one-more : {d : ℕ} {ds : List ℕ} → d < 10 → Digits ds → Digits (d ∷ ds)
 
--- the number that digits give back, the highest first, where those before them gave v: each multiplies by ten and is added
+-- the number that digits give back, the highest first, where those before them gave v: each digit is added to ten times what
+-- came before it
 unfoldable pub valueFrom : ℕ → List ℕ → ℕ
 valueFrom v [] = v
 valueFrom v (d ∷ ds) = valueFrom (10 * v + d) ds

@@ -62,6 +62,7 @@ no-longer {n} {ds} {es} f g = go (decLe (length ds) (length es))
         let less = fewer-less (g .below-ten) (g .no-leading-zero) (f .no-leading-zero) (lt-of-not-le h) in
         absurd (omega (arith, less, f .gives-back, g .gives-back))
 
+-- so they have the same digits
 pub form-unique : (n : ℕ) (ds es : List ℕ) → DecimalForm n ds → DecimalForm n es → ds ≡ es
 form-unique n ds es f g =
     let long : length ds ≡ length es = omega (arith, no-longer f g, no-longer g f) in
@@ -94,6 +95,7 @@ text-of-one m n bs t u =
 
 -- ---- one line
 
+-- each number's text is determined, and so is what stands behind it
 numbers-unique : {ns bs cs : List ℕ} → NumbersText ns bs → NumbersText ns cs → bs ≡ cs
 numbers-unique no-number no-number = refl
 numbers-unique (number-then {n = n} t later) (number-then u later2) =
@@ -137,6 +139,7 @@ unfolding valueFrom
 leads-behind d {n} some e (only-digit {d = x}) = let more : 0 < x = omega (arith, e) in first-not-zero more
 leads-behind d some e (first-not-zero more) = first-not-zero more
 
+-- a digit behind the form of a number that isn't 0 gives the form of ten times that number and the digit
 form-behind : {n d : ℕ} {ds : List ℕ} → 0 < n → d < 10 → DecimalForm n ds → DecimalForm (10 * n + d) (ds ++ d ∷ [])
 form-behind {n} {d} {ds} some small f =
     record {
