@@ -8,7 +8,7 @@ use lib.ListN.{length, take, getD, set, length-take, length-set, length-append}
 use lib.Seq.{take-suc, take-all}
 use Rattle.writing.specs.Writing.{Writes}
 use Rattle.writing.specs.Laws.{writes-then, writes-length, stored, written-from-start}
-use Rattle.lines.specs.Lines.{WritesNumbers}
+use Rattle.lines.specs.Lines.{numberBytes, WritesNumbers}
 use Rattle.case_text.specs.Hexadecimal.{hexDigit, hexText, DocumentLine}
 
 -- two digits a byte
@@ -53,7 +53,7 @@ all-hexed {bytes} {old} {at} {line} {to} {i} h end = subst (λ (bs : List ℕ). 
 
 module _ (ns document old word-line : List ℕ) (word : ℕ) (w : Writes old word-line 0 (0x6F ∷ 0x6B ∷ []) word)
     (numbers-line : List ℕ) (behind : ℕ) (n : WritesNumbers ns word-line numbers-line word behind)
-    (room : 2 * length document + 21 * length ns + 4 ≤ length old) where
+    (room : 2 * length document + numberBytes * length ns + 4 ≤ length old) where
   -- behind the numbers is room for a blank, the document and the end
   pub room-for-document : behind + 2 + 2 * length document ≤ length numbers-line
   room-for-document = omega (arith, w .after, writes-length w, n .writes .after, n .short, writes-length (n .writes))

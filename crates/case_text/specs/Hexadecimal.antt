@@ -15,6 +15,11 @@ unfoldable pub hexText : List ℕ → List ℕ
 hexText [] = []
 hexText (b ∷ bs) = hexDigit (b / 16) ∷ hexDigit (b % 16) ∷ hexText bs
 
+-- the most bytes of a line with two numbers and a document, beside the document's own digits; in the code `DOCUMENT_LINE_BYTES` has
+-- them for a document of the greatest length
+abbrev pub besideDocument : ℕ
+besideDocument = 46
+
 -- `ok`, numbers, a blank, a document in hexadecimal, and the end
 pub record DocumentLine (ns document bs : List ℕ) : Type 0 where
   pub numbers : List ℕ

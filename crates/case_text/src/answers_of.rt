@@ -3,7 +3,7 @@ ghost use mathlib.Core.Path.{_≡_};
 ghost use mathlib.Core.List.{[], _∷_};
 ghost use Prim.Native.Nat.{_+_, _*_, _≤_, min};
 ghost use lib.ListN.{length};
-ghost use Rattle.case_text.specs.Hexadecimal.{DocumentLine};
+ghost use Rattle.case_text.specs.Hexadecimal.{besideDocument, DocumentLine};
 use crate::hexadecimal::put_hex;
 use answer_numbers::Answer;
 use codes::MAX_BYTES;
@@ -36,7 +36,7 @@ fn least(n: u64, most: usize) -> usize
 
 // Makes the line of an answer that accepts, with the document that was written, at the start of lent bytes, and lends it.
 fn written_line<'a>(line: &'a mut [u8], a: Answer, document: &[u8]) -> &'a mut [u8]
-    requires { ⌜ 2 * length (now document) + 46 ≤ length (now line) ⌝ }
+    requires { ⌜ 2 * length (now document) + besideDocument ≤ length (now line) ⌝ }
     ensures { λ r. ⌜ DocumentLine (a .value ∷ a .filler ∷ []) (now (document .entry)) (now r) ⌝ }
 {
     let word = copy(b"ok", 0, 2, line, 0);

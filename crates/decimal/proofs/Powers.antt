@@ -6,7 +6,7 @@ use native.Mathlib.Nat.{add-mul, mul-comm, mul-assoc, mul-one, pow-suc}
 use native.Mathlib.Decide.{decLt}
 use native.Mathlib.Omega.{arith}
 use lib.ListN.{getD}
-use Rattle.decimal.specs.Digits.{Reaches}
+use Rattle.decimal.specs.Digits.{mostDigits, Reaches}
 
 -- a table of m numbers: p, and each ten times the one before
 unfoldable pub tenfold : ℕ → ℕ → List ℕ
@@ -30,7 +30,7 @@ next-digit v u d left =
 pub one-digit : (n : ℕ) → Reaches n 1
 one-digit n = record { some-digit = omega arith; not-more = omega arith; reached = λ k low high. absurd (omega arith) }
 
-pub reaches-more : (n w : ℕ) → Reaches n w → w < 20 → 10 ^ w ≤ n → Reaches n (w + 1)
+pub reaches-more : (n w : ℕ) → Reaches n w → w < mostDigits → 10 ^ w ≤ n → Reaches n (w + 1)
 reaches-more n w r few reached = record { some-digit = omega arith; not-more = omega arith; reached = λ k low high. go k low (decLt k w) high }
   where
     go : (k : ℕ) → 0 < k → Dec (k < w) → k < w + 1 → 10 ^ k ≤ n

@@ -8,12 +8,12 @@ use native.Mathlib.Omega.{arith}
 use lib.ListN.{length, take, set, replicate, length-set, length-append}
 use Rattle.model.specs.Definitions.Decimal.{Digits, no-digit, valueFrom, digitBytes, DecimalText}
 use Rattle.model.specs.Theorems.Decimal.{last-digit, digits-behind, bytes-behind, form-of}
-use Rattle.decimal.specs.Digits.{Width, Share}
+use Rattle.decimal.specs.Digits.{mostDigits, Width, Share}
 use Rattle.decimal.proofs.Powers.{next-digit}
 
--- of the w digits of n the first i stand in an array of 20 bytes, and what is left is below the place of the last of them
+-- of the w digits of n the first i stand in an array for all digits that a number may have, and what is left is below the place of the last of them
 pub record Spelled (n w i left : ℕ) (bytes : List ℕ) : Type 0 where
-  pub room : length bytes ≡ 20
+  pub room : length bytes ≡ mostDigits
   pub not-beyond : i ≤ w
   pub digits : List ℕ
   pub below-ten : Digits digits
@@ -23,7 +23,7 @@ pub record Spelled (n w i left : ℕ) (bytes : List ℕ) : Type 0 where
   pub rest : left < 10 ^ (w - i)
 
 -- at first none, and the whole number is left
-pub none-spelled : (n w : ℕ) → Width n w → Spelled n w 0 n (replicate 20 0)
+pub none-spelled : (n w : ℕ) → Width n w → Spelled n w 0 n (replicate mostDigits 0)
 unfolding valueFrom digitBytes
 none-spelled n w width =
     let all : w - 0 ≡ w = omega arith in
@@ -44,7 +44,7 @@ stored-behind (x ∷ bytes) zero b h = refl
 stored-behind (x ∷ bytes) (suc i) b h = ap (λ (bs : List ℕ). x ∷ bs) (stored-behind bytes i b (omega arith))
 
 -- One more: the digits so far count ten times as much, the found one stands behind them, and what it counts is no longer left.
-pub spelled-more : (n w i left : ℕ) (bytes : List ℕ) (d later : ℕ) → Spelled n w i left bytes → i < w → w ≤ 20 → Share left (10 ^ (w - 1 - i)) d later
+pub spelled-more : (n w i left : ℕ) (bytes : List ℕ) (d later : ℕ) → Spelled n w i left bytes → i < w → w ≤ mostDigits → Share left (10 ^ (w - 1 - i)) d later
     → Spelled n w (i + 1) later (set bytes i (0x30 + d))
 spelled-more n w i left bytes d later s less few found =
     let place : w - (i + 1) ≡ w - 1 - i = omega arith in

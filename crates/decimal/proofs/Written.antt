@@ -7,10 +7,10 @@ use lib.ListN.{length, take, drop, length-take}
 use Rattle.model.specs.Definitions.Decimal.{DecimalText, DecimalWritten, with-room, without-room}
 use Rattle.model.specs.Theorems.EntryLaws.{written-start}
 use Rattle.writing.specs.Writing.{Writes}
-use Rattle.decimal.specs.Digits.{WritesDecimal}
+use Rattle.decimal.specs.Digits.{mostDigits, WritesDecimal}
 
 -- The digits that were found, copied to an offset, are the number's form there.
-pub copied : (n count : ℕ) (bytes old new : List ℕ) (at next : ℕ) → DecimalText n (take count bytes) → count ≤ 20 → Writes old new at (take (count - 0) (drop 0 bytes)) next
+pub copied : (n count : ℕ) (bytes old new : List ℕ) (at next : ℕ) → DecimalText n (take count bytes) → count ≤ mostDigits → Writes old new at (take (count - 0) (drop 0 bytes)) next
     → WritesDecimal n old new at next
 copied n count bytes old new at next text few w =
     let all : count - 0 ≡ count = omega arith in

@@ -10,8 +10,8 @@ use Rattle.model.specs.Definitions.Decimal.{DecimalText}
 use Rattle.model.specs.Definitions.Lines.{NumbersText, no-number, number-then, Line}
 use Rattle.writing.specs.Writing.{Writes}
 use Rattle.writing.specs.Laws.{writes-then, writes-length, stored, written-from-start}
-use Rattle.decimal.specs.Digits.{WritesDecimal}
-use Rattle.lines.specs.Lines.{WritesNumbers}
+use Rattle.decimal.specs.Digits.{mostDigits, WritesDecimal}
+use Rattle.lines.specs.Lines.{numberBytes, WritesNumbers}
 
 -- a number behind others
 numbers-behind : {ns bs : List ℕ} (n : ℕ) (text : List ℕ) → NumbersText ns bs → DecimalText n text → NumbersText (ns ++ n ∷ []) (bs ++ 0x20 ∷ text)
@@ -28,12 +28,12 @@ pub none-written : (ns old : List ℕ) (at : ℕ) → Numbered ns old at old at 
 none-written ns old at =
     record { so-far = record { text = []; in-decimal = no-number; writes = record { written = refl; after = omega arith }; short = omega arith }; not-beyond = omega arith }
 
--- there is room for a blank and 20 digits more
-pub room-for-one : {ns old : List ℕ} {at : ℕ} {out : List ℕ} {next i : ℕ} → Numbered ns old at out next i → i < length ns → at + 21 * length ns ≤ length old → next + 21 ≤ length out
+-- there is room for a blank and a number more
+pub room-for-one : {ns old : List ℕ} {at : ℕ} {out : List ℕ} {next i : ℕ} → Numbered ns old at out next i → i < length ns → at + numberBytes * length ns ≤ length old → next + numberBytes ≤ length out
 room-for-one {ns} {i = i} w less room = omega (arith, w .so-far .writes .after, w .so-far .short, length-take i ns, writes-length (w .so-far .writes))
 
 -- and behind the blank for the digits
-pub room-for-digits : (out : List ℕ) (next blank : ℕ) → next + 21 ≤ length out → next + 1 + 20 ≤ length (set out next blank)
+pub room-for-digits : (out : List ℕ) (next blank : ℕ) → next + numberBytes ≤ length out → next + 1 + mostDigits ≤ length (set out next blank)
 room-for-digits out next blank room = omega (arith, length-set out next blank)
 
 -- one more number is written
@@ -60,13 +60,13 @@ all-written {ns} {old} {at} {out} {next} {i} w end = subst (λ (ms : List ℕ). 
 
 -- ---- the line
 
-module _ (word ns old out : List ℕ) (behind : ℕ) (w : Writes old out 0 (take (length word - 0) (drop 0 word)) behind) (room : length word + 21 * length ns + 1 ≤ length old) where
+module _ (word ns old out : List ℕ) (behind : ℕ) (w : Writes old out 0 (take (length word - 0) (drop 0 word)) behind) (room : length word + numberBytes * length ns + 1 ≤ length old) where
   -- all of the word is written
   word-written : Writes old out 0 word behind
   word-written = let all : length word - 0 ≡ length word = omega arith in rw (all, take-length word) at w
 
   -- behind it is room for the numbers, and behind these for the end
-  pub room-for-numbers : behind + 21 * length ns ≤ length out
+  pub room-for-numbers : behind + numberBytes * length ns ≤ length out
   room-for-numbers = omega (arith, word-written .after, writes-length w)
 
   pub room-for-end : (new : List ℕ) (next : ℕ) → WritesNumbers ns out new behind next → next < length new

@@ -2,7 +2,7 @@
 use mathlib.Core.Path.{_≡_}
 use Prim.Native.Nat.{_-_, _^_, _<_}
 use native.Mathlib.Omega.{arith}
-use Rattle.decimal.specs.Digits.{Reaches}
+use Rattle.decimal.specs.Digits.{mostDigits, Reaches}
 use Rattle.decimal.proofs.Powers.{one-digit, reaches-more}
 use Rattle.decimal.proofs.width.Statement.{statement}
 use Rattle.decimal.proofs.width.Tie as tie
@@ -11,7 +11,7 @@ abbrev Inv-loop : tie.InvT-loop
 Inv-loop n w₀ w = Reaches n w
 
 abbrev μ-loop : tie.MeasureT-loop
-μ-loop n w₀ w = 20 - w
+μ-loop n w₀ w = mostDigits - w
 
 returns : tie.Need-returns Inv-loop μ-loop
 returns c = record { reaches = c .before .before .before .loop .inv; below = omega (arith, c .if1 .taken, c .before .power .ensures) }
@@ -22,9 +22,9 @@ loop-again c = reaches-more _ _ (c .before .before .before .loop .inv) (c .befor
 -- all 20 powers were passed, and a number of 64 bits is below the next
 returns-2 : tie.Need-returns-2 Inv-loop μ-loop
 returns-2 c =
-    let small : c .before .before .args .n < 10 ^ 20 = omega (arith, c .before .before .fits .n) in
+    let small : c .before .before .args .n < 10 ^ mostDigits = omega (arith, c .before .before .fits .n) in
     let passed = c .before .loop .inv in
-    let all : c .before .loop .w ≡ 20 = omega (arith, c .loop-test .left, passed .not-more) in
+    let all : c .before .loop .w ≡ mostDigits = omega (arith, c .loop-test .left, passed .not-more) in
     record { reaches = passed; below = rw all small }
 
 pub width-spec : {M : Type 1} → statement M

@@ -4,6 +4,7 @@ use native.Mathlib.Omega.{arith}
 use lib.ListN.{length}
 use borrow.Author.Needs.{needs}
 use Rattle.writing.specs.Laws.{writes-length}
+use Rattle.lines.specs.Lines.{numberBytes}
 use Rattle.lines.proofs.Numbers.{Numbered, none-written, room-for-one, room-for-digits, one-more-written, all-written}
 use Rattle.lines.proofs.put_numbers.Statement.{statement}
 use Rattle.lines.proofs.put_numbers.Tie as tie
@@ -15,7 +16,7 @@ abbrev μ-loop : tie.MeasureT-loop
 μ-loop out₀ at values next₀ i₀ out next i = length values - i
 
 -- in a turn there is room for a blank and a number more
-room : (turn : tie.In-loop Inv-loop μ-loop) → turn .before .loop .next + 21 ≤ length (turn .before .loop .out)
+room : (turn : tie.In-loop Inv-loop μ-loop) → turn .before .loop .next + numberBytes ≤ length (turn .before .loop .out)
 room turn = room-for-one (turn .before .loop .inv) (turn .loop-test .taken) (turn .before .before .before .before .pre)
 
 loop-again : tie.Need-loop-again Inv-loop μ-loop
