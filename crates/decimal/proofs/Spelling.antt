@@ -11,7 +11,8 @@ use Rattle.model.specs.Theorems.Decimal.{last-digit, digits-behind, bytes-behin
 use Rattle.decimal.specs.Digits.{mostDigits, Width, Share}
 use Rattle.decimal.proofs.Powers.{next-digit}
 
--- of the w digits of n the first i stand in an array for all digits that a number may have, and what is left is below the place of the last of them
+-- of the w digits of n the first i stand in an array that has room for the digits of any number, and what is left is below the place
+-- of the last of them
 pub record Spelled (n w i left : ℕ) (bytes : List ℕ) : Type 0 where
   pub room : length bytes ≡ mostDigits
   pub not-beyond : i ≤ w
