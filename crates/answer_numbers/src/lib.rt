@@ -3,7 +3,7 @@ ghost use mathlib.Core.Path.{_≡_};
 ghost use Rattle.model.specs.Definitions.Entries.{answerOf};
 ghost use Rattle.model.specs.Definitions.Entries as model;
 ghost use Rattle.answers.specs.Answers.{carriedResult, broughtResult};
-ghost use Rattle.answer_numbers.specs.Numbers.{numbers, ForFault};
+ghost use Rattle.answer_numbers.specs.Numbers.{numbers, refusalNumbers, ForFault};
 use answers::Brought;
 use answers::Carried;
 use answers::Fault;
@@ -35,7 +35,7 @@ pub fn accepting(value: u64, filler: u64) -> Answer
 
 // The answer of refusal by a number, a document and a mark.
 fn refusing(refusal: u64, document: u64, mark: u64) -> Answer
-    ensures { λ r. ⌜ numbers r ≡ record { refusal = refusal; document = document; mark = mark; value = 0; filler = 0 } ⌝ }
+    ensures { λ r. ⌜ numbers r ≡ refusalNumbers refusal document mark ⌝ }
 {
     Answer {
         refusal,

@@ -4,7 +4,7 @@ use mathlib.Core.List.{List}
 use Prim.Native.Nat.{ℕ}
 use lib.ListN.{length}
 use Rattle.answer_numbers.specs.declared.Answer.{Answer}
-use Rattle.answer_numbers.specs.Numbers.{numbers, ForFault}
+use Rattle.answer_numbers.specs.Numbers.{numbers, ForFault, fault-answer}
 use Rattle.judge_entries.specs.Judging.{treeResult, TreeAnswer}
 use Rattle.answers.specs.declared.Fault.{Fault}
 use Rattle.answers.specs.declared.Judged.{Judged}
@@ -39,7 +39,7 @@ module _ {bs rows : List ℕ} {j : Judged} (h : TableJudged bs j rows) where
   -- the entry that judges a table
   pub table-faulty : {f : Fault} (a : Answer) → j ≡ Judged.Has f → ForFault f 1 a → numbers a ≡ answerOf (judgeTable bs)
   unfolding judgeTable unlessFaulty documentNumber
-  table-faulty a e answer = answer source-table refl ∙ rw (table-has e) refl
+  table-faulty {f} a e answer = fault-answer source-table f a answer ∙ rw (table-has e) refl
 
   pub table-counted : (n : ℕ) (a : Answer) → j ≡ Judged.Sound → n ≡ typesIn rows → numbers a ≡ answerOf (accepted n 0) → numbers a ≡ answerOf (judgeTable bs)
   unfolding judgeTable unlessFaulty
@@ -48,7 +48,7 @@ module _ {bs rows : List ℕ} {j : Judged} (h : TableJudged bs j rows) where
   -- the entry that judges a tree: its table's fault, or the tree's answer
   pub tree-table-faulty : (tr : List ℕ) {f : Fault} (a : Answer) → j ≡ Judged.Has f → ForFault f 1 a → numbers a ≡ answerOf (judgeTree bs tr)
   unfolding judgeTree unlessFaulty documentNumber
-  tree-table-faulty tr a e answer = answer source-table refl ∙ rw (table-has e) refl
+  tree-table-faulty tr {f} a e answer = fault-answer source-table f a answer ∙ rw (table-has e) refl
 
   pub tree-table-sound : (tr : List ℕ) (a : Answer) → j ≡ Judged.Sound → TreeAnswer (loaded_table.tableBy rows) tr a → numbers a ≡ answerOf (judgeTree bs tr)
   unfolding judgeTree unlessFaulty treeResult
@@ -64,7 +64,7 @@ module _ {S : Table} {bs : List ℕ} {r : JudgedTree} (h : TreeJudged S bs r) wh
   unfolding treeResult unlessFaulty documentNumber
   tree-faulty {f} a e answer =
       let found : judgedTree S bs ≡ has (fault f) = sym (h .same-judgement) ∙ ap judged e in
-      record { same-answer = answer tree refl ∙ rw found refl }
+      record { same-answer = fault-answer tree f a answer ∙ rw found refl }
 
   pub tree-counted : (a : Answer) → r .judged ≡ Judged.Sound → numbers a ≡ answerOf (accepted (r .elements) 0) → TreeAnswer S bs a
   unfolding treeResult unlessFaulty
@@ -77,9 +77,9 @@ module _ {S : Table} {bs : List ℕ} {r : JudgedTree} (h : TreeJudged S bs r) wh
 -- one of the three documents is refused
 pub embedding-refused : (s t e : List ℕ) {f : Fault} {n : ℕ} (a : Answer) → Refusing s t e f n → ForFault f n a → numbers a ≡ answerOf (judgeEmbedding s t e)
 unfolding judgeEmbedding unlessFaulty documentNumber
-embedding-refused s t e a (by-source h) answer = answer source-table refl ∙ rw h refl
-embedding-refused s t e a (by-target g h) answer = answer target-table refl ∙ rw (g, h) refl
-embedding-refused s t e a (by-embedding g h i) answer = answer embedding refl ∙ rw (g, h, i) refl
+embedding-refused s t e {f} a (by-source h) answer = fault-answer source-table f a answer ∙ rw h refl
+embedding-refused s t e {f} a (by-target g h) answer = fault-answer target-table f a answer ∙ rw (g, h) refl
+embedding-refused s t e {f} a (by-embedding g h i) answer = fault-answer embedding f a answer ∙ rw (g, h, i) refl
 
 -- none is: the number of edges of the source table
 pub embedding-counted : {s t e from to map : List ℕ} (n : ℕ) (a : Answer) → Standing s t e from to map → n ≡ edgeCount (loaded_table.tableBy from) → numbers a ≡ answerOf (accepted n 0)

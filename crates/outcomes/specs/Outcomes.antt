@@ -4,7 +4,7 @@ use mathlib.Core.List.{List}
 use Prim.Native.Nat.{ℕ}
 use borrow.Author.Tests.{leb-true}
 use Rattle.answer_numbers.specs.declared.Answer.{Answer}
-use Rattle.answer_numbers.specs.Numbers.{numbers, ForFault}
+use Rattle.answer_numbers.specs.Numbers.{numbers, ForFault, fault-answer}
 use Rattle.answers.specs.declared.Fault.{Fault}
 use Rattle.answers.specs.declared.Judged.{Judged}
 use Rattle.answers.specs.Answers.{judged, fault}
@@ -41,16 +41,16 @@ afterSetting s t e out later =
     later
 
 -- an answer for a fault, and the output as it was
-fault-answers : (out : List ℕ) (d : Document) {n : ℕ} (f : Fault) (a : Answer) → documentNumber d ≡ n → ForFault f n a → Answers (untouched out (faulty d (fault f))) out a
+fault-answers : (out : List ℕ) (d : Document) (f : Fault) (a : Answer) → ForFault f (documentNumber d) a → Answers (untouched out (faulty d (fault f))) out a
 unfolding untouched
-fault-answers out d f a number answer = record { same-answer = answer d number; same-output = refl }
+fault-answers out d f a answer = record { same-answer = fault-answer d f a answer; same-output = refl }
 
 -- one of them is refused
 pub setting-refused : (s t e out : List ℕ) (later : Outcome) {f : Fault} {n : ℕ} (a : Answer) → Refusing s t e f n → ForFault f n a → Answers (afterSetting s t e out later) out a
 unfolding unlessFaulty documentNumber
-setting-refused s t e out later {f} a (by-source h) answer = rw h (fault-answers out source-table f a refl answer)
-setting-refused s t e out later {f} a (by-target g h) answer = rw (g, h) (fault-answers out target-table f a refl answer)
-setting-refused s t e out later {f} a (by-embedding g h i) answer = rw (g, h, i) (fault-answers out embedding f a refl answer)
+setting-refused s t e out later {f} a (by-source h) answer = rw h (fault-answers out source-table f a answer)
+setting-refused s t e out later {f} a (by-target g h) answer = rw (g, h) (fault-answers out target-table f a answer)
+setting-refused s t e out later {f} a (by-embedding g h i) answer = rw (g, h, i) (fault-answers out embedding f a answer)
 
 -- none is
 setting-accepted : (s t e out : List ℕ) (later : Outcome) → Judges s t e → afterSetting s t e out later ≡ later
@@ -90,7 +90,7 @@ module _ {s t e from to map : List ℕ} (h : Standing s t e from to map) (done :
   unfolding unlessFaulty documentNumber
   tree-refused out a {f} is answer =
       let found : judgedTree loaded tr ≡ has (fault f) = sym (j .same-judgement) ∙ ap judged is in
-      after-setting out out a (rw found (fault-answers out tree f a refl answer))
+      after-setting out out a (rw found (fault-answers out tree f a answer))
 
   -- it is accepted: answer and output are those of what is done with it
   pub tree-accepted : (out new : List ℕ) (a : Answer) {result : Result} → r .judged ≡ Judged.Sound → numbers a ≡ answerOf result → result ≡ done (settingIn from to map e) .result → new ≡ done (settingIn from to map e) .output
