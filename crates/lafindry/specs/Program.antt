@@ -1,12 +1,12 @@
 -- The demands of the program: what the entries' contracts say of calls gives, with the theorems about the definitions, what an
 -- owner of patches relies on. A call is named by its documents, the output before and after it, and the answer; `CarryCall` and
--- the like say of it what the contract of the entry says, and no more.
+-- the like (`Calls.antt`) are what the contracts of the entries say of it.
 use mathlib.Core.Path.{_≡_, refl, sym, ap, _∙_, subst}
 use mathlib.Core.Bool.{Bool, true, false}
 use mathlib.Core.List.{List, [], _∷_, _++_}
 use mathlib.Core.Logic.{_↔_, _⊎_, inl, inr}
 use mathlib.Core.Option.{Option, none, some}
-use Prim.Native.Nat.{ℕ, _+_, _≤_, _<_}
+use Prim.Native.Nat.{ℕ, _≤_, _<_}
 use native.Mathlib.Decide.{decLe}
 use native.Mathlib.Nat.{lt-of-not-le}
 use native.Mathlib.Omega.{arith}
@@ -14,32 +14,25 @@ use lib.ListN.{length, take, drop}
 use Rattle.answer_numbers.specs.declared.Answer.{Answer}
 use Rattle.answer_numbers.specs.Numbers.{numbers}
 use Rattle.outcomes.specs.Outcomes.{Answers}
+use Rattle.lafindry.specs.Calls.{JudgeTableCall, JudgeEmbeddingCall, JudgeTreeCall, CarryCall, BringBackCall}
+use Rattle.model.specs.Definitions.Basics.{fails}
 use Rattle.model.specs.Definitions.Table.{tableOf}
-use Rattle.model.specs.Definitions.Content.{Content, contentOf, elements}
+use Rattle.model.specs.Definitions.Content.{Content, document}
 use Rattle.model.specs.Definitions.Conformance.{Conforming}
 use Rattle.model.specs.Definitions.Image.{Setting}
-use Rattle.model.specs.Definitions.TreeChecks.{maxLevels}
-use Rattle.model.specs.Definitions.Refusals.{Judged, sound, has, Document, source-table, tree, Fault, too-long, bad-form, over-limit, bad-operand, repeated-member, no-finite-instance, root-moved, wrong-end, wrong-steps, path-clash, unexpected, faultNumber, Refusal, faulty, no-image, image-too-deep, image-too-long, output-too-short, numbersOf, documentNumber, maxLength}
+use Rattle.model.specs.Definitions.TreeChecks.{treeLevels, maxLevels}
+use Rattle.model.specs.Definitions.Refusals.{Judged, sound, has, Document, tree, Fault, too-long, bad-form, over-limit, bad-operand, repeated-member, no-finite-instance, root-moved, wrong-end, wrong-steps, path-clash, unexpected, faultNumber, faultMark, Refusal, faulty, no-image, image-too-deep, image-too-long, output-too-short, numbersOf, documentNumber, maxLength}
+use Rattle.model.specs.Definitions.ValidTable.{ValidTable, tableBytes}
+use Rattle.model.specs.Definitions.ValidEmbedding.{ValidEmbedding, embeddingBytes}
+use Rattle.model.specs.Definitions.Valid.{WrittenBy, ValidTree}
 use Rattle.model.specs.Definitions.Decimal.{DecimalText, DecimalWritten, with-room, without-room}
 use Rattle.model.specs.Definitions.Entries as model
-use Rattle.model.specs.Definitions.Entries.{Result, refused, accepted, Outcome, answerOf, unlessFaulty, judgeEmbedding, judgeTree, edgeCount, untouched, written, carryWithin, carryContent, carry, bringWithin, bringContent, bringBack, judgedTable, judgedTree}
-use Rattle.model.specs.Theorems.Terms.{AcceptedEmbedding, AcceptedTree, imageOf, fillerOf, levelsIn}
-use Rattle.model.specs.Theorems.EntryLaws.{Judges, judges-accept, past-judge}
-use Rattle.model.specs.Statements.{DemandThree, demand-three, refused-15-exactly, decimal-text-unique}
+use Rattle.model.specs.Definitions.Entries.{Result, refused, accepted, Outcome, answerOf, unlessFaulty, judgeTable, judgeEmbedding, judgeTree, untouched, written, carryWithin, carryContent, carry, bringWithin, bringContent, bringBack}
+use Rattle.model.specs.Theorems.Terms.{AcceptedEmbedding, AcceptedTree, imageOf, fillerOf, levelsIn, NoSource}
+use Rattle.model.specs.Theorems.EntryLaws.{judges-accept, judge-accepts, judges-are-all, table-is-accepted, tree-judged, tree-is-accepted}
+use Rattle.model.specs.Statements.{DemandThree, demand-three, refused-15-exactly, decimal-text-unique, tables-exactly, embeddings-exactly, trees-exactly}
 
--- ---- calls, by what the contracts say of them
-
-abbrev pub JudgeEmbeddingCall : List ℕ → List ℕ → List ℕ → Answer → Type 0
-JudgeEmbeddingCall s t e a = numbers a ≡ answerOf (judgeEmbedding s t e)
-
-abbrev pub JudgeTreeCall : List ℕ → List ℕ → Answer → Type 0
-JudgeTreeCall t tr a = numbers a ≡ answerOf (judgeTree t tr)
-
-abbrev pub CarryCall : List ℕ → List ℕ → List ℕ → List ℕ → List ℕ → List ℕ → Answer → Type 0
-CarryCall s t e tr before after a = Answers (carry s t e tr before) after a
-
-abbrev pub BringBackCall : List ℕ → List ℕ → List ℕ → List ℕ → List ℕ → List ℕ → Answer → Type 0
-BringBackCall s t e tr before after a = Answers (bringBack s t e tr before) after a
+-- ---- answers
 
 -- accepted with these numbers, and a document at the start of the output, later bytes as they were
 pub record Wrote (doc : List ℕ) (filler : ℕ) (before after : List ℕ) (a : Answer) : Type 0 where
@@ -48,34 +41,41 @@ pub record Wrote (doc : List ℕ) (filler : ℕ) (before after : List ℕ) (a : 
   pub is-filler : a .filler ≡ filler
   pub is-written : after ≡ doc ++ drop (length doc) before
 
--- refused for want of room, and the output as it was
-pub record NoRoom (before after : List ℕ) (a : Answer) : Type 0 where
-  pub is-number : a .refusal ≡ 14
-  pub is-output : a .document ≡ 5
+-- refused with this number, document and mark, and the output as it was
+pub record RefusedWith (number document mark : ℕ) (before after : List ℕ) (a : Answer) : Type 0 where
+  pub is-number : a .refusal ≡ number
+  pub is-document : a .document ≡ document
+  pub is-mark : a .mark ≡ mark
   pub unchanged : after ≡ before
 
 -- ---- demand 3
 
 -- For an accepted embedding: images conform, and are equal exactly when the documents are. A call of carry with an image of at
 -- most 128 levels and 60,000 bytes writes it exactly when the output is long enough. What a call of carry that was not refused
--- has written, handed to a call of bring back, gives the source byte for byte, exactly when that output is long enough. A call
--- of carry with an image beyond is refused.
+-- has written, handed to a call of bring back, gives the source byte for byte, exactly when that output is long enough. For a
+-- document of at most 60,000 bytes and 128 levels a call of carry answers 12 where the image has a 129th level, and 13 where only its
+-- length is beyond; a longer document gets 1, and a deeper one 3.
 pub record ProgramDemandThree (s t e : List ℕ) : Type 0 where
   pub conforming : (d : List ℕ) → Conforming (tableOf s) d → Conforming (tableOf t) (imageOf s t e d)
   pub distinct : (d f : List ℕ) → Conforming (tableOf s) d → Conforming (tableOf s) f → (imageOf s t e d ≡ imageOf s t e f) ↔ (d ≡ f)
   pub carries : (d : List ℕ) → Conforming (tableOf s) d → levelsIn (imageOf s t e d) ≤ maxLevels → length (imageOf s t e d) ≤ maxLength
       → (before after : List ℕ) (a : Answer) → CarryCall s t e d before after a → length (imageOf s t e d) ≤ length before → Wrote (imageOf s t e d) (fillerOf s t e d) before after a
   pub carry-needs-room : (d : List ℕ) → Conforming (tableOf s) d → levelsIn (imageOf s t e d) ≤ maxLevels → length (imageOf s t e d) ≤ maxLength
-      → (before after : List ℕ) (a : Answer) → CarryCall s t e d before after a → length before < length (imageOf s t e d) → NoRoom before after a
+      → (before after : List ℕ) (a : Answer) → CarryCall s t e d before after a → length before < length (imageOf s t e d) → RefusedWith 14 5 0 before after a
   pub returns : (d : List ℕ) → Conforming (tableOf s) d
       → (before after : List ℕ) (a : Answer) → CarryCall s t e d before after a → a .refusal ≡ 0
       → (before2 after2 : List ℕ) (b : Answer) → BringBackCall s t e (take (a .value) after) before2 after2 b → length d ≤ length before2 → Wrote d 0 before2 after2 b
   pub return-needs-room : (d : List ℕ) → Conforming (tableOf s) d
       → (before after : List ℕ) (a : Answer) → CarryCall s t e d before after a → a .refusal ≡ 0
-      → (before2 after2 : List ℕ) (b : Answer) → BringBackCall s t e (take (a .value) after) before2 after2 b → length before2 < length d → NoRoom before2 after2 b
-  pub beyond-limits : (d : List ℕ) → Conforming (tableOf s) d
-      → (before after : List ℕ) (a : Answer) → CarryCall s t e d before after a → (maxLevels < levelsIn (imageOf s t e d)) ⊎ (maxLength < length (imageOf s t e d))
-      → (a .refusal ≡ 0 → ⊥) × (after ≡ before)
+      → (before2 after2 : List ℕ) (b : Answer) → BringBackCall s t e (take (a .value) after) before2 after2 b → length before2 < length d → RefusedWith 14 5 0 before2 after2 b
+  pub image-beyond-levels : (d : List ℕ) → Conforming (tableOf s) d → (before after : List ℕ) (a : Answer) → CarryCall s t e d before after a
+      → length d ≤ maxLength → levelsIn d ≤ maxLevels → maxLevels < levelsIn (imageOf s t e d) → RefusedWith 12 5 0 before after a
+  pub image-beyond-length : (d : List ℕ) → Conforming (tableOf s) d → (before after : List ℕ) (a : Answer) → CarryCall s t e d before after a
+      → length d ≤ maxLength → levelsIn (imageOf s t e d) ≤ maxLevels → maxLength < length (imageOf s t e d) → RefusedWith 13 5 0 before after a
+  pub source-beyond-length : (d : List ℕ) → Conforming (tableOf s) d → (before after : List ℕ) (a : Answer) → CarryCall s t e d before after a
+      → maxLength < length d → RefusedWith 1 4 0 before after a
+  pub source-beyond-levels : (d : List ℕ) → Conforming (tableOf s) d → (before after : List ℕ) (a : Answer) → CarryCall s t e d before after a
+      → length d ≤ maxLength → maxLevels < levelsIn d → (at : ℕ) × (treeLevels d ≡ fails at) × RefusedWith 3 4 at before after a
 
 -- ---- refusals are not 0
 
@@ -111,6 +111,14 @@ accepts (accepted v f) e = (v, f, refl)
 refusal-is : (a : Answer) (r : Result) → numbers a ≡ answerOf r → a .refusal ≡ answerOf r .refusal
 refusal-is a r e = ap (λ (n : model.Answer). n .refusal) e
 
+-- so a call accepts where the model does, and only there
+call-accepts : (a : Answer) (r : Result) → numbers a ≡ answerOf r → a .refusal ≡ 0 → (v : ℕ) × (f : ℕ) × (r ≡ accepted v f)
+call-accepts a r e zero = accepts r (sym (refusal-is a r e) ∙ zero)
+
+accepted-is-zero : (a : Answer) (r : Result) {v f : ℕ} → numbers a ≡ answerOf r → r ≡ accepted v f → a .refusal ≡ 0
+unfolding answerOf
+accepted-is-zero a r e is = refusal-is a r e ∙ ap (λ (q : Result). answerOf q .refusal) is
+
 -- ---- what a call did, where the model's outcome is known
 
 wrote : (doc : List ℕ) (filler : ℕ) (before after : List ℕ) (a : Answer) {o : Outcome} → Answers o after a
@@ -125,21 +133,25 @@ wrote doc filler before after a {o} h is =
       is-written = h .same-output ∙ ap (λ (p : Outcome). p .output) is;
     }
 
-no-room : (before after : List ℕ) (a : Answer) {o : Outcome} → Answers o after a → o ≡ record { result = refused output-too-short; output = before } → NoRoom before after a
-unfolding answerOf numbersOf documentNumber
-no-room before after a {o} h is =
-    let same : numbers a ≡ answerOf (refused output-too-short) = h .same-answer ∙ ap (λ (p : Outcome). answerOf (p .result)) is in
+refused-with : (before after : List ℕ) (a : Answer) {o : Outcome} (why : Refusal) → Answers o after a → o ≡ record { result = refused why; output = before }
+    → RefusedWith (numbersOf why .number) (numbersOf why .document) (numbersOf why .mark) before after a
+unfolding answerOf
+refused-with before after a {o} why h is =
+    let same : numbers a ≡ answerOf (refused why) = h .same-answer ∙ ap (λ (p : Outcome). answerOf (p .result)) is in
     record {
       is-number = ap (λ (n : model.Answer). n .refusal) same;
-      is-output = ap (λ (n : model.Answer). n .document) same;
+      is-document = ap (λ (n : model.Answer). n .document) same;
+      is-mark = ap (λ (n : model.Answer). n .mark) same;
       unchanged = h .same-output ∙ ap (λ (p : Outcome). p .output) is;
     }
 
-is-refused : (before after : List ℕ) (a : Answer) {o : Outcome} (why : Refusal) → Answers o after a → o ≡ record { result = refused why; output = before } → (a .refusal ≡ 0 → ⊥) × (after ≡ before)
-unfolding answerOf
-is-refused before after a why h is =
-    let same : a .refusal ≡ numbersOf why .number = ap (λ (n : model.Answer). n .refusal) (h .same-answer ∙ ap (λ (p : Outcome). answerOf (p .result)) is) in
-    (λ zero. refusal-number why (sym same ∙ zero), h .same-output ∙ ap (λ (p : Outcome). p .output) is)
+no-room : (before after : List ℕ) (a : Answer) {o : Outcome} → Answers o after a → o ≡ record { result = refused output-too-short; output = before } → RefusedWith 14 5 0 before after a
+unfolding numbersOf documentNumber
+no-room before after a h is = refused-with before after a output-too-short h is
+
+-- what was refused is not accepted
+not-accepted : (before after : List ℕ) (a : Answer) {o : Outcome} (why : Refusal) → Answers o after a → o ≡ record { result = refused why; output = before } → a .refusal ≡ 0 → ⊥
+not-accepted before after a why h is zero = refusal-number why (sym (refused-with before after a why h is .is-number) ∙ zero)
 
 -- a document that was written is what stands at the start
 written-is : {doc before after : List ℕ} {filler : ℕ} {a : Answer} → Wrote doc filler before after a → take (a .value) after ≡ doc
@@ -156,19 +168,25 @@ module _ (s t e : List ℕ) (demand : DemandThree s t e) (d : List ℕ) (c : Con
   carried : (before after : List ℕ) (a : Answer) → CarryCall s t e d before after a → a .refusal ≡ 0
       → (levelsIn (imageOf s t e d) ≤ maxLevels) × (length (imageOf s t e d) ≤ maxLength) × Wrote (imageOf s t e d) (fillerOf s t e d) before after a
   carried before after a call accepted-call =
-      elim (decLe (levelsIn (imageOf s t e d)) maxLevels) [
-        | yes low ↦ elim (decLe (length (imageOf s t e d)) maxLength) [
-          | yes short ↦ elim (decLe (length (imageOf s t e d)) (length before)) [
-            | yes room ↦ (low, short, wrote _ _ before after a call (demand .carry-writes d c low short before room))
-            | no less ↦ absurd (is-refused before after a _ call (demand .carry-needs-room d c low short before (lt-of-not-le less)) .0 accepted-call)
+      elim (decLe (length d) maxLength) [
+        | yes few ↦ elim (decLe (levelsIn d) maxLevels) [
+          | yes flat ↦ elim (decLe (levelsIn (imageOf s t e d)) maxLevels) [
+            | yes low ↦ elim (decLe (length (imageOf s t e d)) maxLength) [
+              | yes short ↦ elim (decLe (length (imageOf s t e d)) (length before)) [
+                | yes room ↦ (low, short, wrote _ _ before after a call (demand .carry-writes d c low short before room))
+                | no less ↦ absurd (refutes (demand .carry-needs-room d c low short before (lt-of-not-le less)))
+              ]
+              | no long ↦ absurd (refutes (demand .image-beyond-length d c before few low (lt-of-not-le long)))
+            ]
+            | no high ↦ absurd (refutes (demand .image-beyond-levels d c before few flat (lt-of-not-le high)))
           ]
-          | no long ↦ absurd (far (inr (lt-of-not-le long)))
+          | no high ↦ absurd (refutes (demand .source-beyond-levels d c before few (lt-of-not-le high) .2))
         ]
-        | no high ↦ absurd (far (inl (lt-of-not-le high)))
+        | no long ↦ absurd (refutes (demand .source-beyond-length d c before (lt-of-not-le long)))
       ]
     where
-      far : (maxLevels < levelsIn (imageOf s t e d)) ⊎ (maxLength < length (imageOf s t e d)) → ⊥
-      far beyond = let it = demand .beyond-limits d c before beyond in is-refused before after a (it .0) call (it .1) .0 accepted-call
+      refutes : {why : Refusal} → carry s t e d before ≡ record { result = refused why; output = before } → ⊥
+      refutes {why} is = not-accepted before after a why call is accepted-call
 
   -- bring back of what it wrote is bring back of the image
   handed-on : (before after : List ℕ) (a : Answer) → CarryCall s t e d before after a → a .refusal ≡ 0 → take (a .value) after ≡ imageOf s t e d
@@ -182,7 +200,7 @@ module _ (s t e : List ℕ) (demand : DemandThree s t e) (d : List ℕ) (c : Con
       (demand .bring-back-returns d c (it .0) (it .1) before2 room)
 
   not-returned : (before after : List ℕ) (a : Answer) → CarryCall s t e d before after a → a .refusal ≡ 0
-      → (before2 after2 : List ℕ) (b : Answer) → BringBackCall s t e (take (a .value) after) before2 after2 b → length before2 < length d → NoRoom before2 after2 b
+      → (before2 after2 : List ℕ) (b : Answer) → BringBackCall s t e (take (a .value) after) before2 after2 b → length before2 < length d → RefusedWith 14 5 0 before2 after2 b
   not-returned before after a call accepted-call before2 after2 b back less =
       let it = carried before after a call accepted-call in
       no-room before2 after2 b (subst (λ (tr : List ℕ). BringBackCall s t e tr before2 after2 b) (handed-on before after a call accepted-call) back)
@@ -190,14 +208,11 @@ module _ (s t e : List ℕ) (demand : DemandThree s t e) (d : List ℕ) (c : Con
 
 -- an answer of lafindry_judge_embedding that accepts
 accepted-call : (s t e : List ℕ) (a : Answer) → JudgeEmbeddingCall s t e a → a .refusal ≡ 0 → AcceptedEmbedding s t e
-unfolding judgeEmbedding unlessFaulty
-accepted-call s t e a call zero =
-    let it = accepts (judgeEmbedding s t e) (sym (refusal-is a (judgeEmbedding s t e) call) ∙ zero) in
-    let j : Judges s t e = judges-accept s t e (it .2) in
-    (edgeCount (tableOf s), rw (j .source-sound, j .target-sound, j .embedding-sound) refl)
+accepted-call s t e a call zero = judges-are-all s t e (judges-accept s t e (call-accepts a (judgeEmbedding s t e) call zero .2))
 
 -- Demand 3, for any tables and embedding that a call of lafindry_judge_embedding accepts.
 pub program-demand-three : (s t e : List ℕ) (a : Answer) → JudgeEmbeddingCall s t e a → a .refusal ≡ 0 → ProgramDemandThree s t e
+unfolding numbersOf faultNumber faultMark documentNumber
 program-demand-three s t e a call zero =
     let demand = demand-three s t e (accepted-call s t e a call zero) in
     record {
@@ -207,7 +222,11 @@ program-demand-three s t e a call zero =
       carry-needs-room = λ d c low short before after b h less. no-room before after b h (demand .carry-needs-room d c low short before less);
       returns = returned s t e demand;
       return-needs-room = not-returned s t e demand;
-      beyond-limits = λ d c before after b h beyond. let it = demand .beyond-limits d c before beyond in is-refused before after b (it .0) h (it .1);
+      image-beyond-levels = λ d c before after b h few flat high. refused-with before after b image-too-deep h (demand .image-beyond-levels d c before few flat high);
+      image-beyond-length = λ d c before after b h few low long. refused-with before after b image-too-long h (demand .image-beyond-length d c before few low long);
+      source-beyond-length = λ d c before after b h long. refused-with before after b (faulty tree too-long) h (demand .source-beyond-length d c before long);
+      source-beyond-levels = λ d c before after b h few high.
+          let it = demand .source-beyond-levels d c before few high in (it .0, it .1, refused-with before after b (faulty tree (over-limit (it .0))) h (it .2));
     }
 
 -- ---- demand 1: a refusal changes no byte of the output, whatever the bytes
@@ -261,6 +280,31 @@ refused-carry-keeps-output s t e tr before after a call = kept before after a _ 
 pub refused-bring-back-keeps-output : (s t e tr before after : List ℕ) (a : Answer) → BringBackCall s t e tr before after a → (a .refusal ≡ 0 → ⊥) → after ≡ before
 refused-bring-back-keeps-output s t e tr before after a call = kept before after a _ call (keeps-bring-back s t e tr before)
 
+-- ---- demand 2: a document is accepted exactly when it is valid
+
+-- A call of lafindry_judge_table accepts exactly what a valid table writes.
+pub accepts-tables-exactly : (t : List ℕ) (a : Answer) → JudgeTableCall t a → (a .refusal ≡ 0) ↔ WrittenBy ValidTable tableBytes t
+accepts-tables-exactly t a call = (
+  λ zero. tables-exactly t .0 (table-is-accepted t (judge-accepts t (call-accepts a (judgeTable t) call zero .2))),
+  λ w. accepted-is-zero a (judgeTable t) call (tables-exactly t .1 w .1),
+)
+
+-- A call of lafindry_judge_embedding accepts exactly a valid embedding between two valid tables.
+pub accepts-embeddings-exactly : (s t e : List ℕ) (a : Answer) → JudgeEmbeddingCall s t e a
+    → (a .refusal ≡ 0) ↔ (WrittenBy ValidTable tableBytes s × WrittenBy ValidTable tableBytes t × WrittenBy (ValidEmbedding (tableOf s) (tableOf t)) embeddingBytes e)
+accepts-embeddings-exactly s t e a call = (
+  λ zero. embeddings-exactly s t e .0 (accepted-call s t e a call zero),
+  λ w. accepted-is-zero a (judgeEmbedding s t e) call (embeddings-exactly s t e .1 w .1),
+)
+
+-- A call of lafindry_judge_tree accepts exactly a valid tree by a valid table.
+pub accepts-trees-exactly : (t tr : List ℕ) (a : Answer) → JudgeTreeCall t tr a
+    → (a .refusal ≡ 0) ↔ (WrittenBy ValidTable tableBytes t × WrittenBy (ValidTree (tableOf t)) (document 0) tr)
+accepts-trees-exactly t tr a call = (
+  λ zero. let j = tree-judged t tr (call-accepts a (judgeTree t tr) call zero .2) in trees-exactly t tr .0 (tree-is-accepted t tr (j .0) (j .1)),
+  λ w. accepted-is-zero a (judgeTree t tr) call (trees-exactly t tr .1 w .1),
+)
+
 -- ---- demand 2: 15 exactly when there is no source
 
 not-fifteen : (f : Fault) → faultNumber f ≡ 15 → ⊥
@@ -291,46 +335,33 @@ is-fifteen : (r : Result) → r ≡ refused no-image → answerOf r .refusal ≡
 unfolding answerOf numbersOf
 is-fifteen r e = rw e refl
 
--- an answer of lafindry_judge_tree that accepts
-accepted-tree-call : (t tr : List ℕ) (a : Answer) → JudgeTreeCall t tr a → a .refusal ≡ 0 → AcceptedTree t tr
-unfolding judgeTree unlessFaulty
-accepted-tree-call t tr a call zero =
-    let it = accepts (judgeTree t tr) (sym (refusal-is a (judgeTree t tr) call) ∙ zero) in
-    let first = past-judge source-table (judgedTable t) _ (it .2) in
-    let second = past-judge tree (judgedTree (tableOf t) tr) _ (first .1) in
-    (1 + elements (contentOf tr), rw (first .0, second .0) refl)
-
--- For tables and an embedding that a call of lafindry_judge_embedding accepts, and a tree that a call of lafindry_judge_tree with
--- the target table accepts: a call of lafindry_bring_back answers 15 exactly when no conforming source document has the tree as
--- its image.
-pub answers-15-exactly : (s t e tr : List ℕ) (a b c : Answer) → JudgeEmbeddingCall s t e a → a .refusal ≡ 0 → JudgeTreeCall t tr b → b .refusal ≡ 0
-    → (before after : List ℕ) → BringBackCall s t e tr before after c → (c .refusal ≡ 15) ↔ ((d : List ℕ) → Conforming (tableOf s) d → imageOf s t e d ≡ tr → ⊥)
-answers-15-exactly s t e tr a b c embedding-call zero tree-call zero2 before after call =
-    let exactly = refused-15-exactly s t e (accepted-call s t e a embedding-call zero) tr (accepted-tree-call t tr b tree-call zero2) before in
-    let same : c .refusal ≡ answerOf (bringBack s t e tr before .result) .refusal = refusal-is c _ (call .same-answer) in
+-- For any bytes a call of lafindry_bring_back answers 15 exactly when tables, embedding and tree are accepted and no conforming source
+-- document has the tree as its image.
+pub answers-15-exactly : (s t e tr before after : List ℕ) (a : Answer) → BringBackCall s t e tr before after a
+    → (a .refusal ≡ 15) ↔ (AcceptedEmbedding s t e × AcceptedTree t tr × NoSource s t e tr)
+answers-15-exactly s t e tr before after a call =
+    let exactly = refused-15-exactly s t e tr before in
+    let same : a .refusal ≡ answerOf (bringBack s t e tr before .result) .refusal = refusal-is a _ (call .same-answer) in
     (λ h. exactly .0 (fifteen _ (sym same ∙ h)), λ none-has. same ∙ is-fifteen _ (exactly .1 none-has))
 
 -- ---- numbers in decimal (02, N2)
 
-abbrev pub DecimalCall : ℕ → List ℕ → List ℕ → ℕ → Type 0
-DecimalCall n before after r = DecimalWritten n before after r
-
 -- A number has one decimal form (statement 15). A call of lafindry_decimal leaves its bytes at the start of the output, later bytes
 -- as they were, and answers how many they are, exactly when the output is long enough. If not, it answers 0 and no byte changes.
 pub record DecimalDemand (n : ℕ) (text : List ℕ) : Type 0 where
-  pub writes : (before after : List ℕ) (r : ℕ) → DecimalCall n before after r → length text ≤ length before → (after ≡ text ++ drop (length text) before) × (r ≡ length text)
-  pub needs-room : (before after : List ℕ) (r : ℕ) → DecimalCall n before after r → length before < length text → (after ≡ before) × (r ≡ 0)
+  pub writes : (before after : List ℕ) (r : ℕ) → DecimalWritten n before after r → length text ≤ length before → (after ≡ text ++ drop (length text) before) × (r ≡ length text)
+  pub needs-room : (before after : List ℕ) (r : ℕ) → DecimalWritten n before after r → length before < length text → (after ≡ before) × (r ≡ 0)
 
 module _ (n : ℕ) (text : List ℕ) (form : DecimalText n text) where
   -- what a call has written, or had no room for, is that text
   is-text : {other : List ℕ} → DecimalText n other → other ≡ text
   is-text {other} f = decimal-text-unique n other text f form
 
-  writes-decimal : (before after : List ℕ) (r : ℕ) → DecimalCall n before after r → length text ≤ length before → (after ≡ text ++ drop (length text) before) × (r ≡ length text)
+  writes-decimal : (before after : List ℕ) (r : ℕ) → DecimalWritten n before after r → length text ≤ length before → (after ≡ text ++ drop (length text) before) × (r ≡ length text)
   writes-decimal before after r (with-room f fits same long) room = rw (sym (is-text f)) (same, long)
   writes-decimal before after r (without-room f less same zero) room = absurd (omega (arith, less, ap length (is-text f)))
 
-  keeps-decimal : (before after : List ℕ) (r : ℕ) → DecimalCall n before after r → length before < length text → (after ≡ before) × (r ≡ 0)
+  keeps-decimal : (before after : List ℕ) (r : ℕ) → DecimalWritten n before after r → length before < length text → (after ≡ before) × (r ≡ 0)
   keeps-decimal before after r (with-room f fits same long) few = absurd (omega (arith, fits, ap length (is-text f)))
   keeps-decimal before after r (without-room f less same zero) few = (same, zero)
 

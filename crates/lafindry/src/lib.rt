@@ -1,14 +1,12 @@
 // The entries that a C program calls, each on any bytes. include/lafindry.h declares them.
-ghost use mathlib.Core.Path.{_≡_};
 ghost use Rattle.model.specs.Definitions.Decimal.{DecimalWritten};
-ghost use Rattle.model.specs.Definitions.Entries as model;
-ghost use Rattle.answer_numbers.specs.Numbers.{numbers};
+ghost use Rattle.lafindry.specs.Calls.{JudgeTableCall, JudgeEmbeddingCall, JudgeTreeCall, CarryCall, BringBackCall};
 use answer_numbers::Answer;
 
 // Judges a table: number of types.
 #[no_mangle]
 pub extern "C" fn lafindry_judge_table(table: &[u8]) -> Answer
-    ensures { λ r. ⌜ numbers r ≡ model.answerOf (model.judgeTable (now (table .entry))) ⌝ }
+    ensures { λ r. ⌜ JudgeTableCall (now (table .entry)) r ⌝ }
 {
     judge_entries::judge_table(table)
 }
@@ -16,7 +14,7 @@ pub extern "C" fn lafindry_judge_table(table: &[u8]) -> Answer
 // Judges an embedding, after both tables: number of edges.
 #[no_mangle]
 pub extern "C" fn lafindry_judge_embedding(source: &[u8], target: &[u8], embedding: &[u8]) -> Answer
-    ensures { λ r. ⌜ numbers r ≡ model.answerOf (model.judgeEmbedding (now (source .entry)) (now (target .entry)) (now (embedding .entry))) ⌝ }
+    ensures { λ r. ⌜ JudgeEmbeddingCall (now (source .entry)) (now (target .entry)) (now (embedding .entry)) r ⌝ }
 {
     judge_entries::judge_embedding(source, target, embedding)
 }
@@ -24,7 +22,7 @@ pub extern "C" fn lafindry_judge_embedding(source: &[u8], target: &[u8], embeddi
 // Judges a tree, after its table: number of elements.
 #[no_mangle]
 pub extern "C" fn lafindry_judge_tree(table: &[u8], tree: &[u8]) -> Answer
-    ensures { λ r. ⌜ numbers r ≡ model.answerOf (model.judgeTree (now (table .entry)) (now (tree .entry))) ⌝ }
+    ensures { λ r. ⌜ JudgeTreeCall (now (table .entry)) (now (tree .entry)) r ⌝ }
 {
     judge_entries::judge_tree(table, tree)
 }
@@ -38,8 +36,7 @@ pub extern "C" fn lafindry_carry<'a>(
     tree: &'a [u8],
     output: &mut [u8],
 ) -> Answer
-    ensures answer { λ r. ⌜ numbers r ≡ model.answerOf (model.carry (now (source .entry)) (now (target .entry)) (now (embedding .entry)) (now (tree .entry)) (now (output .entry)) .result) ⌝ }
-    ensures output { λ r. ⌜ now (output .exit) ≡ model.carry (now (source .entry)) (now (target .entry)) (now (embedding .entry)) (now (tree .entry)) (now (output .entry)) .output ⌝ }
+    ensures { λ r. ⌜ CarryCall (now (source .entry)) (now (target .entry)) (now (embedding .entry)) (now (tree .entry)) (now (output .entry)) (now (output .exit)) r ⌝ }
 {
     carry_entry::carry(source, target, embedding, tree, output)
 }
@@ -53,8 +50,7 @@ pub extern "C" fn lafindry_bring_back<'a>(
     tree: &'a [u8],
     output: &mut [u8],
 ) -> Answer
-    ensures answer { λ r. ⌜ numbers r ≡ model.answerOf (model.bringBack (now (source .entry)) (now (target .entry)) (now (embedding .entry)) (now (tree .entry)) (now (output .entry)) .result) ⌝ }
-    ensures output { λ r. ⌜ now (output .exit) ≡ model.bringBack (now (source .entry)) (now (target .entry)) (now (embedding .entry)) (now (tree .entry)) (now (output .entry)) .output ⌝ }
+    ensures { λ r. ⌜ BringBackCall (now (source .entry)) (now (target .entry)) (now (embedding .entry)) (now (tree .entry)) (now (output .entry)) (now (output .exit)) r ⌝ }
 {
     bring_entry::bring_back(source, target, embedding, tree, output)
 }

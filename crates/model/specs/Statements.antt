@@ -19,29 +19,39 @@ use Rattle.model.specs.Definitions.TableChecks.{tableForm, tableOperands
 use Rattle.model.specs.Definitions.Content.{Content, end, elem, bytes, document, contentOf, levels}
 use Rattle.model.specs.Definitions.Characters.{CharacterClass, Ascii, Accented, Classed, characterClass, allowed}
 use Rattle.model.specs.Definitions.Conformance.{Holds, Conforming, Instance, conforms}
-use Rattle.model.specs.Definitions.TreeChecks.{treeForm, treeOperands, treeExpected, maxLevels}
+use Rattle.model.specs.Definitions.TreeChecks.{treeForm, treeLevels, treeOperands, treeExpected, maxLevels}
 use Rattle.model.specs.Definitions.Filler.{content, known, fillers}
 use Rattle.model.specs.Definitions.Image.{Setting, image, imageBy, imageLevels, imageLength, imageFiller}
 use Rattle.model.specs.Definitions.Templates.{Hole, template, fillerRow, fillerBytes, filledRow, writes, firstIn, heldBy, ownLength, ownFiller, ownLevels, sumLength, sumFiller, deepest}
-use Rattle.model.specs.Definitions.Embedding.{targetOf, pathsOf, firstPath, next, beforeChoice}
-use Rattle.model.specs.Definitions.EmbeddingChecks.{leavesOnly, sequenceOrList, optionalFirst, rightSteps}
+use Rattle.model.specs.Definitions.Embedding.{embeddingOf, targetOf, pathsOf, firstPath, next, beforeChoice}
+use Rattle.model.specs.Definitions.EmbeddingChecks.{embeddingForm, embeddingOperands, leavesOnly, sequenceOrList, optionalFirst, rightSteps}
+use Rattle.model.specs.Definitions.ValidTable.{ValidTable, tableBytes}
+use Rattle.model.specs.Definitions.ValidEmbedding.{PathMapping, mappingOf, ValidEmbedding, embeddingBytes}
+use Rattle.model.specs.Definitions.Marks.{TableMarks, EmbeddingMarks, TreeMarks, LowestWithout, PathMarks}
+use Rattle.model.specs.Definitions.Valid.{WrittenBy, ValidTree}
 use Rattle.model.specs.Definitions.Inverse.{follow, readTo, readBack}
 use Rattle.model.specs.Definitions.SingleItems.{singleItems}
-use Rattle.model.specs.Definitions.Refusals.{wrong-steps, embedding, Refusal, faulty, output-too-short, no-image, maxLength}
+use Rattle.model.specs.Definitions.Refusals.{wrong-steps, too-long, over-limit, embedding, tree, faulty, output-too-short, no-image, image-too-deep, image-too-long, maxLength}
 use Rattle.model.specs.Definitions.Decimal.{DecimalForm, DecimalText}
 use Rattle.model.specs.Definitions.Lines.{AnswerLine}
-use Rattle.model.specs.Definitions.Entries.{Answer, accepted, refused, judgeEmbedding, settingOf, carry, bringWithin, bringBack}
+use Rattle.model.specs.Definitions.Entries.{Answer, accepted, refused, judgeEmbedding, settingOf, untouched, carry, bringWithin, bringBack}
 use Rattle.model.specs.Computing.{definitions}
 use Rattle.model.specs.Examples.{choiceOfEmpty, listedTable, listedEmbedding, listedImage, memberTable, memberListsTable, memberListsEmbedding, memberContent, memberImage}
 use Rattle.model.specs.Theorems.Tools.{and-right}
 use Rattle.model.specs.Theorems.Characters.{class-exactly, allowed-values}
 use Rattle.model.specs.Theorems.Decimal.{has-form, form-unique, text-unique, text-of-one, answer-line-unique}
 use Rattle.model.specs.Theorems.Conforms.{holds-conforms, conforms-holds}
-use Rattle.model.specs.Theorems.Documents.{document-injective, checks-conforming, conforming-checks}
+use Rattle.model.specs.Theorems.Documents.{document-injective, content-of-document, checks-conforming, conforming-checks}
 use Rattle.model.specs.Theorems.Expected.{UnexpectedCommand, unexpected-command}
-use Rattle.model.specs.Theorems.HeightLaws.{Solves, heights-solve, heights-least, instance-finite, LowestEndless, endless-lowest}
+use Rattle.model.specs.Theorems.HeightLaws.{Solves, heights-solve, heights-least, instance-finite}
 use Rattle.model.specs.Theorems.FillerLaws.{filler-conforms, filler-levels, has-instance, instance-of}
 use Rattle.model.specs.Theorems.JudgedTables.{table-sound, table-well-formed}
+use Rattle.model.specs.Theorems.ValidTables.{table-of-bytes, valid-table-short}
+use Rattle.model.specs.Theorems.EmbeddingBytes.{mapping-of-bytes, path-stands, offsets-rise}
+use Rattle.model.specs.Theorems.DocumentMarks.{table-marks, embedding-marks, tree-marks, endless-mark}
+use Rattle.model.specs.Theorems.PathChecks.{ends-mark, steps-mark, clash-mark}
+use Rattle.model.specs.Theorems.ValidEmbeddings.{paths-walked, valid-embedding-short}
+use Rattle.model.specs.Theorems.Accepted.{table-accepted-exactly, embedding-accepted-exactly, tree-accepted-exactly}
 use Rattle.model.specs.Theorems.ReadBack.{first-item}
 use Rattle.model.specs.Theorems.ReadConforms.{nothing-exactly}
 use Rattle.model.specs.Theorems.Measures.{image-levels, image-length, marked, unmarked, countFiller, marked-is-image, marked-filler}
@@ -49,9 +59,9 @@ use Rattle.model.specs.Theorems.Templates.{filler-written, write-image, 
 use Rattle.model.specs.Theorems.TemplateSizes.{image-length-rows, image-filler-rows, image-levels-rows}
 use Rattle.model.specs.Theorems.BringingBack.{read-conforms}
 use Rattle.model.specs.Theorems.EntryLaws.{judges-accept, judge-accepts, judges-valid}
-use Rattle.model.specs.Theorems.Terms.{AcceptedTable, AcceptedEmbedding, AcceptedTree, imageOf, fillerOf, levelsIn}
-use Rattle.model.specs.Theorems.OnBytes.{conforming-content, conform, equal-exactly, read-gives-back, single-on-paths, shorter, refused-15, brought, brought-only, carried, not-carried, brought-back, not-brought-back, carry-beyond}
-use Rattle.model.specs.Theorems.JudgedEmbeddings.{judgedWith}
+use Rattle.model.specs.Theorems.Terms.{AcceptedTable, AcceptedEmbedding, AcceptedTree, imageOf, fillerOf, levelsIn, NoSource}
+use Rattle.model.specs.Theorems.OnBytes.{conforming-content, conform, equal-exactly, read-gives-back, single-on-paths, shorter, refused-15, brought, brought-only, carried, not-carried, brought-back, not-brought-back, beyond-image-levels, beyond-image-bytes, beyond-source-bytes, beyond-source-levels}
+use Rattle.model.specs.Theorems.JudgedEmbeddings.{judgedWith, form-holds}
 use Rattle.model.specs.Theorems.StepRules.{judgeEmbeddingWith, stepsBy, judgedBy, AnsweredBy, answered-by-rule, answered-too}
 use Rattle.model.specs.Theorems.RulesNeeded.{PrefixRuleTooWeak, prefix-rule-too-weak, FirstMemberEndless, first-member-endless}
 
@@ -89,10 +99,6 @@ pub instance-exactly : (t : List ℕ) → tableForm t ≡ passes → tableOperan
     → (τ : ℕ) → τ < length (tableOf t) → (hasInstance (tableOf t) τ ≡ true) ↔ Instance (tableOf t) τ
 instance-exactly t form operands repeats τ exists =
     (has-instance (tableOf t) (table-well-formed t form operands repeats) τ exists, instance-finite (tableOf t) τ)
-
--- So its mark is the lowest type of which no conforming element exists.
-pub mark-of-endless : (t : List ℕ) (τ : ℕ) → endlessType (tableOf t) ≡ fails τ → LowestEndless (tableOf t) τ
-mark-of-endless t τ = endless-lowest (tableOf t) τ
 
 -- Heights satisfy 01's equations, and no other solution has a smaller number anywhere.
 pub heights-are-least : (t : List ℕ) → AcceptedTable t
@@ -134,13 +140,13 @@ never-longer = shorter
 
 -- ---- 7. no image
 
--- For an accepted target document: bring back refuses with 15 exactly when no conforming source document has it as its
--- image, whatever the output.
-pub refused-15-exactly : (s t e : List ℕ) → AcceptedEmbedding s t e → (tr : List ℕ) → AcceptedTree t tr → (out : List ℕ)
-    → (bringBack s t e tr out .result ≡ refused no-image) ↔ ((d : List ℕ) → Conforming (tableOf s) d → imageOf s t e d ≡ tr → ⊥)
+-- For any bytes: bring back refuses with 15 exactly when tables, embedding and tree are accepted and no conforming source document
+-- has the tree as its image, whatever the output.
+pub refused-15-exactly : (s t e tr out : List ℕ)
+    → (bringBack s t e tr out .result ≡ refused no-image) ↔ (AcceptedEmbedding s t e × AcceptedTree t tr × NoSource s t e tr)
 refused-15-exactly = refused-15
 
--- And where some conforming source document has it as its image, that one is brought back, if there is room for it.
+-- Where some conforming source document has an accepted tree as its image, that one is brought back, if there is room for it.
 pub brings-the-source : (s t e : List ℕ) → AcceptedEmbedding s t e → (tr : List ℕ) → AcceptedTree t tr → (out d : List ℕ)
     → Conforming (tableOf s) d → imageOf s t e d ≡ tr → bringBack s t e tr out ≡ bringWithin out d (leb (length d) (length out))
 brings-the-source = brought
@@ -183,8 +189,10 @@ measures-agree X k =
 -- Images conform, and are equal exactly when the documents are. For an image of at most 128 levels and 60,000 bytes, and
 -- whatever the outputs held before: carry writes it at the start, leaves later bytes, and answers its length and its
 -- number of filler elements exactly when the output is long enough, else 14 with the output unchanged; bringing it
--- back writes the source's bytes and answers their length exactly when that output is long enough. Where the image has
--- more levels or more bytes, carry is refused.
+-- back writes the source's bytes and answers their length exactly when that output is long enough. For a document of at most 60,000
+-- bytes and 128 levels whose image has more: carry answers 12 where the image has a 129th level, and 13 where only its length is
+-- beyond. A longer document is refused with 1, and a deeper one with 3, at the mark that the check of levels gives. No refusal changes
+-- the output.
 pub record DemandThree (s t e : List ℕ) : Type 0 where
   pub conforming : (d : List ℕ) → Conforming (tableOf s) d → Conforming (tableOf t) (imageOf s t e d)
   pub distinct : (d f : List ℕ) → Conforming (tableOf s) d → Conforming (tableOf s) f → (imageOf s t e d ≡ imageOf s t e f) ↔ (d ≡ f)
@@ -200,11 +208,17 @@ pub record DemandThree (s t e : List ℕ) : Type 0 where
   pub bring-back-needs-room : (d : List ℕ) → Conforming (tableOf s) d → levelsIn (imageOf s t e d) ≤ maxLevels → length (imageOf s t e d) ≤ maxLength
       → (out : List ℕ) → length out < length d
       → bringBack s t e (imageOf s t e d) out ≡ record { result = refused output-too-short; output = out }
-  pub beyond-limits : (d : List ℕ) → Conforming (tableOf s) d → (out : List ℕ)
-      → (maxLevels < levelsIn (imageOf s t e d)) ⊎ (maxLength < length (imageOf s t e d))
-      → (why : Refusal) × (carry s t e d out ≡ record { result = refused why; output = out })
+  pub image-beyond-levels : (d : List ℕ) → Conforming (tableOf s) d → (out : List ℕ) → length d ≤ maxLength → levelsIn d ≤ maxLevels
+      → maxLevels < levelsIn (imageOf s t e d) → carry s t e d out ≡ record { result = refused image-too-deep; output = out }
+  pub image-beyond-length : (d : List ℕ) → Conforming (tableOf s) d → (out : List ℕ) → length d ≤ maxLength
+      → levelsIn (imageOf s t e d) ≤ maxLevels → maxLength < length (imageOf s t e d) → carry s t e d out ≡ record { result = refused image-too-long; output = out }
+  pub source-beyond-length : (d : List ℕ) → Conforming (tableOf s) d → (out : List ℕ)
+      → maxLength < length d → carry s t e d out ≡ record { result = refused (faulty tree too-long); output = out }
+  pub source-beyond-levels : (d : List ℕ) → Conforming (tableOf s) d → (out : List ℕ) → length d ≤ maxLength
+      → maxLevels < levelsIn d → (at : ℕ) × (treeLevels d ≡ fails at) × (carry s t e d out ≡ record { result = refused (faulty tree (over-limit at)); output = out })
 
 pub demand-three : (s t e : List ℕ) → AcceptedEmbedding s t e → DemandThree s t e
+unfolding untouched
 demand-three s t e a =
     record {
       conforming = conform s t e a;
@@ -213,7 +227,10 @@ demand-three s t e a =
       carry-needs-room = not-carried s t e a;
       bring-back-returns = brought-back s t e a;
       bring-back-needs-room = not-brought-back s t e a;
-      beyond-limits = carry-beyond s t e a;
+      image-beyond-levels = beyond-image-levels s t e a;
+      image-beyond-length = beyond-image-bytes s t e a;
+      source-beyond-length = beyond-source-bytes s t e a;
+      source-beyond-levels = beyond-source-levels s t e a;
     }
 
 -- ---- 11. rules that are needed
@@ -361,3 +378,69 @@ decimal-text-of-one = text-of-one
 -- The word for acceptance, the numbers told then and the answer determine the line.
 pub one-line : (word ns : List ℕ) (a : Answer) (bs cs : List ℕ) → AnswerLine word ns a bs → AnswerLine word ns a cs → bs ≡ cs
 one-line = answer-line-unique
+
+-- ---- 16. accepted exactly when valid
+
+-- A byte string is accepted as a table exactly when a valid table writes it.
+pub tables-exactly : (bs : List ℕ) → AcceptedTable bs ↔ WrittenBy ValidTable tableBytes bs
+tables-exactly = table-accepted-exactly
+
+-- As an embedding between two byte strings, exactly when valid tables write these, and a valid embedding between the two writes it.
+pub embeddings-exactly : (s t e : List ℕ)
+    → AcceptedEmbedding s t e ↔ (WrittenBy ValidTable tableBytes s × WrittenBy ValidTable tableBytes t × WrittenBy (ValidEmbedding (tableOf s) (tableOf t)) embeddingBytes e)
+embeddings-exactly = embedding-accepted-exactly
+
+-- As a tree by another, exactly when a valid table writes that, and what a valid tree's root holds writes it.
+pub trees-exactly : (t d : List ℕ) → AcceptedTree t d ↔ (WrittenBy ValidTable tableBytes t × WrittenBy (ValidTree (tableOf t)) (document 0) d)
+trees-exactly = tree-accepted-exactly
+
+-- Reading what was written gives it back.
+pub record ReadBack : Type 0 where
+  pub table-read : (T : Table) → tableOf (tableBytes T) ≡ T
+  pub embedding-read : (M : PathMapping) → mappingOf (embeddingBytes M) ≡ M
+  pub tree-read : (t : ℕ) (k : Content) → contentOf (document t k) ≡ k
+
+pub written-is-read : ReadBack
+written-is-read = record { table-read = table-of-bytes; embedding-read = mapping-of-bytes; tree-read = content-of-document }
+
+-- The limit of 60,000 bytes refuses no valid table and no valid embedding: the longest have 2,113 and 25,729 bytes. A valid tree
+-- may be longer.
+pub tables-short : (T : Table) → ValidTable T → length (tableBytes T) ≤ 2113
+tables-short = valid-table-short
+
+pub embeddings-short : (S T : Table) (M : PathMapping) → ValidTable S → ValidEmbedding S T M → length (embeddingBytes M) ≤ 25729
+embeddings-short S T M table valid = valid-embedding-short S T M valid table
+
+-- ---- 17. marks
+
+-- A check of commands, 2 to 5 and 11, fails at an offset exactly where the bytes before it are commands that the check's machine takes, one
+-- after the other, and it refuses the command that stands there; or nothing stands there, and a document may not end so.
+pub marks-of-tables : (bs : List ℕ) → TableMarks bs
+marks-of-tables = table-marks
+
+pub marks-of-embeddings : (S T : Table) (bs : List ℕ) → EmbeddingMarks S T bs
+marks-of-embeddings = embedding-marks
+
+pub marks-of-trees : (S : Table) (bs : List ℕ) → TreeMarks S bs
+marks-of-trees = tree-marks
+
+-- In a table that passes checks 2 to 5, check 6 marks the lowest type of which no conforming element exists.
+pub mark-of-endless : (t : List ℕ) → tableForm t ≡ passes → tableOperands (length (tableOf t)) t ≡ passes → tableRepeats t ≡ passes
+    → (τ : ℕ) → (endlessType (tableOf t) ≡ fails τ) ↔ LowestWithout (tableOf t) τ
+mark-of-endless t form operands repeats = endless-mark (tableOf t) (table-well-formed t form operands repeats)
+
+-- In an embedding between accepted tables that passes checks 2 to 4, each of checks 8 to 10 marks the `21` of the first path, in the order
+-- of the document, that isn't as `ValidEmbedding` asks: that ends elsewhere, has wrong steps, or clashes with an earlier one.
+pub marks-of-paths : (s t e : List ℕ) → AcceptedTable t → embeddingForm (tableOf s) e ≡ passes → embeddingOperands (tableOf t) e ≡ passes → PathMarks (tableOf s) (tableOf t) e
+marks-of-paths s t e a form operands =
+    let S = tableOf s in
+    let T = tableOf t in
+    let counted = form-holds S e form in
+    let root = table-sound t (judge-accepts t (a .1)) .well-formed .has-root in
+    record {
+      ends = ends-mark S T (embeddingOf e) counted;
+      steps = steps-mark S T (embeddingOf e) counted (paths-walked S T e root operands);
+      clashes = clash-mark S T (embeddingOf e) counted;
+      stands-there = path-stands S e form;
+      in-order = offsets-rise S e form;
+    }

@@ -41,6 +41,17 @@ module _ {C S : Type 0} (width : C → ℕ) (step : S → C → Next S) (complet
   run s at [] = pick (complete s) passes (fails at)
   run s at (c ∷ cs) = proceed at (step s c) (λ next. run next (at + width c) cs)
 
+-- one answer, then what follows from the next state
+unfoldable pub followed : {S : Type 0} → Next S → (S → Next S) → Next S
+followed (goes s) onward = onward s
+followed stops onward = stops
+
+-- the state that a machine is in after all of some commands, where it takes each
+module _ {C S : Type 0} (step : S → C → Next S) where
+  unfoldable pub reach : S → List C → Next S
+  reach s [] = goes s
+  reach s (c ∷ cs) = followed (step s c) (λ next. reach next cs)
+
 -- a machine goes on to a state where a test passes
 unfoldable pub goesIf : {S : Type 0} → Bool → S → Next S
 goesIf true s = goes s

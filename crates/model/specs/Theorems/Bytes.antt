@@ -1,16 +1,15 @@
--- Bytes and commands: cutting bytes into commands loses nothing, and the commands of a tree document determine its bytes.
-use mathlib.Core.Path.{_≡_, refl, sym, ap, ap₂, _∙_}
-use mathlib.Core.Bool.{Bool, true, false, _&&_}
+-- Bytes and commands: cutting bytes into commands loses nothing, and the commands of a document determine its bytes. All is said once,
+-- for any kind of document of which a `Spelling` is given; `Spellings` has those of the three kinds.
+use mathlib.Core.Path.{_≡_, refl, ap, ap₂, _∙_}
+use mathlib.Core.Bool.{Bool, true, false}
 use mathlib.Core.List.{List, [], _∷_, _++_, map, append-assoc, append-nil}
+use mathlib.Core.Logic.{_⊎_, inl, inr}
 use Prim.Native.Nat.{ℕ, _+_}
 use lib.ListN.{length, take, length-append}
 use lib.Seq.{take-at}
-use lib.Dec.{eqb}
-use borrow.Author.Tests.{eqb-true}
-use Rattle.model.specs.Definitions.Basics.{pick}
-use Rattle.model.specs.Definitions.Commands.{Command, bare, paired, cut, takesOperand, lastCommand, firstCommand, commands, TreeCommand, opens, character, closes, treeEnd, alienT, treeCommand, treeCommands, treeWidth}
-use Rattle.model.specs.Theorems.Tools.{true-false, and-left, and-right}
-use Rattle.model.specs.Theorems.Runs.{widthOf}
+use Rattle.model.specs.Definitions.Basics.{Next, goes, stops, followed, reach}
+use Rattle.model.specs.Definitions.Commands.{Command, bare, paired, cut, takesOperand, lastCommand, firstCommand, commands}
+use Rattle.model.specs.Theorems.Runs.{goes-stops, widthOf}
 
 -- ---- all kinds of document
 
@@ -46,98 +45,71 @@ unfolding commands firstCommand lastCommand
 bare-first b [] e = rw e
 bare-first b (t ∷ rest) e = rw e
 
--- ---- tree documents
+-- ---- a kind of document
 
--- the bytes of a tree command; what is alien is written as a byte that is
-unfoldable pub spelled : TreeCommand → List ℕ
-spelled (opens t) = 0x30 ∷ t ∷ []
-spelled (character c) = 0x31 ∷ c ∷ []
-spelled closes = 0x32 ∷ []
-spelled treeEnd = 0x3F ∷ []
-spelled alienT = 0 ∷ []
+-- How the commands of a kind of document are written: `spell` gives the bytes of each, as many as it is wide, which are cut into that
+-- command again, whatever follows. What is `alien` is no command of the kind, and is written as a byte that is none; every other
+-- command has the bytes that it was cut from.
+pub record Spelling {C : Type 0} (classify : Command → C) (width : C → ℕ) (spell : C → List ℕ) (alien : C) : Type 0 where
+  pub first : (c : C) (rest : List ℕ) → map classify (commands (spell c ++ rest)) ≡ c ∷ map classify (commands rest)
+  pub as-wide : (c : C) → length (spell c) ≡ width c
+  pub told : (d : Command) → (classify d ≡ alien) ⊎ (spell (classify d) ≡ rawOf d)
+  pub cut-alien : (b : ℕ) → classify (cut b) ≡ alien
 
-unfoldable pub encode : List TreeCommand → List ℕ
-encode [] = []
-encode (c ∷ cs) = spelled c ++ encode cs
+-- the bytes of commands
+unfoldable pub encodeBy : {C : Type 0} → (C → List ℕ) → List C → List ℕ
+encodeBy spell [] = []
+encodeBy spell (c ∷ cs) = spell c ++ encodeBy spell cs
 
-pub encode-append : (xs ys : List TreeCommand) → encode (xs ++ ys) ≡ encode xs ++ encode ys
-unfolding encode
-encode-append [] ys = refl
-encode-append (c ∷ xs) ys = rw (encode-append xs ys, append-assoc)
+pub encode-append : {C : Type 0} (spell : C → List ℕ) (xs ys : List C) → encodeBy spell (xs ++ ys) ≡ encodeBy spell xs ++ encodeBy spell ys
+unfolding encodeBy
+encode-append spell [] ys = refl
+encode-append spell (c ∷ xs) ys = rw (encode-append spell xs ys, append-assoc)
 
--- and as many as the command is wide
-length-spelled : (c : TreeCommand) → length (spelled c) ≡ treeWidth c
-unfolding spelled treeWidth
-length-spelled (opens t) = refl
-length-spelled (character c) = refl
-length-spelled closes = refl
-length-spelled treeEnd = refl
-length-spelled alienT = refl
+module _ {C : Type 0} {classify : Command → C} {width : C → ℕ} {spell : C → List ℕ} {alien : C} (sp : Spelling classify width spell alien) where
+  pub length-encode : (cs : List C) → length (encodeBy spell cs) ≡ widthOf width cs
+  unfolding encodeBy widthOf
+  length-encode [] = refl
+  length-encode (c ∷ cs) = length-append (spell c) (encodeBy spell cs) ∙ ap₂ (λ (a b : ℕ). a + b) (sp .as-wide c) (length-encode cs)
 
-pub length-encode : (cs : List TreeCommand) → length (encode cs) ≡ widthOf treeWidth cs
-unfolding encode widthOf
-length-encode [] = refl
-length-encode (c ∷ cs) = length-append (spelled c) (encode cs) ∙ ap₂ (λ (a b : ℕ). a + b) (length-spelled c) (length-encode cs)
+  -- so the bytes of the first commands are found by their width
+  pub take-encode : (xs ys : List C) → take (widthOf width xs) (encodeBy spell (xs ++ ys)) ≡ encodeBy spell xs
+  take-encode xs ys = rw (encode-append spell xs ys) (take-at (encodeBy spell xs) (encodeBy spell ys) (widthOf width xs) (length-encode xs))
 
--- so the bytes of the first commands are found by their width
-pub take-encode : (xs ys : List TreeCommand) → take (widthOf treeWidth xs) (encode (xs ++ ys)) ≡ encode xs
-take-encode xs ys = rw (encode-append xs ys) (take-at (encode xs) (encode ys) (widthOf treeWidth xs) (length-encode xs))
+  -- bytes that commands were written to are cut into these commands again, whatever follows
+  pub encode-first : (cs : List C) (rest : List ℕ) → map classify (commands (encodeBy spell cs ++ rest)) ≡ cs ++ map classify (commands rest)
+  unfolding encodeBy
+  encode-first [] rest = refl
+  encode-first (c ∷ cs) rest =
+      ap (λ (bs : List ℕ). map classify (commands bs)) (append-assoc (spell c) (encodeBy spell cs) rest)
+      ∙ sp .first c (encodeBy spell cs ++ rest)
+      ∙ ap (λ (l : List C). c ∷ l) (encode-first cs rest)
 
--- bytes that commands were written to are cut into these commands again, whatever follows
-pub spelled-first : (c : TreeCommand) (rest : List ℕ) → treeCommands (spelled c ++ rest) ≡ c ∷ treeCommands rest
-unfolding spelled treeCommands commands takesOperand firstCommand treeCommand pick
-spelled-first (opens t) rest = refl
-spelled-first (character c) rest = refl
-spelled-first closes rest = rw (bare-first 0x32 rest refl)
-spelled-first treeEnd rest = rw (bare-first 0x3F rest refl)
-spelled-first alienT rest = rw (bare-first 0 rest refl)
+  pub commands-encode : (cs : List C) → map classify (commands (encodeBy spell cs)) ≡ cs
+  unfolding commands
+  commands-encode cs = simp append-nil at (encode-first cs [])
 
-pub encode-first : (cs : List TreeCommand) (rest : List ℕ) → treeCommands (encode cs ++ rest) ≡ cs ++ treeCommands rest
-unfolding encode
-encode-first [] rest = refl
-encode-first (c ∷ cs) rest = rw (append-assoc, spelled-first c (encode cs ++ rest), encode-first cs rest)
+  -- a command that a machine takes, where it takes nothing alien, has the bytes that it was cut from
+  pub taken-told : {S : Type 0} (step : S → C → Next S) → ((s : S) → step s alien ≡ stops) → (d : Command) {s next : S} → step s (classify d) ≡ goes next
+      → spell (classify d) ≡ rawOf d
+  taken-told step alien-stops d {s} {next} e = go (sp .told d)
+    where
+      go : (classify d ≡ alien) ⊎ (spell (classify d) ≡ rawOf d) → spell (classify d) ≡ rawOf d
+      go (inl is) = goes-stops e (ap (step s) is ∙ alien-stops s)
+      go (inr same) = same
 
-pub commands-encode : (cs : List TreeCommand) → treeCommands (encode cs) ≡ cs
-unfolding treeCommands commands
-commands-encode cs = simp append-nil at (encode-first cs [])
+  -- so where a machine takes all commands, they determine the bytes
+  pub encode-taken : {S : Type 0} (step : S → C → Next S) → ((s : S) → step s alien ≡ stops) → (s : S) (ds : List Command) {last : S}
+      → reach step s (map classify ds) ≡ goes last → encodeBy spell (map classify ds) ≡ raw ds
+  unfolding encodeBy raw reach followed
+  encode-taken step alien-stops s [] e = refl
+  encode-taken {S} step alien-stops s (d ∷ ds) {last} e = go (step s (classify d)) refl (λ next. encode-taken step alien-stops next ds)
+    where
+      go : (n : Next S) → step s (classify d) ≡ n → ((next : S) → reach step next (map classify ds) ≡ goes last → encodeBy spell (map classify ds) ≡ raw ds)
+          → spell (classify d) ++ encodeBy spell (map classify ds) ≡ rawOf d ++ raw ds
+      go (goes next) q later = ap₂ (λ (xs ys : List ℕ). xs ++ ys) (taken-told step alien-stops d q) (later next (rw q at e))
+      go stops q later = goes-stops e (rw q)
 
--- whether a command is one of a tree document
-unfoldable pub known : TreeCommand → Bool
-known (opens t) = true
-known (character c) = true
-known closes = true
-known treeEnd = true
-known alienT = false
-
-unfoldable pub clean : List TreeCommand → Bool
-clean [] = true
-clean (c ∷ cs) = known c && clean cs
-
--- the bytes of a command that is known are those that it was cut from
-spelled-raw : (d : Command) → known (treeCommand d) ≡ true → spelled (treeCommand d) ≡ rawOf d
-unfolding treeCommand rawOf known spelled pick
-spelled-raw (bare b) e = go (eqb b 0x32) refl (eqb b 0x3F) refl
-  where
-    go : (p : Bool) → eqb b 0x32 ≡ p → (q : Bool) → eqb b 0x3F ≡ q → spelled (treeCommand (bare b)) ≡ b ∷ []
-    go true p q r = rw p (ap (λ (n : ℕ). n ∷ []) (sym (eqb-true b 0x32 p)))
-    go false p true q = rw (p, q) (ap (λ (n : ℕ). n ∷ []) (sym (eqb-true b 0x3F q)))
-    go false p false q = true-false e (rw (p, q))
-spelled-raw (paired b t) e = go (eqb b 0x30) refl (eqb b 0x31) refl
-  where
-    go : (p : Bool) → eqb b 0x30 ≡ p → (q : Bool) → eqb b 0x31 ≡ q → spelled (treeCommand (paired b t)) ≡ b ∷ t ∷ []
-    go true p q r = rw p (ap (λ (n : ℕ). n ∷ t ∷ []) (sym (eqb-true b 0x30 p)))
-    go false p true q = rw (p, q) (ap (λ (n : ℕ). n ∷ t ∷ []) (sym (eqb-true b 0x31 q)))
-    go false p false q = true-false e (rw (p, q))
-spelled-raw (cut b) e = true-false e refl
-
-encode-raw : (ds : List Command) → clean (map treeCommand ds) ≡ true → encode (map treeCommand ds) ≡ raw ds
-unfolding encode raw clean
-encode-raw [] e = refl
-encode-raw (d ∷ ds) e = ap₂ (λ (xs ys : List ℕ). xs ++ ys)
-    (spelled-raw d (and-left (known (treeCommand d)) (clean (map treeCommand ds)) e))
-    (encode-raw ds (and-right (known (treeCommand d)) (clean (map treeCommand ds)) e))
-
--- where no command is alien, the commands determine the bytes
-pub encode-commands : (bs : List ℕ) → clean (treeCommands bs) ≡ true → encode (treeCommands bs) ≡ bs
-unfolding treeCommands
-encode-commands bs e = encode-raw (commands bs) e ∙ commands-lossless bs
+  pub encode-commands : {S : Type 0} (step : S → C → Next S) → ((s : S) → step s alien ≡ stops) → (s : S) (bs : List ℕ) {last : S}
+      → reach step s (map classify (commands bs)) ≡ goes last → encodeBy spell (map classify (commands bs)) ≡ bs
+  encode-commands step alien-stops s bs e = encode-taken step alien-stops s (commands bs) e ∙ commands-lossless bs

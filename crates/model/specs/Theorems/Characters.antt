@@ -4,45 +4,20 @@ use mathlib.Core.Bool.{Bool, true, false, not, _||_}
 use mathlib.Core.Logic.{_↔_, _⊎_, inl, inr}
 use Prim.Native.Nat.{ℕ}
 use native.Mathlib.Omega.{arith}
-use lib.Dec.{eqb, leb}
-use borrow.Author.Tests.{eqb-true, leb-true, eq-eqb, le-leb}
+use lib.Dec.{leb}
+use borrow.Author.Tests.{leb-true, le-leb}
 use Rattle.model.specs.Definitions.Basics.{pick}
 use Rattle.model.specs.Definitions.Characters.{CharacterClass, plain, entity, decimal-reference, not-allowed, Range, Ascii, Markup, Accented, Classed, as-itself, as-entity, as-reference, forbidden, between, isAscii, isMarkup, isAccented, characterClass, isNotAllowed, allowed}
-use Rattle.model.specs.Theorems.Tools.{true-false, and-left, and-right, and-both}
+use Rattle.model.specs.Theorems.Tools.{true-false, and-left, and-right, and-both, Decides, refuted, denied, either, equal}
 
 -- ---- tests and what they decide
-
--- a test passes exactly where a fact holds
-abbrev Decides : Bool → Type 0 → Type 0
-Decides b P = (b ≡ true) ↔ P
-
--- where it doesn't hold, the test fails
-refuted : {P : Type 0} (b : Bool) → Decides b P → (P → ⊥) → b ≡ false
-refuted true d h = absurd (h (d .0 refl))
-refuted false d h = refl
-
--- where the test failed, it doesn't hold
-denied : {P : Type 0} → Decides false P → P → ⊥
-denied d h = true-false (d .1 h) refl
-
--- one of two tests
-either : {P Q : Type 0} (a b : Bool) → Decides a P → Decides b Q → Decides (a || b) (P ⊎ Q)
-either true b d e = (λ h. inl (d .0 refl), λ h. refl)
-either {P} {Q} false b d e = (λ h. inr (e .0 h), right)
-  where
-    right : P ⊎ Q → b ≡ true
-    right (inl h) = absurd (denied d h)
-    right (inr h) = e .1 h
 
 -- one of three
 of-three : {P Q R : Type 0} (a b c : Bool) → Decides a P → Decides b Q → Decides c R → Decides (a || b || c) (P ⊎ Q ⊎ R)
 of-three true b c d e f = either true (b || c) d (either b c e f)
 of-three false b c d e f = either false (b || c) d (either b c e f)
 
--- a test of equality, and of a range
-equal : (a b : ℕ) → Decides (eqb a b) (a ≡ b)
-equal a b = (eqb-true a b, eq-eqb a b)
-
+-- a test of a range
 in-range : (low high c : ℕ) → Decides (between low high c) (Range low high c)
 unfolding between
 in-range low high c = (

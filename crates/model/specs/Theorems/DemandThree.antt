@@ -1,24 +1,23 @@
 -- Demand 3 of the entries' definitions, for one source document by what its root holds. `Statements` says it for bytes.
 use mathlib.Core.Path.{_≡_, refl, _∙_}
 use mathlib.Core.List.{List, [], _++_}
-use mathlib.Core.Logic.{_⊎_, inl, inr}
-use Prim.Native.Nat.{ℕ, suc, _+_, _≤_, _<_}
-use native.Mathlib.Decide.{decLe}
-use native.Mathlib.Nat.{lt-of-not-le}
+use Prim.Native.Nat.{ℕ, suc, _≤_, _<_}
 use native.Mathlib.Omega.{arith}
 use lib.ListN.{length, drop}
 use borrow.Author.Tests.{le-leb, lt-leb}
+use Rattle.model.specs.Definitions.Basics.{Verdict, passes, fails}
 use Rattle.model.specs.Definitions.Table.{tableOf, kindOf}
 use Rattle.model.specs.Definitions.Content.{Content, document, levels}
 use Rattle.model.specs.Definitions.Conformance.{Holds}
-use Rattle.model.specs.Definitions.TreeChecks.{maxLevels}
+use Rattle.model.specs.Definitions.TreeChecks.{treeLevels, maxLevels}
 use Rattle.model.specs.Definitions.Image.{Setting, image, imageFiller}
-use Rattle.model.specs.Definitions.Refusals.{Judged, sound, has, Refusal, faulty, tree, output-too-short, image-too-deep, image-too-long, maxLength}
-use Rattle.model.specs.Definitions.Entries.{judgedTree, refused, accepted, unlessFaulty, untouched, written, settingOf, carryContent, carry, bringWithin, bringContent, bringBack}
+use Rattle.model.specs.Definitions.Refusals.{sound, has, Fault, too-long, over-limit, faulty, tree, output-too-short, image-too-deep, image-too-long, faultAt, faultUnless, fits, maxLength}
+use Rattle.model.specs.Definitions.Entries.{judgedTree, refused, accepted, unlessFaulty, untouched, written, settingOf, carry, bringWithin, bringContent, bringBack}
 use Rattle.model.specs.Theorems.Facts.{Valid}
+use Rattle.model.specs.Theorems.Documents.{form-accepts}
 use Rattle.model.specs.Theorems.NeverLonger.{levels-never-more, document-never-longer}
 use Rattle.model.specs.Theorems.BringingBack.{image-conforms, brought-image}
-use Rattle.model.specs.Theorems.EntryLaws.{Judges, judges-valid, document-accepted, carry-content, bring-content, written-start, content-carried, content-no-room, content-too-deep, content-too-long}
+use Rattle.model.specs.Theorems.EntryLaws.{Judges, judges-valid, levels-only, document-accepted, carry-content, bring-content, written-start, content-carried, content-no-room, content-too-deep, content-too-long}
 
 module _ (s t e : List ℕ) (j : Judges s t e) (k : Content) (h : Holds (tableOf s) (kindOf (tableOf s) 0) k) where
   abbrev X : Setting
@@ -59,24 +58,39 @@ module _ (s t e : List ℕ) (j : Judges s t e) (k : Content) (h : Holds (tableOf
     unfolding bringContent bringWithin untouched
     brings-not out less = bring-content s t e out (image X k) j image-accepted ∙ rw (brought-image X valid k h, lt-leb _ _ less)
 
-  -- beyond the limits of levels or bytes, the image is refused
-  content-beyond : (out : List ℕ) → (maxLevels < suc (levels (image X k))) ⊎ (maxLength < length carriedBytes)
-      → (why : Refusal) × (carryContent out X k ≡ record { result = refused why; output = out })
-  content-beyond out (inl high) = (image-too-deep, content-too-deep X out k high)
-  content-beyond out (inr long) =
-      elim (decLe (suc (levels (image X k))) maxLevels)
-      [ yes low ↦ (image-too-long, content-too-long X out k low long) | no high ↦ (image-too-deep, content-too-deep X out k (lt-of-not-le high)) ]
+  -- ---- beyond the limits
 
   -- a tree that is not accepted is refused for its fault
-  carry-faulty : (out : List ℕ) (f : _) → judgedTree (tableOf s) (document 0 k) ≡ has f → carry s t e (document 0 k) out ≡ record { result = refused (faulty tree f); output = out }
-  unfolding carry unlessFaulty untouched
+  carry-faulty : (out : List ℕ) (f : Fault) → judgedTree (tableOf s) (document 0 k) ≡ has f → carry s t e (document 0 k) out ≡ untouched out (faulty tree f)
+  unfolding carry unlessFaulty
   carry-faulty out f g = rw (j .source-sound, j .target-sound, j .embedding-sound, g)
 
-  pub beyond-refused : (out : List ℕ) → (maxLevels < suc (levels (image X k))) ⊎ (maxLength < length carriedBytes)
-      → (why : Refusal) × (carry s t e (document 0 k) out ≡ record { result = refused why; output = out })
-  beyond-refused out far = go (judgedTree (tableOf s) (document 0 k)) refl (content-beyond out far)
-    where
-      go : (v : Judged) → judgedTree (tableOf s) (document 0 k) ≡ v → (why : Refusal) × (carryContent out X k ≡ record { result = refused why; output = out })
-          → (why : Refusal) × (carry s t e (document 0 k) out ≡ record { result = refused why; output = out })
-      go sound g (why, c) = (why, carry-content s t e out k j g ∙ c)
-      go (has f) g c = (faulty tree f, carry-faulty out f g)
+  -- the source is too long
+  pub source-too-long : (out : List ℕ) → maxLength < length (document 0 k) → carry s t e (document 0 k) out ≡ untouched out (faulty tree too-long)
+  unfolding judgedTree faultUnless fits
+  source-too-long out long = carry-faulty out too-long (rw (lt-leb _ _ long))
+
+  module _ (short : length (document 0 k) ≤ maxLength) where
+    -- it has too many levels: the check of levels says where
+    pub source-too-deep : (out : List ℕ) → maxLevels < suc (levels k)
+        → (at : ℕ) × (treeLevels (document 0 k) ≡ fails at) × (carry s t e (document 0 k) out ≡ untouched out (faulty tree (over-limit at)))
+    unfolding judgedTree faultUnless faultAt fits
+    source-too-deep out high = go (treeLevels (document 0 k)) refl
+      where
+        go : (v : Verdict) → treeLevels (document 0 k) ≡ v
+            → (at : ℕ) × (treeLevels (document 0 k) ≡ fails at) × (carry s t e (document 0 k) out ≡ untouched out (faulty tree (over-limit at)))
+        go passes g = absurd (omega (arith, levels-only 0 k g))
+        go (fails at) g = (at, g, carry-faulty out (over-limit at) (rw (le-leb _ _ short, form-accepts 0 k, g)))
+
+    -- neither, and the image has a level too many
+    pub image-too-many-levels : (out : List ℕ) → suc (levels k) ≤ maxLevels → maxLevels < suc (levels (image X k)) → carry s t e (document 0 k) out ≡ untouched out image-too-deep
+    unfolding untouched
+    image-too-many-levels out low high =
+        carry-content s t e out k j (document-accepted (tableOf s) (valid .source-sound .well-formed) k h short low) ∙ content-too-deep X out k high
+
+    -- the image has no level too many, but a byte
+    pub image-too-many-bytes : (out : List ℕ) → suc (levels (image X k)) ≤ maxLevels → maxLength < length carriedBytes → carry s t e (document 0 k) out ≡ untouched out image-too-long
+    unfolding untouched
+    image-too-many-bytes out low long =
+        let less : levels k ≤ levels (image X k) = levels-never-more X valid k h in
+        carry-content s t e out k j (document-accepted (tableOf s) (valid .source-sound .well-formed) k h short (omega arith)) ∙ content-too-long X out k low long

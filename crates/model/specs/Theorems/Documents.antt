@@ -8,7 +8,7 @@ use lib.ListN.{length, take}
 use lib.Dec.{eqb, ltb}
 use borrow.Author.Tests.{eqb-true, eq-eqb, lt-ltb}
 use native.Mathlib.Omega.{arith}
-use Rattle.model.specs.Definitions.Basics.{passes, goes, goesIf}
+use Rattle.model.specs.Definitions.Basics.{passes, goes, stops, goesIf, followed, reach}
 use Rattle.model.specs.Definitions.Commands.{TreeCommand, opens, character, closes, treeEnd, alienT, treeCommands, treeWidth}
 use Rattle.model.specs.Definitions.Content.{Content, end, char, elem, bytes, document, withTreeCommand, contents, topOf, insideOf, contentOf}
 use Rattle.model.specs.Definitions.Table.{Kind, empty, sequence, list, Table, kindOf, membersOf, isText}
@@ -18,8 +18,13 @@ use Rattle.model.specs.Definitions.TreeChecks.{TreeState, noRoot, inside
 use Rattle.model.specs.Theorems.Facts.{WellFormed}
 use Rattle.model.specs.Theorems.Tools.{true-false, and-both}
 use Rattle.model.specs.Theorems.Conforms.{holds-test, member-complete, conforms-holds}
-use Rattle.model.specs.Theorems.Runs.{goes-stops, followed, followed-if, reach, widthOf, run-passes, passes-run}
-use Rattle.model.specs.Theorems.Bytes.{spelled, encode, take-encode, commands-encode, known, clean, encode-commands}
+use Rattle.model.specs.Theorems.Runs.{goes-stops, followed-if, widthOf, run-passes, passes-run}
+use Rattle.model.specs.Theorems.Bytes.{encodeBy, take-encode, commands-encode, encode-commands}
+use Rattle.model.specs.Theorems.Spellings.{treeSpelled, tree-spelling}
+
+-- the bytes of tree commands
+abbrev pub encode : List TreeCommand → List ℕ
+encode = encodeBy treeSpelled
 
 -- ---- a content as commands
 
@@ -35,17 +40,18 @@ documentCommands t k = opens t ∷ commandsThen k (closes ∷ treeEnd ∷ [])
 
 -- their bytes are the content's bytes
 pub encode-then : (k : Content) (cs : List TreeCommand) → encode (commandsThen k cs) ≡ bytes k ++ encode cs
-unfolding commandsThen encode spelled bytes
+unfolding commandsThen encodeBy treeSpelled bytes
 encode-then end cs = refl
 encode-then (char c r) cs = rw (encode-then r cs)
 encode-then (elem t k r) cs = rw (encode-then k (closes ∷ commandsThen r cs), encode-then r cs, append-assoc)
 
 pub encode-document : (t : ℕ) (k : Content) → encode (documentCommands t k) ≡ document t k
-unfolding documentCommands document encode spelled bytes
+unfolding documentCommands document encodeBy treeSpelled bytes
 encode-document t k = rw (encode-then k (closes ∷ treeEnd ∷ []), append-assoc)
 
 pub document-commands : (t : ℕ) (k : Content) → treeCommands (document t k) ≡ documentCommands t k
-document-commands t k = rw (← encode-document t k) (commands-encode (documentCommands t k))
+unfolding treeCommands
+document-commands t k = ap treeCommands (sym (encode-document t k)) ∙ commands-encode tree-spelling (documentCommands t k)
 
 -- ---- the content of a document
 
@@ -152,19 +158,20 @@ form-reaches bs e =
     = run-passes treeWidth treeStep treeComplete noRoot 0 (treeCommands bs) e in
     r .1 ∙ ap (λ (s : TreeState). goes s) (only-ended (r .0) (r .2))
 
--- no command of a document is alien
-clean-then : (k : Content) (cs : List TreeCommand) → clean (commandsThen k cs) ≡ clean cs
-unfolding commandsThen clean known
-clean-then end cs = refl
-clean-then (char c r) cs = clean-then r cs
-clean-then (elem t k r) cs = clean-then k (closes ∷ commandsThen r cs) ∙ clean-then r cs
+-- the form takes nothing alien
+pub tree-alien-stops : (s : TreeState) → treeStep s alienT ≡ stops
+unfolding treeStep
+tree-alien-stops noRoot = refl
+tree-alien-stops (inside n) = refl
+tree-alien-stops rootClosed = refl
+tree-alien-stops treeEnded = refl
 
 -- bytes whose commands are those of a document are that document
 pub document-of-commands : (bs : List ℕ) (t : ℕ) (k : Content) → treeCommands bs ≡ documentCommands t k → bs ≡ document t k
-unfolding documentCommands clean known
+unfolding treeCommands
 document-of-commands bs t k e =
-    let ok : clean (treeCommands bs) ≡ true = rw e (clean-then k (closes ∷ treeEnd ∷ [])) in
-    sym (encode-commands bs ok) ∙ ap encode e ∙ encode-document t k
+    let taken : reach treeStep noRoot (treeCommands bs) ≡ goes treeEnded = rw e (form-document t k) in
+    sym (encode-commands tree-spelling treeStep tree-alien-stops noRoot bs taken) ∙ ap encode e ∙ encode-document t k
 
 -- what the form check accepts is a document
 pub form-only : (bs : List ℕ) → treeForm bs ≡ passes → (t : ℕ) × (k : Content) × (bs ≡ document t k)
@@ -182,7 +189,7 @@ form-encode bs e =
 pub form-front : (bs : List ℕ) → treeForm bs ≡ passes → (xs ys : List TreeCommand) → treeCommands bs ≡ xs ++ ys → take (widthOf treeWidth xs) bs ≡ encode xs
 form-front bs e xs ys parts =
     let written : bs ≡ encode (xs ++ ys) = sym (form-encode bs e) ∙ ap encode parts in
-    rw written (take-encode xs ys)
+    rw written (take-encode tree-spelling xs ys)
 
 -- its content is the one that its bytes are read to
 pub content-of-form : (bs : List ℕ) → treeForm bs ≡ passes → (t : ℕ) × (bs ≡ document t (contentOf bs))

@@ -1,6 +1,6 @@
 -- The entries on accepted tables and embeddings: what acceptance by an entry says of the judges, when a conforming
 -- document is accepted as a tree, and what carry and bring back then do.
-use mathlib.Core.Path.{_≡_, refl, ap, _∙_}
+use mathlib.Core.Path.{_≡_, refl, sym, ap, _∙_}
 use mathlib.Core.Bool.{true}
 use mathlib.Core.List.{List, [], _∷_, _++_}
 use Prim.Native.Nat.{ℕ, suc, _+_, _≤_, _<_}
@@ -8,19 +8,21 @@ use native.Mathlib.Nat.{zero-add}
 use native.Mathlib.Omega.{arith}
 use lib.ListN.{length, drop}
 use lib.Seq.{sets, sets-eq}
-use borrow.Author.Tests.{lt-ltb, le-leb, lt-leb}
-use Rattle.model.specs.Definitions.Basics.{passes, goes, goesIf}
+use lib.Dec.{ltb}
+use borrow.Author.Tests.{lt-ltb, ltb-true, le-leb, lt-leb}
+use Rattle.model.specs.Definitions.Basics.{passes, goes, goesIf, followed, reach}
 use Rattle.model.specs.Definitions.Commands.{TreeCommand, closes, treeEnd, treeCommands, treeWidth}
 use Rattle.model.specs.Definitions.Table.{Table, tableOf, kindOf}
-use Rattle.model.specs.Definitions.Content.{Content, end, char, elem, document, levels}
+use Rattle.model.specs.Definitions.Content.{Content, end, char, elem, document, contentOf, levels, elements}
 use Rattle.model.specs.Definitions.Conformance.{Holds, Conforming}
 use Rattle.model.specs.Definitions.TreeChecks.{maxLevels, levelStep, treeLevels}
 use Rattle.model.specs.Definitions.Image.{Setting, image, imageFiller}
 use Rattle.model.specs.Definitions.Inverse.{bringBackContent}
-use Rattle.model.specs.Definitions.Refusals.{Judged, sound, has, Document, Refusal, source-table, target-table, embedding, output-too-short, image-too-deep, image-too-long, fits, maxLength}
-use Rattle.model.specs.Definitions.Entries.{judgedTable, judgedEmbedding, judgedTree, Result, refused, accepted, unlessFaulty, judgeTable, judgeEmbedding, untouched, written, settingOf, carryWithin, carryContent, carry, bringContent, bringBack}
+use Rattle.model.specs.Definitions.Refusals.{Judged, sound, has, Document, Refusal, source-table, target-table, embedding, tree, output-too-short, image-too-deep, image-too-long, fits, maxLength}
+use Rattle.model.specs.Definitions.Entries.{judgedTable, judgedEmbedding, judgedTree, Result, refused, accepted, unlessFaulty, edgeCount, judgeTable, judgeEmbedding, judgeTree, untouched, written, settingOf, carryWithin, carryContent, carry, bringContent, bringBack}
+use Rattle.model.specs.Theorems.Terms.{AcceptedTable, AcceptedEmbedding, AcceptedTree}
 use Rattle.model.specs.Theorems.Facts.{WellFormed, Valid}
-use Rattle.model.specs.Theorems.Runs.{followed, reach, passes-run}
+use Rattle.model.specs.Theorems.Runs.{followed-if, run-passes, passes-run}
 use Rattle.model.specs.Theorems.Documents.{commandsThen, documentCommands, document-commands, content-of-document, conforming-checks}
 use Rattle.model.specs.Theorems.JudgedTables.{tree-accepted}
 use Rattle.model.specs.Theorems.JudgedEmbeddings.{embedding-valid}
@@ -56,6 +58,27 @@ pub judge-accepts : (t : List ℕ) {n f : ℕ} → judgeTable t ≡ accepted n f
 unfolding judgeTable
 judge-accepts t h = past-judge source-table (judgedTable t) _ h .0
 
+-- and these judges are all that accepts
+pub judges-are-all : (s t e : List ℕ) → Judges s t e → AcceptedEmbedding s t e
+unfolding judgeEmbedding unlessFaulty
+judges-are-all s t e j = (edgeCount (tableOf s), rw (j .source-sound, j .target-sound, j .embedding-sound) refl)
+
+pub table-is-accepted : (t : List ℕ) → judgedTable t ≡ sound → AcceptedTable t
+unfolding judgeTable unlessFaulty
+table-is-accepted t table = (length (tableOf t), rw table refl)
+
+-- the judges that an accepted tree went past
+pub tree-judged : (t d : List ℕ) {n f : ℕ} → judgeTree t d ≡ accepted n f → (judgedTable t ≡ sound) × (judgedTree (tableOf t) d ≡ sound)
+unfolding judgeTree
+tree-judged t d h =
+    let first = past-judge source-table (judgedTable t) _ h in
+    let second = past-judge tree (judgedTree (tableOf t) d) _ (first .1) in
+    (first .0, second .0)
+
+pub tree-is-accepted : (t d : List ℕ) → judgedTable t ≡ sound → judgedTree (tableOf t) d ≡ sound → AcceptedTree t d
+unfolding judgeTree unlessFaulty
+tree-is-accepted t d table good = (1 + elements (contentOf d), rw (table, good) refl)
+
 pub judges-valid : (s t e : List ℕ) → Judges s t e → Valid (settingOf s t e)
 judges-valid s t e j = embedding-valid s t e (j .source-sound) (j .target-sound) (j .embedding-sound)
 
@@ -78,6 +101,28 @@ unfolding treeLevels
 levels-accept t k h =
     let whole : reach levelStep 0 (treeCommands (document t k)) ≡ goes 0 = rw (document-commands t k) (levels-document t k h) in
     passes-run treeWidth levelStep (λ n. true) 0 0 (treeCommands (document t k)) whole refl
+
+-- and only such a document passes the count of levels
+levels-counted : (k : Content) (n : ℕ) (cs : List TreeCommand) {last : ℕ} → n ≤ maxLevels → reach levelStep n (commandsThen k cs) ≡ goes last
+    → (n + levels k ≤ maxLevels) × (reach levelStep n cs ≡ goes last)
+unfolding commandsThen reach followed levelStep levels
+levels-counted end n cs low e = (omega arith, e)
+levels-counted (char c r) n cs low e = levels-counted r n cs low e
+levels-counted (elem t k r) n cs {last} low e =
+    let opened : (ltb n maxLevels ≡ true) × (reach levelStep (suc n) (commandsThen k (closes ∷ commandsThen r cs)) ≡ goes last)
+    = followed-if (ltb n maxLevels) (suc n) (λ next. reach levelStep next (commandsThen k (closes ∷ commandsThen r cs))) e in
+    let below = ltb-true n maxLevels (opened .0) in
+    let inner = levels-counted k (suc n) (closes ∷ commandsThen r cs) (omega arith) (opened .1) in
+    let rest = levels-counted r n cs low (inner .1) in
+    (omega (arith, inner .0, rest .0), rest .1)
+
+pub levels-only : (t : ℕ) (k : Content) → treeLevels (document t k) ≡ passes → suc (levels k) ≤ maxLevels
+unfolding treeLevels documentCommands reach followed levelStep goesIf
+levels-only t k e =
+    let taken = run-passes treeWidth levelStep (λ n. true) 0 0 (treeCommands (document t k)) e in
+    let whole : reach levelStep 0 (documentCommands t k) ≡ goes (taken .0) = ap (reach levelStep 0) (sym (document-commands t k)) ∙ taken .1 in
+    let counted = levels-counted k 1 (closes ∷ treeEnd ∷ []) (omega arith) whole in
+    omega (arith, counted .0)
 
 -- a conforming document within the limits is accepted
 pub document-accepted : (S : Table) → WellFormed S → (k : Content) → Holds S (kindOf S 0) k → length (document 0 k) ≤ maxLength → suc (levels k) ≤ maxLevels

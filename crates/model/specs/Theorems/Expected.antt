@@ -8,7 +8,7 @@ use lib.ListN.{length, take}
 use lib.Seq.{append-snoc}
 use lib.Dec.{ltb}
 use borrow.Author.Tests.{ltb-true, lt-ltb}
-use Rattle.model.specs.Definitions.Basics.{passes, fails, goes, stops, goesIf}
+use Rattle.model.specs.Definitions.Basics.{passes, fails, goes, stops, goesIf, followed, reach}
 use Rattle.model.specs.Definitions.Commands.{TreeCommand, opens, character, closes, treeEnd, alienT, treeCommands, treeWidth}
 use Rattle.model.specs.Definitions.Content.{Content, end}
 use Rattle.model.specs.Definitions.Table.{Kind, text, empty, sequence, choice, list, Table, kindOf, membersOf, isText}
@@ -16,9 +16,10 @@ use Rattle.model.specs.Definitions.Characters.{allowed}
 use Rattle.model.specs.Definitions.Conformance.{Holds, no-character, one-character, nothing, no-member, one-member, chosen, left-out, no-item, one-item, admits, after, complete, Conforming, Begins, Instance}
 use Rattle.model.specs.Definitions.TreeChecks.{TreeState, noRoot, inside, rootClosed, treeEnded, closed, treeStep, treeForm, operandStep, treeOperands, expectStep, treeExpected, FirstUnexpected}
 use Rattle.model.specs.Theorems.Facts.{WellFormed, SoundTable}
-use Rattle.model.specs.Theorems.Runs.{goes-stops, followed, followed-if, reach, reach-append, reach-front, widthOf, width-append, Refused, run-fails}
-use Rattle.model.specs.Theorems.Bytes.{encode, encode-append, encode-first}
-use Rattle.model.specs.Theorems.Documents.{commandsThen, documentCommands, encode-document, document-commands, form-then, form-reaches, form-front, operands-reach, holds-operands, holds-expected, expectedRoot, commands-conforming, conforming-expected}
+use Rattle.model.specs.Theorems.Runs.{goes-stops, followed-if, reach-append, reach-front, widthOf, width-append, Refused, run-fails}
+use Rattle.model.specs.Theorems.Bytes.{encode-append, encode-first}
+use Rattle.model.specs.Theorems.Spellings.{treeSpelled, tree-spelling}
+use Rattle.model.specs.Theorems.Documents.{encode, commandsThen, documentCommands, encode-document, document-commands, form-then, form-reaches, form-front, operands-reach, holds-operands, holds-expected, expectedRoot, commands-conforming, conforming-expected}
 
 -- ---- whatever may still follow can be completed
 
@@ -173,17 +174,17 @@ module _ (S : Table) (wf : WellFormed S) (instances : (t : ℕ) → t < length S
       (reach-append treeStep noRoot xs (r .0) f ∙ r .1)
       (reach-append (operandStep (length S)) tt xs (r .0) o ∙ r .2)
       (reach-append (expectStep S) expectedRoot xs (r .0) e ∙ r .3) in
-      (encode (r .0), (d .0, sym (encode-append xs (r .0)) ∙ ap encode (d .1) ∙ encode-document 0 (d .0), d .2))
+      (encode (r .0), (d .0, sym (encode-append treeSpelled xs (r .0)) ∙ ap encode (d .1) ∙ encode-document 0 (d .0), d .2))
 
 -- no conforming document begins with commands of which the last is refused
 refused-begins : (S : Table) (xs : List TreeCommand) (c : TreeCommand) {s : List Kind}
     → reach (expectStep S) expectedRoot xs ≡ goes s → expectStep S s c ≡ stops → Begins S (encode (xs ++ c ∷ [])) → ⊥
-unfolding Begins Conforming reach followed
+unfolding Begins Conforming reach followed treeCommands
 refused-begins S xs c {s} e q b =
     let more : List TreeCommand = treeCommands (b .0) in
     let k : Content = b .1 .0 in
     let read : (xs ++ c ∷ []) ++ more ≡ documentCommands 0 k
-    = sym (encode-first (xs ++ c ∷ []) (b .0)) ∙ ap treeCommands (b .1 .1) ∙ document-commands 0 k in
+    = sym (encode-first tree-spelling (xs ++ c ∷ []) (b .0)) ∙ ap treeCommands (b .1 .1) ∙ document-commands 0 k in
     let accepted : reach (expectStep S) expectedRoot (xs ++ c ∷ more) ≡ goes []
     = rw (← append-snoc xs c more, read) (conforming-expected (b .1 .2)) in
     let refused : reach (expectStep S) expectedRoot (xs ++ c ∷ more) ≡ stops

@@ -380,7 +380,7 @@ first-endless types from (h ∷ hs) t e = go (leb h types) refl (first-endless t
         → (i : ℕ) × (t ≡ suc from + i) × (i < length hs) × (leb (getD hs i 0) types ≡ false) × ((j : ℕ) → j < i → leb (getD hs j 0) types ≡ true))
         → (i : ℕ) × (t ≡ from + i) × (i < length (h ∷ hs)) × (leb (getD (h ∷ hs) i 0) types ≡ false) × ((j : ℕ) → j < i → leb (getD (h ∷ hs) j 0) types ≡ true)
     go true q later =
-        let found = later (sym (pick-true (leb h types) _ (fails from) q) ∙ e) in
+        let found = later (sym (pick-true (leb h types) _ _ q) ∙ e) in
         (suc (found .0), found .1 ∙ suc-add from (found .0) ∙ sym (add-suc from (found .0)), omega (arith, found .2), found .3, lower found)
       where
         lower : (found : (i : ℕ) × (t ≡ suc from + i) × (i < length hs) × (leb (getD hs i 0) types ≡ false) × ((j : ℕ) → j < i → leb (getD hs j 0) types ≡ true))
@@ -388,7 +388,7 @@ first-endless types from (h ∷ hs) t e = go (leb h types) refl (first-endless t
         lower found zero less = q
         lower found (suc j) less = found .4 j (omega arith)
     go false q later =
-        let here : fails from ≡ fails t = sym (pick-false (leb h types) (firstEndless types (suc from) hs) (fails from) q) ∙ e in
+        let here : fails from ≡ fails t = sym (pick-false (leb h types) _ _ q) ∙ e in
         let at : t ≡ from = cc in
         (0, omega arith, omega arith, q, λ j less. absurd (omega arith))
 

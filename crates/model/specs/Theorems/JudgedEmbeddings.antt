@@ -80,7 +80,7 @@ along-map f [] along-none = along-none
 along-map f (x ∷ xs) (along-both r h) = along-both r (along-map f xs h)
 
 -- each source type has a map with as many edges as its kind has
-form-holds : (S : Table) (bs : List ℕ) → embeddingForm S bs ≡ passes
+pub form-holds : (S : Table) (bs : List ℕ) → embeddingForm S bs ≡ passes
     → Along (λ (κ : Kind) (f : TypeMap). length (f .edges) ≡ edgesOf κ) S (embeddingOf bs)
 unfolding embeddingForm embeddingOf embeddingTail
 form-holds S bs e =
@@ -121,7 +121,7 @@ short-step n then embeddingEnd at r e later h = let same : n ≡ then = cc in rw
 short-step n then alienE at r e later h = let same : n ≡ then = cc in rw same (later (omega arith))
 
 -- no path of an embedding that passes has too many steps
-limits-hold : (bs : List ℕ) → embeddingLimits bs ≡ passes → All (λ f. All ShortEdge (f .edges)) (embeddingOf bs)
+pub limits-hold : (bs : List ℕ) → embeddingLimits bs ≡ passes → All (λ f. All ShortEdge (f .edges)) (embeddingOf bs)
 unfolding embeddingLimits embeddingOf embeddingTail
 limits-hold bs e =
     let holds = run-holds embeddingWidth stepCount (λ n. true) (λ n cs. (at : ℕ) → n ≤ maxSteps → Short n (embeddingTail at cs))
@@ -215,7 +215,7 @@ each-type check (along-both {a = κ} {b = f} {xs = S} {ys = E} r later) e =
     along-both (both .0) (each-type check later (both .1))
 
 -- what holds along two lists holds at each index
-along-at : {A B : Type 0} {R : A → B → Type 0} {xs : List A} {ys : List B} (c : A) (d : B) → Along R xs ys → (i : ℕ) → i < length xs → R (getD xs i c) (getD ys i d)
+pub along-at : {A B : Type 0} {R : A → B → Type 0} {xs : List A} {ys : List B} (c : A) (d : B) → Along R xs ys → (i : ℕ) → i < length xs → R (getD xs i c) (getD ys i d)
 along-at c d along-none i h = absurd (omega arith)
 along-at c d (along-both r later) zero h = r
 along-at c d (along-both r later) (suc i) h = along-at c d later i (omega arith)
@@ -254,7 +254,7 @@ module _ (X : Setting) (τ : ℕ) (κ : Kind) where
   unfolding firstClash
   later-compatible earlier [] e d i = all-none
   later-compatible earlier (f ∷ es) e d i =
-      let both = pick-fails-not _ (f .at) _ e in
+      let both = pick-fails-not _ _ _ e in
       all-more (some-of-none (λ (d : Edge). clash (X .target) κ τ (d .steps) (f .steps)) (both .0) i)
       (later-compatible (f ∷ earlier) es (both .1) d (List·Memᴰ·tail i))
 
@@ -262,7 +262,7 @@ module _ (X : Setting) (τ : ℕ) (κ : Kind) where
   unfolding firstClash
   edges-compatible earlier [] e = pairs-none
   edges-compatible earlier (f ∷ es) e =
-      let both = pick-fails-not _ (f .at) _ e in
+      let both = pick-fails-not _ _ _ e in
       pairs-more (later-compatible (f ∷ earlier) es (both .1) f (List·Memᴰ·head refl)) (edges-compatible (f ∷ earlier) es (both .1))
 
 -- where the first choice that a path leaves is an optional one, the steps before it lead to an optional choice
@@ -373,6 +373,11 @@ embedding-checks S T bs steps e =
       right-steps = r7 .0;
       no-clash = r8 .0;
     }
+
+-- an embedding that passes the checks is accepted
+pub embedding-accepted : {S T : Table} {bs : List ℕ} → PassedEmbedding S T bs (wrongSteps S T (embeddingOf bs)) → judgedEmbedding S T bs ≡ sound
+unfolding judgedEmbedding faultUnless faultAt
+embedding-accepted a = rw (a .short, a .form, a .limits, a .operands, a .root, a .right-ends, a .right-steps, a .no-clash)
 
 -- an accepted embedding between accepted tables is valid
 pub embedding-valid : (s t e : List ℕ) → judgedTable s ≡ sound → judgedTable t ≡ sound → judgedEmbedding (tableOf s) (tableOf t) e ≡ sound

@@ -61,6 +61,11 @@ all-at d pd all-none i = pd
 all-at d pd (all-more p ps) zero = p
 all-at d pd (all-more p ps) (suc i) = all-at d pd ps i
 
+-- and what holds at every index of a list holds of every entry
+pub all-from : {A : Type 0} {P : A → Type 0} (d : A) (xs : List A) → ((i : ℕ) → i < length xs → P (getD xs i d)) → All P xs
+all-from d [] h = all-none
+all-from d (x ∷ xs) h = all-more (h 0 (omega arith)) (all-from d xs (λ i less. h (suc i) (omega arith)))
+
 -- ---- check 2, form
 
 -- members and types that a state still needs
@@ -76,26 +81,27 @@ neededTypes whole = 0
 neededTypes (members k) = 0
 neededTypes tableEnded = 0
 
--- what holds of the members of a kind that is a choice
-abbrev IfChoice : (List ℕ → Type 0) → Kind → Type 0
-IfChoice P text = Unit {0}
-IfChoice P empty = Unit {0}
-IfChoice P (sequence ms) = Unit {0}
-IfChoice P (choice need ms) = P ms
-IfChoice P (list m) = Unit {0}
+-- the members that a kind needs
+abbrev pub leastMembers : Kind → ℕ
+leastMembers text = 0
+leastMembers empty = 0
+leastMembers (sequence ms) = 1
+leastMembers (choice needed ms) = 2
+leastMembers (choice optional ms) = 1
+leastMembers (list m) = 1
 
--- a kind that is a choice has a member
-abbrev HasMember : Kind → Type 0
-HasMember = IfChoice (λ ms. 0 < length ms)
+-- a kind has as many as it needs
+abbrev pub Enough : Kind → Type 0
+Enough κ = leastMembers κ ≤ length (membersOf κ)
 
 -- what the rest of a table of the right form has, from a state of its machine on
 record Formed (s : TableState) (r : TableTail) : Type 0 where
   enough-members : neededMembers s ≤ length (r .members)
   enough-types : neededTypes s ≤ length (r .kinds)
-  all-choose : All HasMember (r .kinds)
+  all-enough : All Enough (r .kinds)
 
 -- what each kind of move needs of the state before it
-move-begins : (s first : TableState) {then : TableState} → tableMove s (begins first) ≡ goes then → (first ≡ then) × (neededMembers s ≡ 0)
+pub move-begins : (s first : TableState) {then : TableState} → tableMove s (begins first) ≡ goes then → (first ≡ then) × (neededMembers s ≡ 0)
 unfolding tableMove
 move-begins noType first {then} e = (cc, refl)
 move-begins whole first {then} e = (cc, refl)
@@ -120,7 +126,7 @@ move-finishes (members zero) e = (refl, refl)
 move-finishes (members (suc k)) e = goes-stops e refl
 move-finishes tableEnded e = goes-stops e refl
 
-move-unknown {ℓ} : {X : Type ℓ} (s : TableState) {then : TableState} → tableMove s unknown ≡ goes then → X
+pub move-unknown {ℓ} : {X : Type ℓ} (s : TableState) {then : TableState} → tableMove s unknown ≡ goes then → X
 unfolding tableMove
 move-unknown noType e = goes-stops e refl
 move-unknown whole e = goes-stops e refl
@@ -128,12 +134,13 @@ move-unknown (members zero) e = goes-stops e refl
 move-unknown (members (suc k)) e = goes-stops e refl
 move-unknown tableEnded e = goes-stops e refl
 
--- a command that begins a type of a kind of which the choice fact holds
-formed-begins : (s first : TableState) {then : TableState} (κ : Kind) (r : TableTail) → tableMove s (begins first) ≡ goes then
-    → HasMember κ → All HasMember (r .kinds) → Formed s (record { members = []; kinds = κ ∷ r .kinds })
-formed-begins s first κ r e chooses-κ later =
-    let none-due = move-begins s first e .1 in
-    record { enough-members = omega arith; enough-types = types s; all-choose = all-more chooses-κ later }
+-- a command that begins a type, of a kind that has enough members where the members that it then needs follow
+formed-begins : (s first : TableState) {then : TableState} (κ : Kind) (r : TableTail) → tableMove s (begins first) ≡ goes then → Formed then r
+    → (neededMembers first ≤ length (r .members) → Enough κ) → Formed s (record { members = []; kinds = κ ∷ r .kinds })
+formed-begins s first κ r e h enough =
+    let moved = move-begins s first e in
+    let follow : neededMembers first ≤ length (r .members) = rw (moved .0) (h .enough-members) in
+    record { enough-members = omega (arith, moved .1); enough-types = types s; all-enough = all-more (enough follow) (h .all-enough) }
   where
     types : (s : TableState) → neededTypes s ≤ suc (length (r .kinds))
     types noType = omega arith
@@ -142,25 +149,19 @@ formed-begins s first κ r e chooses-κ later =
     types tableEnded = omega arith
 
 formed-step : (s then : TableState) (c : TableCommand) (r : TableTail) → tableStep s c ≡ goes then → Formed then r → Formed s (withCommand c r)
-unfolding tableStep tableRole withCommand
-formed-step s then textType r e h = formed-begins s whole text r e tt (h .all-choose)
-formed-step s then emptyType r e h = formed-begins s whole empty r e tt (h .all-choose)
-formed-step s then sequenceType r e h = formed-begins s (members 1) (sequence (r .members)) r e tt (h .all-choose)
-formed-step s then (choiceType needed) r e h =
-    let same = move-begins s (members 2) e .0 in
-    let two : 2 ≤ length (r .members) = rw (← same) at (h .enough-members) in
-    formed-begins s (members 2) (choice needed (r .members)) r e (omega arith) (h .all-choose)
-formed-step s then (choiceType optional) r e h =
-    let same = move-begins s (members 1) e .0 in
-    let one : 1 ≤ length (r .members) = rw (← same) at (h .enough-members) in
-    formed-begins s (members 1) (choice optional (r .members)) r e one (h .all-choose)
-formed-step s then (listType t) r e h = formed-begins s whole (list t) r e tt (h .all-choose)
+unfolding tableStep tableRole withCommand membersOf
+formed-step s then textType r e h = formed-begins s _ text r e h (λ follow. omega arith)
+formed-step s then emptyType r e h = formed-begins s _ empty r e h (λ follow. omega arith)
+formed-step s then sequenceType r e h = formed-begins s _ (sequence (r .members)) r e h (λ follow. omega arith)
+formed-step s then (choiceType needed) r e h = formed-begins s _ (choice needed (r .members)) r e h (λ follow. omega arith)
+formed-step s then (choiceType optional) r e h = formed-begins s _ (choice optional (r .members)) r e h (λ follow. omega arith)
+formed-step s then (listType t) r e h = formed-begins s _ (list t) r e h (λ follow. omega arith)
 formed-step s then (member t) r e h =
     let facts = move-joins s e in
-    record { enough-members = omega arith; enough-types = omega arith; all-choose = h .all-choose }
+    record { enough-members = omega arith; enough-types = omega arith; all-enough = h .all-enough }
 formed-step s then tableEnd r e h =
     let facts = move-finishes s e in
-    record { enough-members = omega arith; enough-types = omega arith; all-choose = h .all-choose }
+    record { enough-members = omega arith; enough-types = omega arith; all-enough = h .all-enough }
 formed-step s then alien r e h = move-unknown s e
 
 formed-end : (s : TableState) → tableComplete s ≡ true → Formed s (tableTail [])
@@ -168,14 +169,24 @@ unfolding tableComplete tableTail
 formed-end noType e = true-false e refl
 formed-end whole e = true-false e refl
 formed-end (members k) e = true-false e refl
-formed-end tableEnded e = record { enough-members = omega arith; enough-types = omega arith; all-choose = all-none }
+formed-end tableEnded e = record { enough-members = omega arith; enough-types = omega arith; all-enough = all-none }
 
--- a table of the right form has a type, and each of its choices has a member
+-- a table of the right form has a type, and each of its kinds has enough members
 form-holds : (bs : List ℕ) → tableForm bs ≡ passes → Formed noType (tableTail (tableCommands bs))
 unfolding tableForm tableTail
 form-holds bs e =
     run-holds tableWidth tableStep tableComplete (λ s cs. Formed s (tableTail cs)) formed-end
     (λ s then c cs. formed-step s then c (tableTail cs)) noType 0 (tableCommands bs) e
+
+pub enough-members-at : (bs : List ℕ) → tableForm bs ≡ passes → (t : ℕ) → Enough (kindOf (tableOf bs) t)
+unfolding kindOf tableOf membersOf
+enough-members-at bs e t = all-at {P = Enough} empty (omega arith) (form-holds bs e .all-enough) t
+
+-- a choice that has enough members has one
+enough-choose : (need : Need) (ms : List ℕ) → Enough (choice need ms) → 0 < length ms
+unfolding membersOf
+enough-choose needed ms enough = omega arith
+enough-choose optional ms enough = enough
 
 -- ---- check 4, operands
 
@@ -230,6 +241,14 @@ data Unrepeated : List ℕ → List ℕ → Type 0 where
 abbrev FreshFrom : Chosen → List ℕ → Type 0
 FreshFrom elsewhere ms = Unit {0}
 FreshFrom (among earlier) ms = Unrepeated earlier ms
+
+-- what holds of the members of a kind that is a choice
+abbrev IfChoice : (List ℕ → Type 0) → Kind → Type 0
+IfChoice P text = Unit {0}
+IfChoice P empty = Unit {0}
+IfChoice P (sequence ms) = Unit {0}
+IfChoice P (choice need ms) = P ms
+IfChoice P (list m) = Unit {0}
 
 -- the rest of a table repeats no member of a choice
 record Fresh (s : Chosen) (r : TableTail) : Type 0 where
@@ -325,7 +344,7 @@ table-well-formed bs form operands repeats =
     record {
       has-root = formed .enough-types;
       members-exist = members-known-at (names .all-known);
-      choices-choose = choice-at (formed .all-choose);
+      choices-choose = λ t need ms e. enough-choose need ms (rw e at (enough-members-at bs form t));
       choices-distinct = λ t need ms e. entry-once (choice-at (fresh .all-fresh) t need ms e);
     }
 
@@ -335,11 +354,11 @@ table-well-formed bs form operands repeats =
 none-endless : (types t : ℕ) (hs : List ℕ) → firstEndless types t hs ≡ passes → (i : ℕ) → getD hs i 0 ≤ types
 unfolding firstEndless
 none-endless types t [] e i = omega arith
-none-endless types t (h ∷ hs) e zero = leb-true h types (pick-passes (leb h types) (firstEndless types (suc t) hs) t e .0)
+none-endless types t (h ∷ hs) e zero = leb-true h types (pick-passes (leb h types) (firstEndless types (suc t) hs) _ e .0)
 none-endless types t (h ∷ hs) e (suc i) =
-    none-endless types (suc t) hs (pick-passes (leb h types) (firstEndless types (suc t) hs) t e .1) i
+    none-endless types (suc t) hs (pick-passes (leb h types) (firstEndless types (suc t) hs) _ e .1) i
 
-heights-finite : (S : Table) → endlessType S ≡ passes → (t : ℕ) → heightOf S t ≤ length S
+pub heights-finite : (S : Table) → endlessType S ≡ passes → (t : ℕ) → heightOf S t ≤ length S
 unfolding endlessType heightOf heightIn
 heights-finite S e = none-endless (length S) 0 (heights S) e
 
@@ -379,6 +398,11 @@ table-checks bs e =
     let r5 = no-fault-at _ _ _ (r4 .1) in
     let r6 = no-fault-at _ _ _ (r5 .1) in
     record { short = r1 .0; form = r2 .0; limits = r3 .0; operands = r4 .0; repeats = r5 .0; instances = r6 .0 }
+
+-- a table that passes the checks is accepted
+pub table-accepted : {bs : List ℕ} → PassedTable bs → judgedTable bs ≡ sound
+unfolding judgedTable faultUnless faultAt
+table-accepted a = rw (a .short, a .form, a .limits, a .operands, a .repeats, a .instances)
 
 -- an accepted table is sound
 pub table-sound : (bs : List ℕ) → judgedTable bs ≡ sound → SoundTable (tableOf bs)

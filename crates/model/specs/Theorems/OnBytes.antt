@@ -1,32 +1,33 @@
 -- What is proved of contents, said of documents as bytes, for `Statements`.
 use mathlib.Core.Path.{_≡_, refl, sym, ap, _∙_, subst}
 use mathlib.Core.List.{List, [], _++_}
-use mathlib.Core.Logic.{_↔_, _⊎_, inl, inr}
+use mathlib.Core.Logic.{_↔_}
 use mathlib.Core.Bool.{Bool, true, false}
 use mathlib.Core.Option.{Option, none, some}
 use Prim.Native.Nat.{ℕ, suc, _≤_, _<_}
 use native.Mathlib.Omega.{arith}
 use lib.ListN.{length, drop}
 use lib.Dec.{leb}
+use Rattle.model.specs.Definitions.Basics.{fails}
 use Rattle.model.specs.Definitions.Table.{Table, kindOf, tableOf}
 use Rattle.model.specs.Definitions.Content.{Content, document, contentOf, levels}
 use Rattle.model.specs.Definitions.Conformance.{Holds, Conforming}
-use Rattle.model.specs.Definitions.TreeChecks.{maxLevels}
+use Rattle.model.specs.Definitions.TreeChecks.{treeLevels, maxLevels}
 use Rattle.model.specs.Definitions.Image.{Setting, image}
 use Rattle.model.specs.Definitions.Inverse.{readBack, bringBackContent}
 use Rattle.model.specs.Definitions.SingleItems.{singleItems}
-use Rattle.model.specs.Definitions.Refusals.{sound, Refusal, output-too-short, no-image, source-table, tree, maxLength}
-use Rattle.model.specs.Definitions.Entries.{judgedTable, judgedTree, Outcome, accepted, refused, untouched, written, unlessFaulty, judgeTree, settingOf, carry, bringWithin, bringContent, bringBack}
+use Rattle.model.specs.Definitions.Refusals.{Judged, sound, has, Document, source-table, target-table, embedding, tree, too-long, over-limit, faulty, no-image, image-too-deep, image-too-long, output-too-short, maxLength}
+use Rattle.model.specs.Definitions.Entries.{judgedTable, judgedEmbedding, judgedTree, Outcome, accepted, refused, untouched, written, unlessFaulty, settingOf, carry, bringWithin, bringContent, bringBack}
 use Rattle.model.specs.Theorems.Facts.{Valid}
 use Rattle.model.specs.Theorems.Tools.{some-none}
-use Rattle.model.specs.Theorems.Terms.{AcceptedEmbedding, AcceptedTree, imageOf, fillerOf, levelsIn}
+use Rattle.model.specs.Theorems.Terms.{AcceptedEmbedding, AcceptedTree, imageOf, fillerOf, levelsIn, NoSource}
 use Rattle.model.specs.Theorems.JudgedTables.{tree-checks, table-sound}
 use Rattle.model.specs.Theorems.Documents.{document-injective, content-of-document, accepted-content}
 use Rattle.model.specs.Theorems.SingleItems.{image-single}
 use Rattle.model.specs.Theorems.NeverLonger.{levels-never-more, document-never-longer}
 use Rattle.model.specs.Theorems.BringingBack.{image-conforms, read-image, image-injective, brought-image, brought-source, nothing-exactly}
-use Rattle.model.specs.Theorems.EntryLaws.{Judges, judges-accept, judges-valid, accepted-refused, past-judge}
-use Rattle.model.specs.Theorems.DemandThree.{carries, carries-not, brings, brings-not, beyond-refused}
+use Rattle.model.specs.Theorems.EntryLaws.{Judges, judges-accept, judges-valid, judges-are-all, tree-judged, tree-is-accepted, accepted-refused}
+use Rattle.model.specs.Theorems.DemandThree.{carries, carries-not, brings, brings-not, source-too-long, source-too-deep, image-too-many-levels, image-too-many-bytes}
 
 -- a conforming document and what its root holds
 pub conforming-content : {S : Table} {d : List ℕ} → Conforming S d → (d ≡ document 0 (contentOf d)) × Holds S (kindOf S 0) (contentOf d)
@@ -40,19 +41,11 @@ content-conforming : {S : Table} (k : Content) → Holds S (kindOf S 0) k → Co
 unfolding Conforming
 content-conforming k h = (k, refl, h)
 
--- the judges that an accepted tree went past
-tree-judged : (t d : List ℕ) → AcceptedTree t d → (judgedTable t ≡ sound) × (judgedTree (tableOf t) d ≡ sound)
-unfolding judgeTree
-tree-judged t d a =
-    let first = past-judge source-table (judgedTable t) _ (a .1) in
-    let second = past-judge tree (judgedTree (tableOf t) d) _ (first .1) in
-    (first .0, second .0)
-
 -- an accepted tree and what its root holds
 accepted-tree : (t d : List ℕ) → AcceptedTree t d → (d ≡ document 0 (contentOf d)) × Holds (tableOf t) (kindOf (tableOf t) 0) (contentOf d)
 accepted-tree t d a =
-    let checks = tree-checks (tableOf t) d (tree-judged t d a .1) in
-    accepted-content (tableOf t) (table-sound t (tree-judged t d a .0) .well-formed) d (checks .form) (checks .operands) (checks .expected)
+    let checks = tree-checks (tableOf t) d (tree-judged t d (a .1) .1) in
+    accepted-content (tableOf t) (table-sound t (tree-judged t d (a .1) .0) .well-formed) d (checks .form) (checks .operands) (checks .expected)
 
 -- what bring back answers about a content
 none-answer : (out : List ℕ) (o : Option Content) → (bringContent out o .result ≡ refused no-image) ↔ (o ≡ none)
@@ -109,14 +102,14 @@ module _ (s t e : List ℕ) (a : AcceptedEmbedding s t e) where
   module _ (tr : List ℕ) (b : AcceptedTree t tr) where
     bring-tree : (out : List ℕ) → bringBack s t e tr out ≡ bringContent out (bringBackContent X (contentOf tr))
     unfolding bringBack unlessFaulty
-    bring-tree out = rw (judges .source-sound, judges .target-sound, judges .embedding-sound, tree-judged t tr b .1)
+    bring-tree out = rw (judges .source-sound, judges .target-sound, judges .embedding-sound, tree-judged t tr (b .1) .1)
 
     -- a document with this image has it as its content's image
     same-content : (d : List ℕ) → imageOf s t e d ≡ tr → image X (contentOf d) ≡ contentOf tr
     same-content d is = document-injective 0 0 (image X (contentOf d)) (contentOf tr) (is ∙ accepted-tree t tr b .0) .1
 
-    pub refused-15 : (out : List ℕ) → (bringBack s t e tr out .result ≡ refused no-image) ↔ ((d : List ℕ) → Conforming (tableOf s) d → imageOf s t e d ≡ tr → ⊥)
-    refused-15 out = (
+    no-source : (out : List ℕ) → (bringBack s t e tr out .result ≡ refused no-image) ↔ NoSource s t e tr
+    no-source out = (
       λ h d c is.
           nothing-exactly X valid (contentOf tr) .0 (none-answer out (bringBackContent X (contentOf tr)) .0 (sym (ap (λ (o : Outcome). o .result) (bring-tree out)) ∙ h))
           (contentOf d) (conforming-content c .1) (same-content d is),
@@ -179,12 +172,49 @@ module _ (s t e : List ℕ) (a : AcceptedEmbedding s t e) where
       not-brought-back out less =
           brings-not s t e judges (contentOf d) (conforming-content c .1) low-image short out (subst (λ (b : List ℕ). length out < length b) (sym is-document) less)
 
-    pub carry-beyond : (out : List ℕ) → (maxLevels < levelsIn (imageOf s t e d)) ⊎ (maxLength < length (imageOf s t e d))
-        → (why : Refusal) × (carry s t e d out ≡ record { result = refused why; output = out })
-    carry-beyond out far =
-        subst (λ (b : List ℕ). (why : Refusal) × (carry s t e b out ≡ record { result = refused why; output = out })) is-document
-        (beyond-refused s t e judges (contentOf d) (conforming-content c .1) out (as-content far))
-      where
-        as-content : (maxLevels < levelsIn (imageOf s t e d)) ⊎ (maxLength < length (imageOf s t e d)) → (maxLevels < suc (levels (image X (contentOf d)))) ⊎ (maxLength < length (imageOf s t e d))
-        as-content (inl high) = inl (subst (λ (n : ℕ). maxLevels < n) image-levels-in high)
-        as-content (inr long) = inr long
+    -- beyond the limits, of the source or only of its image
+    pub beyond-source-bytes : (out : List ℕ) → maxLength < length d → carry s t e d out ≡ untouched out (faulty tree too-long)
+    beyond-source-bytes out long =
+        subst (λ (b : List ℕ). maxLength < length b → carry s t e b out ≡ untouched out (faulty tree too-long)) is-document
+        (source-too-long s t e judges (contentOf d) (conforming-content c .1) out) long
+
+    pub beyond-source-levels : (out : List ℕ) → length d ≤ maxLength → maxLevels < levelsIn d
+        → (at : ℕ) × (treeLevels d ≡ fails at) × (carry s t e d out ≡ untouched out (faulty tree (over-limit at)))
+    beyond-source-levels out short high =
+        subst (λ (b : List ℕ). length b ≤ maxLength → (at : ℕ) × (treeLevels b ≡ fails at) × (carry s t e b out ≡ untouched out (faulty tree (over-limit at)))) is-document
+        (λ few. source-too-deep s t e judges (contentOf d) (conforming-content c .1) few out high) short
+
+    pub beyond-image-levels : (out : List ℕ) → length d ≤ maxLength → levelsIn d ≤ maxLevels → maxLevels < levelsIn (imageOf s t e d)
+        → carry s t e d out ≡ untouched out image-too-deep
+    beyond-image-levels out short low high =
+        subst (λ (b : List ℕ). length b ≤ maxLength → carry s t e b out ≡ untouched out image-too-deep) is-document
+        (λ few. image-too-many-levels s t e judges (contentOf d) (conforming-content c .1) few out low (subst (λ (n : ℕ). maxLevels < n) image-levels-in high)) short
+
+    pub beyond-image-bytes : (out : List ℕ) → length d ≤ maxLength → levelsIn (imageOf s t e d) ≤ maxLevels → maxLength < length (imageOf s t e d)
+        → carry s t e d out ≡ untouched out image-too-long
+    beyond-image-bytes out short low long =
+        subst (λ (b : List ℕ). length b ≤ maxLength → carry s t e b out ≡ untouched out image-too-long) is-document
+        (λ few. image-too-many-bytes s t e judges (contentOf d) (conforming-content c .1) few out (subst (λ (n : ℕ). n ≤ maxLevels) image-levels-in low) long) short
+
+-- ---- 15, for any bytes
+
+-- an answer of 15 went past a document's judgement
+past-fault : (out : List ℕ) (d : Document) (j : Judged) (later : Unit {0} → Outcome) → unlessFaulty (untouched out) d j later .result ≡ refused no-image
+    → (j ≡ sound) × (later tt .result ≡ refused no-image)
+unfolding unlessFaulty untouched
+past-fault out d sound later e = (refl, e)
+past-fault out d (has f) later e = let z : _≡_ {A = ℕ} 0 1 = cc in absurd (omega arith)
+
+pub refused-15 : (s t e tr out : List ℕ) → (bringBack s t e tr out .result ≡ refused no-image) ↔ (AcceptedEmbedding s t e × AcceptedTree t tr × NoSource s t e tr)
+unfolding bringBack
+refused-15 s t e tr out = (
+  λ h.
+      let source = past-fault out source-table (judgedTable s) _ h in
+      let target = past-fault out target-table (judgedTable t) _ (source .1) in
+      let map = past-fault out embedding (judgedEmbedding (tableOf s) (tableOf t) e) _ (target .1) in
+      let last = past-fault out tree (judgedTree (tableOf t) tr) _ (map .1) in
+      let a : AcceptedEmbedding s t e = judges-are-all s t e (record { source-sound = source .0; target-sound = target .0; embedding-sound = map .0 }) in
+      let b : AcceptedTree t tr = tree-is-accepted t tr (target .0) (last .0) in
+      (a, b, no-source s t e a tr b out .0 h),
+  λ all. no-source s t e (all .0) tr (all .1) out .1 (all .2),
+)

@@ -27,7 +27,7 @@ pub next-is : (T : Table) (τ p m : ℕ) {κ : Kind} → kindOf T τ ≡ κ → 
 unfolding next orRoot
 next-is T τ p m e f = rw (e, f)
 
-entry-nil : {A : Type 0} (p : ℕ) → entry {A = A} p [] ≡ none
+pub entry-nil : {A : Type 0} (p : ℕ) → entry {A = A} p [] ≡ none
 unfolding entry
 entry-nil zero = refl
 entry-nil (suc p) = refl

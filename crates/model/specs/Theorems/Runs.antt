@@ -5,7 +5,7 @@ use mathlib.Core.List.{List, [], _∷_, _++_}
 use Prim.Native.Nat.{ℕ, _+_}
 use native.Mathlib.Omega.{arith}
 use native.Mathlib.Nat.{add-zero, zero-add, add-assoc}
-use Rattle.model.specs.Definitions.Basics.{pick, Verdict, passes, fails, Next, goes, stops, proceed, run, goesIf}
+use Rattle.model.specs.Definitions.Basics.{pick, Verdict, passes, fails, Next, goes, stops, proceed, run, followed, reach, goesIf}
 
 -- ---- answers of a machine
 
@@ -16,11 +16,6 @@ goes-stops {s = s} {n} p q = let z : _≡_ {A = ℕ} 0 1 = cc in absurd (omega a
 pub passes-fails {ℓ} : {X : Type ℓ} {at : ℕ} {v : Verdict} → v ≡ passes → v ≡ fails at → X
 passes-fails {at = at} {v} p q = let z : _≡_ {A = ℕ} 0 1 = cc in absurd (omega arith)
 
--- one answer, then what follows from the next state
-unfoldable pub followed : {S : Type 0} → Next S → (S → Next S) → Next S
-followed (goes s) onward = onward s
-followed stops onward = stops
-
 -- a tested step that went on: the test passed
 pub followed-if : {S : Type 0} (b : Bool) (s : S) (onward : S → Next S) {m : S} → followed (goesIf b s) onward ≡ goes m → (b ≡ true) × (onward s ≡ goes m)
 unfolding goesIf followed
@@ -30,31 +25,26 @@ followed-if false s onward {m} e = goes-stops e refl
 -- ---- runs
 
 module _ {C S : Type 0} (step : S → C → Next S) where
-  -- the state after all commands
-  unfoldable pub reach : S → List C → Next S
-  reach s [] = goes s
-  reach s (c ∷ cs) = followed (step s c) (λ next. reach next cs)
-
   -- a run over xs and then ys goes through the state after xs
-  pub reach-append : (s : S) (xs ys : List C) {m : S} → reach s xs ≡ goes m → reach s (xs ++ ys) ≡ reach m ys
+  pub reach-append : (s : S) (xs ys : List C) {m : S} → reach step s xs ≡ goes m → reach step s (xs ++ ys) ≡ reach step m ys
   unfolding reach followed
   reach-append s [] ys {m} e = let same : s ≡ m = cc in rw same
   reach-append s (c ∷ xs) ys {m} e = go (step s c) refl (λ next h. reach-append next xs ys h)
     where
-      go : (n : Next S) → step s c ≡ n → ((next : S) → reach next xs ≡ goes m → reach next (xs ++ ys) ≡ reach m ys)
-          → reach s (c ∷ xs ++ ys) ≡ reach m ys
+      go : (n : Next S) → step s c ≡ n → ((next : S) → reach step next xs ≡ goes m → reach step next (xs ++ ys) ≡ reach step m ys)
+          → reach step s (c ∷ xs ++ ys) ≡ reach step m ys
       go (goes next) q later = rw q (later next (rw q at e))
       go stops q later = goes-stops e (rw q)
 
   -- and a run that ends went through some state after xs
-  pub reach-front : (s : S) (xs ys : List C) {last : S} → reach s (xs ++ ys) ≡ goes last → (m : S) × (reach s xs ≡ goes m) × (reach m ys ≡ goes last)
+  pub reach-front : (s : S) (xs ys : List C) {last : S} → reach step s (xs ++ ys) ≡ goes last → (m : S) × (reach step s xs ≡ goes m) × (reach step m ys ≡ goes last)
   unfolding reach followed
   reach-front s [] ys {last} e = (s, refl, e)
   reach-front s (c ∷ xs) ys {last} e = go (step s c) refl (λ next h. reach-front next xs ys h)
     where
       go : (n : Next S) → step s c ≡ n
-          → ((next : S) → reach next (xs ++ ys) ≡ goes last → (m : S) × (reach next xs ≡ goes m) × (reach m ys ≡ goes last))
-          → (m : S) × (reach s (c ∷ xs) ≡ goes m) × (reach m ys ≡ goes last)
+          → ((next : S) → reach step next (xs ++ ys) ≡ goes last → (m : S) × (reach step next xs ≡ goes m) × (reach step m ys ≡ goes last))
+          → (m : S) × (reach step s (c ∷ xs) ≡ goes m) × (reach step m ys ≡ goes last)
       go (goes next) q later = rw q (later next (rw q at e))
       go stops q later = goes-stops e (rw q)
 

@@ -2,7 +2,9 @@
 use mathlib.Core.Path.{_≡_}
 use mathlib.Core.List.{List}
 use Prim.Native.Nat.{ℕ, suc}
+use Rattle.model.specs.Definitions.Table.{tableOf}
 use Rattle.model.specs.Definitions.Content.{document, contentOf, levels}
+use Rattle.model.specs.Definitions.Conformance.{Conforming}
 use Rattle.model.specs.Definitions.Image.{image, imageFiller}
 use Rattle.model.specs.Definitions.Entries.{accepted, judgeTable, judgeEmbedding, judgeTree, settingOf}
 
@@ -22,6 +24,10 @@ imageOf s t e d = document 0 (image (settingOf s t e) (contentOf d))
 
 abbrev pub fillerOf : List ℕ → List ℕ → List ℕ → List ℕ → ℕ
 fillerOf s t e d = imageFiller (settingOf s t e) (contentOf d)
+
+-- no conforming source document has this one as its image
+abbrev pub NoSource : List ℕ → List ℕ → List ℕ → List ℕ → Type 0
+NoSource s t e tr = (d : List ℕ) → Conforming (tableOf s) d → imageOf s t e d ≡ tr → ⊥
 
 -- a document's levels; the root is level 1
 abbrev pub levelsIn : List ℕ → ℕ

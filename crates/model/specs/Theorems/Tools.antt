@@ -1,14 +1,15 @@
 -- Laws of the tools of `Basics` and of tests, used by all theorems.
-use mathlib.Core.Path.{_≡_, refl}
-use mathlib.Core.Bool.{Bool, true, false, _&&_}
+use mathlib.Core.Path.{_≡_, refl, ap}
+use mathlib.Core.Bool.{Bool, true, false, not, _&&_, _||_}
 use mathlib.Core.List.{List, [], _∷_, List·Memᴰ, List·Memᴰ·head, List·Memᴰ·tail}
+use mathlib.Core.Logic.{_↔_, Iff·rfl, _⊎_, inl, inr}
 use mathlib.Core.Option.{Option, none, some}
 use Prim.Native.Nat.{ℕ, zero, suc, _+_, _-_, _≤_}
 use native.Mathlib.Omega.{arith}
 use lib.ListN.{length, getD}
 use lib.Dec.{eqb}
-use borrow.Author.Tests.{eqb-true}
-use Rattle.model.specs.Definitions.Basics.{pick, entry, memberOf}
+use borrow.Author.Tests.{eqb-true, eq-eqb, not-true}
+use Rattle.model.specs.Definitions.Basics.{pick, entry, memberOf, some-of}
 
 -- a choice by a test whose answer is known
 pub pick-true {ℓ} : {X : Type ℓ} (b : Bool) (x y : X) → b ≡ true → pick b x y ≡ x
@@ -18,6 +19,12 @@ pick-true b x y e = rw e
 pub pick-false {ℓ} : {X : Type ℓ} (b : Bool) (x y : X) → b ≡ false → pick b x y ≡ y
 unfolding pick
 pick-false b x y e = rw e
+
+-- a choice by the opposite test
+pub pick-not {ℓ} : {X : Type ℓ} (b : Bool) (x y : X) → pick (not b) x y ≡ pick b y x
+unfolding pick
+pick-not true x y = refl
+pick-not false x y = refl
 
 -- a test can't be both
 pub true-false {ℓ} : {X : Type ℓ} {b : Bool} → b ≡ true → b ≡ false → X
@@ -72,3 +79,75 @@ entry-at (suc (suc p)) (x ∷ xs) m e =
 
 pub one-plus : (j : ℕ) → 1 + j ≡ suc j
 one-plus j = omega arith
+
+-- ---- tests and what they decide
+
+-- a test passes exactly where a fact holds
+abbrev pub Decides : Bool → Type 0 → Type 0
+Decides b P = (b ≡ true) ↔ P
+
+-- where it doesn't hold, the test fails
+pub refuted : {P : Type 0} (b : Bool) → Decides b P → (P → ⊥) → b ≡ false
+refuted true d h = absurd (h (d .0 refl))
+refuted false d h = refl
+
+-- where the test failed, it doesn't hold
+pub denied : {P : Type 0} → Decides false P → P → ⊥
+denied d h = true-false (d .1 h) refl
+
+-- one of two tests
+pub either : {P Q : Type 0} (a b : Bool) → Decides a P → Decides b Q → Decides (a || b) (P ⊎ Q)
+either true b d e = (λ h. inl (d .0 refl), λ h. refl)
+either {P} {Q} false b d e = (λ h. inr (e .0 h), right)
+  where
+    right : P ⊎ Q → b ≡ true
+    right (inl h) = absurd (denied d h)
+    right (inr h) = e .1 h
+
+-- both of two tests
+pub both : {P Q : Type 0} (a b : Bool) → Decides a P → Decides b Q → Decides (a && b) (P × Q)
+both a b d e = (λ h. (d .0 (and-left a b h), e .0 (and-right a b h)), λ h. and-both (d .1 (h .0)) (e .1 (h .1)))
+
+-- a test of equality
+pub equal : (a b : ℕ) → Decides (eqb a b) (a ≡ b)
+equal a b = (eqb-true a b, eq-eqb a b)
+
+-- a test that some entry passes
+pub some-passes : {A : Type 0} {P : A → Type 0} (test : A → Bool) → ((x : A) → Decides (test x) (P x)) → (xs : List A)
+    → Decides (some-of test xs) ((x : A) × List·Memᴰ x xs × P x)
+unfolding some-of
+some-passes {A} {P} test d xs = (found xs, λ s. passed xs (s .0) (s .1) (s .2))
+  where
+    found : (xs : List A) → some-of test xs ≡ true → (x : A) × List·Memᴰ x xs × P x
+    found [] e = true-false e refl
+    found (y ∷ xs) e = go (test y) refl (found xs)
+      where
+        go : (b : Bool) → test y ≡ b → (some-of test xs ≡ true → (x : A) × List·Memᴰ x xs × P x) → (x : A) × List·Memᴰ x (y ∷ xs) × P x
+        go true q later = (y, List·Memᴰ·head refl, d y .0 q)
+        go false q later = let s = later (rw q at e) in (s .0, List·Memᴰ·tail (s .1), s .2)
+
+    passed : (xs : List A) (x : A) → List·Memᴰ x xs → P x → some-of test xs ≡ true
+    passed (y ∷ xs) x (List·Memᴰ·head same) h = rw (← same, d x .1 h)
+    passed (y ∷ xs) x (List·Memᴰ·tail i) h = go (test y) (passed xs x i h)
+      where
+        go : (b : Bool) → some-of test xs ≡ true → (b || some-of test xs) ≡ true
+        go true later = refl
+        go false later = later
+
+-- and one that none passes
+pub none-passes : {A : Type 0} {P : A → Type 0} (test : A → Bool) → ((x : A) → Decides (not (test x)) (P x)) → (xs : List A)
+    → Decides (not (some-of test xs)) ((x : A) → List·Memᴰ x xs → P x)
+none-passes {A} {P} test d xs = (each, none-does)
+  where
+    some-does : Decides (some-of test xs) ((x : A) × List·Memᴰ x xs × (test x ≡ true))
+    some-does = some-passes test (λ x. Iff·rfl) xs
+
+    each : not (some-of test xs) ≡ true → (x : A) → List·Memᴰ x xs → P x
+    each e x i = d x .0 (go (test x) refl)
+      where
+        go : (b : Bool) → test x ≡ b → not (test x) ≡ true
+        go true q = true-false (some-does .1 (x, i, q)) (not-true _ e)
+        go false q = rw q
+
+    none-does : ((x : A) → List·Memᴰ x xs → P x) → not (some-of test xs) ≡ true
+    none-does all = ap not (refuted _ some-does (λ s. true-false (s .2) (not-true _ (d (s .0) .1 (all (s .0) (s .1))))))

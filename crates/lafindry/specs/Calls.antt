@@ -1,0 +1,24 @@
+-- Calls of the entries: what is known of one by its documents, the output before and after it, and its answer. The contracts of the
+-- entries say these predicates, and the theorems about the program (`Program.antt`) speak of calls of which they hold.
+use mathlib.Core.Path.{_≡_}
+use mathlib.Core.List.{List}
+use Prim.Native.Nat.{ℕ}
+use Rattle.answer_numbers.specs.declared.Answer.{Answer}
+use Rattle.answer_numbers.specs.Numbers.{numbers}
+use Rattle.outcomes.specs.Outcomes.{Answers}
+use Rattle.model.specs.Definitions.Entries.{answerOf, judgeTable, judgeEmbedding, judgeTree, carry, bringBack}
+
+abbrev pub JudgeTableCall : List ℕ → Answer → Type 0
+JudgeTableCall t a = numbers a ≡ answerOf (judgeTable t)
+
+abbrev pub JudgeEmbeddingCall : List ℕ → List ℕ → List ℕ → Answer → Type 0
+JudgeEmbeddingCall s t e a = numbers a ≡ answerOf (judgeEmbedding s t e)
+
+abbrev pub JudgeTreeCall : List ℕ → List ℕ → Answer → Type 0
+JudgeTreeCall t tr a = numbers a ≡ answerOf (judgeTree t tr)
+
+abbrev pub CarryCall : List ℕ → List ℕ → List ℕ → List ℕ → List ℕ → List ℕ → Answer → Type 0
+CarryCall s t e tr before after a = Answers (carry s t e tr before) after a
+
+abbrev pub BringBackCall : List ℕ → List ℕ → List ℕ → List ℕ → List ℕ → List ℕ → Answer → Type 0
+BringBackCall s t e tr before after a = Answers (bringBack s t e tr before) after a
