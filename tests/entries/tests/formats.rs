@@ -1,0 +1,178 @@
+//! Every example of `docs/FORMATS.md` is run: the archive and the reference
+//! give the answers that the page has, and bytes that the page repeats stand in
+//! the documents of its cases. That a changed page fails is tested too.
+
+mod page;
+
+use lafindry_entries::{check, compare, ensure, report, Failure, Histogram};
+use lafindry_reference::table::accept;
+use lafindry_reference::vectors::{Answer, Case, Entry};
+use lafindry_reference::{MOST_BYTES, TARGET};
+use page::examples::{Example, Examples};
+use page::terms::byte_of;
+use page::{drawings, spans, Page, PAGE};
+
+/// The content of a file of the repository.
+fn content(name: &str) -> Result<Vec<u8>, Failure> {
+    let path = format!("{}/../../{name}", env!("CARGO_MANIFEST_DIR"));
+    std::fs::read(path).map_err(|error| Failure(format!("{name}: {error}")))
+}
+
+/// The text of the page.
+fn page_text() -> Result<String, Failure> {
+    String::from_utf8(content(PAGE)?).map_err(|error| Failure(format!("{PAGE}: {error}")))
+}
+
+/// What a page has.
+struct Seen {
+    histogram: Histogram,
+    drawings: usize,
+    spans: usize,
+}
+
+/// Runs all examples of a page and looks at all its bytes.
+fn check_page(text: &str) -> Result<Seen, Failure> {
+    let page = Page::read(text)?;
+    let examples = Examples::read(&page)?;
+    let mut histogram = Histogram::default();
+    for example in &examples.all {
+        check_example(example).map_err(|failure| example.line.fault(failure.0))?;
+        histogram.add(&example.case, &example.answer);
+    }
+    let drawings = drawings::check(&page, &examples)?;
+    Ok(Seen { histogram, drawings, spans: spans::check(&page, &examples)? })
+}
+
+/// Compares the page's answer with the reference's and with the archive's. A
+/// document that was carried has to come back.
+fn check_example(example: &Example) -> Result<(), Failure> {
+    let Example { case, answer, heights, .. } = example;
+    let given = case.run().map_err(|message| Failure(format!("the reference: {message}")))?;
+    ensure(given == *answer, format!("the page has '{answer}', the reference gives '{given}'"))?;
+    check(case, answer)?;
+    if let Some(heights) = heights {
+        check_heights(case, heights)?;
+    }
+    match (case.entry, answer) {
+        (Entry::Carry, Answer::Ok { output, .. }) => comes_back(case, output),
+        _ => Ok(()),
+    }
+}
+
+/// Fails unless the types of the target table have these heights.
+fn check_heights(case: &Case, heights: &[u64]) -> Result<(), Failure> {
+    let table = accept(&case.documents[1], TARGET);
+    let table = table.map_err(|refusal| Failure(format!("the target table: {refusal:?}")))?;
+    let given: Vec<u64> = table.heights().into_iter().flatten().collect();
+    ensure(given == heights, format!("the page has heights {heights:?}, the reference gives {given:?}"))
+}
+
+/// Fails unless an image gives the tree that was carried.
+fn comes_back(case: &Case, image: &[u8]) -> Result<(), Failure> {
+    let mut documents = case.documents.clone();
+    documents[3] = image.to_vec();
+    match compare(&Case { entry: Entry::BringBack, documents, output_length: MOST_BYTES })? {
+        Answer::Ok { output, .. } if output == case.documents[3] => Ok(()),
+        other => Err(Failure(format!("the image does not come back: {other}"))),
+    }
+}
+
+#[test]
+fn examples_of_the_page_agree() -> Result<(), Failure> {
+    let text = page_text()?;
+    let Seen { histogram, drawings, spans } = check_page(&text)?;
+    report(&format!(
+        "{PAGE}: {} cases agree, {drawings} drawings and {spans} rows of bytes stand in their documents\n{histogram}",
+        histogram.total()
+    ));
+    let blocks = text.lines().filter(|line| line.trim_start().starts_with("```case")).count();
+    ensure(histogram.total() == blocks, format!("{} cases in {blocks} code blocks", histogram.total()))?;
+    ensure(blocks >= 108 && drawings >= 13 && spans >= 9, "fewer examples than the page had")?;
+    for number in 0..=15 {
+        let count: usize = Entry::ALL.map(|entry| histogram.of(entry, number)).iter().sum();
+        ensure(count > 0, format!("no example of refusal {number} (0: accepted)"))?;
+    }
+    Ok(())
+}
+
+/// The files of examples, and the documents of the page that they hold.
+const FILES: [(&str, &str); 10] = [
+    ("patch/s1", "patch.source"),
+    ("patch/s2", "patch.target"),
+    ("patch/em", "patch.embedding"),
+    ("patch/tr", "patch.tree"),
+    ("patch/accented", "accented.tree"),
+    ("module/s1", "module.source"),
+    ("module/s2", "module.target"),
+    ("module/em", "module.embedding"),
+    ("module/tr", "module.tree"),
+    ("module/present", "module-present.tree"),
+];
+
+#[test]
+fn files_are_those_of_the_page() -> Result<(), Failure> {
+    let text = page_text()?;
+    let examples = Examples::read(&Page::read(&text)?)?;
+    for (file, name) in FILES {
+        let document = examples.named.get(name).ok_or_else(|| Failure(format!("{PAGE}: no {name}")))?;
+        ensure(content(&format!("examples/{file}"))? == *document, format!("examples/{file} is not {name}"))?;
+    }
+    Ok(())
+}
+
+/// The line with its last number increased by one.
+fn other_number(line: &str) -> Option<String> {
+    let (before, number) = line.rsplit_once(' ')?;
+    Some(format!("{before} {}", number.parse::<u64>().ok()? + 1))
+}
+
+/// The line with another byte for the first of at least so many in a row, from
+/// a place on; words are parted by blanks and by `` ` ``.
+fn other_byte(line: &str, from: usize, least: usize) -> Option<String> {
+    let is_end = |at: usize| line[at..].chars().next().is_none_or(|c| matches!(c, ' ' | '`'));
+    let is_byte = |at: usize| {
+        let starts = at == 0 || matches!(line.as_bytes()[at - 1], b' ' | b'`');
+        starts && line.get(at..at + 2).and_then(byte_of).is_some() && is_end(at + 2)
+    };
+    let found = (from..line.len()).find(|&at| (0..least).all(|k| is_byte(at + 3 * k)))?;
+    // No document of the page has the byte 8E.
+    Some(format!("{}8E{}", &line[..found], &line[found + 2..]))
+}
+
+/// A line of the page with one change that has to be noticed, if it is of a
+/// kind that has one; `inside` is the kind of code block around it.
+fn changed(line: &str, inside: Option<&str>) -> Option<String> {
+    match inside {
+        Some("case") if line.starts_with("answer: ") || line.starts_with("heights: ") => other_number(line),
+        Some("case") if line.starts_with("output: ") => other_byte(line, "output: ".len(), 1),
+        Some("bytes") => {
+            let offset = line.len() - line.trim_start().len() + line.trim_start().find(' ').unwrap_or(0);
+            other_byte(line, offset, 1)
+        }
+        Some("characters") => Some(line.replacen(' ', " x ", 1)),
+        Some("text") => other_byte(line, 0, 3),
+        None => other_byte(line, line.find('`')?, 3),
+        _ => None,
+    }
+}
+
+#[test]
+fn a_changed_page_fails() -> Result<(), Failure> {
+    let text = page_text()?;
+    let lines: Vec<&str> = text.lines().collect();
+    let (mut inside, mut tried) = (None, 0);
+    for (at, line) in lines.iter().enumerate() {
+        if let Some(kind) = line.strip_prefix("```") {
+            inside = inside.is_none().then_some(kind);
+            continue;
+        }
+        if let Some(other) = changed(line, inside) {
+            let whole = [&lines[..at], &[other.as_str()], &lines[at + 1..]].concat().join("\n");
+            let noticed = check_page(&whole).is_err();
+            ensure(noticed, format!("{PAGE}:{}: '{other}' in its place is not noticed", at + 1))?;
+            tried += 1;
+        }
+    }
+    report(&format!("{PAGE}: {tried} changes of a line are noticed"));
+    ensure(tried >= 300, format!("only {tried} changes tried"))
+}

@@ -1,0 +1,247 @@
+//! The cases of the page.
+//!
+//! A code block `case` holds lines `key: value`; a line that begins with a
+//! blank goes on with the value above it.
+//!
+//! | Key | Value |
+//! |---|---|
+//! | `name` | the case's name; its documents are then `name.source` and so on |
+//! | `like` | an earlier case, which the documents not stated are taken from |
+//! | `entry` | `judge table`, `judge embedding`, `judge tree`, `carry` or `bring back` |
+//! | `table`, `source`, `target`, `embedding`, `tree` | a document, see [`terms`](super::terms) |
+//! | `room` | length of the lent output; 60,000 where it is not stated |
+//! | `answer` | `accepted N`, `carried LENGTH FILLER`, `brought LENGTH` or `refused NUMBER DOCUMENT MARK` |
+//! | `output` | the document written; stated where one is written |
+//! | `heights` | heights of the target table's types, in order |
+
+use super::terms::{bytes_of, Named};
+use super::{Block, Line, Page};
+use lafindry_entries::Failure;
+use lafindry_reference::vectors::{Answer, Case, Entry};
+use lafindry_reference::{Refusal, MOST_BYTES};
+use std::collections::BTreeMap;
+
+/// The keys that name documents which an entry is given.
+const DOCUMENTS: [&str; 5] = ["table", "source", "target", "embedding", "tree"];
+/// The other keys.
+const OTHERS: [&str; 7] = ["name", "like", "entry", "room", "answer", "output", "heights"];
+
+/// A case of the page.
+pub struct Example<'a> {
+    /// The line that opens its code block.
+    pub line: Line<'a>,
+    pub name: Option<&'a str>,
+    pub case: Case,
+    pub answer: Answer,
+    pub heights: Option<Vec<u64>>,
+}
+
+/// All cases, and their documents by name.
+#[derive(Default)]
+pub struct Examples<'a> {
+    pub all: Vec<Example<'a>>,
+    pub named: Named,
+}
+
+impl<'a> Examples<'a> {
+    /// Reads the cases of the page in order.
+    pub fn read(page: &Page<'a>) -> Result<Examples<'a>, Failure> {
+        let mut examples = Examples::default();
+        for block in page.of_kind("case") {
+            examples.add(block)?;
+        }
+        Ok(examples)
+    }
+
+    /// The case that has a name.
+    pub fn of_name(&self, name: &str) -> Option<&Example<'a>> {
+        self.all.iter().find(|example| example.name == Some(name))
+    }
+
+    /// Whether some document of a case, given or written, has these bytes in a
+    /// row.
+    pub fn have(&self, bytes: &[u8]) -> bool {
+        let has = |document: &Vec<u8>| document.windows(bytes.len()).any(|part| part == bytes);
+        self.all.iter().any(|example| match &example.answer {
+            Answer::Ok { output, .. } if has(output) => true,
+            _ => example.case.documents.iter().any(has),
+        })
+    }
+
+    /// Reads a case and keeps its documents by name.
+    fn add(&mut self, block: &Block<'a>) -> Result<(), Failure> {
+        let fields = Fields::read(block)?;
+        let name = fields.get("name").map(|field| field.1.trim());
+        if let Some(name) = name {
+            let plain = name.bytes().all(|letter| matches!(letter, b'a'..=b'z' | b'0'..=b'9' | b'-'));
+            if !plain || name.is_empty() || self.of_name(name).is_some() {
+                return Err(block.opening.fault(format!("'{name}' is no name, or not a new one")));
+            }
+        }
+        let entry = fields.entry()?;
+        let keys = keys_of(entry);
+        fields.only(&keys, entry)?;
+        let like = fields.like(self)?;
+        let documents = keys.iter().map(|key| fields.document(key, like, &self.named));
+        let documents: Vec<Vec<u8>> = documents.collect::<Result<_, _>>()?;
+        let output_length = match (entry.writes(), fields.get("room")) {
+            (false, _) => 0,
+            (true, None) => MOST_BYTES,
+            (true, Some((line, text))) => number(line, text)? as usize,
+        };
+        let answer = fields.answer(entry, &self.named)?;
+        if let Some(name) = name {
+            let given = keys.iter().zip(&documents);
+            self.named.extend(given.map(|(key, bytes)| (format!("{name}.{key}"), bytes.clone())));
+            if let Answer::Ok { output, .. } = &answer {
+                self.named.insert(format!("{name}.output"), output.clone());
+            }
+        }
+        let heights = fields.heights()?;
+        let case = Case { entry, documents, output_length };
+        self.all.push(Example { line: block.opening, name, case, answer, heights });
+        Ok(())
+    }
+}
+
+/// The documents of an entry, in the order in which it is given them.
+fn keys_of(entry: Entry) -> Vec<&'static str> {
+    match entry {
+        Entry::JudgeTable => vec!["table"],
+        Entry::JudgeTree => vec!["table", "tree"],
+        Entry::JudgeEmbedding => vec!["source", "target", "embedding"],
+        Entry::Carry | Entry::BringBack => vec!["source", "target", "embedding", "tree"],
+    }
+}
+
+/// The name that the page has for an entry.
+pub fn title(entry: Entry) -> String {
+    entry.name().replace('_', " ")
+}
+
+/// Reads a number.
+fn number(line: Line, text: &str) -> Result<u64, Failure> {
+    text.trim().parse().map_err(|_| line.fault(format!("'{text}' is no number")))
+}
+
+/// The values of a code block by key, each with its line.
+struct Fields<'a> {
+    opening: Line<'a>,
+    values: BTreeMap<&'a str, (Line<'a>, String)>,
+    texts: BTreeMap<&'a str, &'a str>,
+}
+
+impl<'a> Fields<'a> {
+    /// Reads the lines of a code block.
+    fn read(block: &Block<'a>) -> Result<Fields<'a>, Failure> {
+        let (mut values, mut texts) = (BTreeMap::new(), BTreeMap::new());
+        let mut last = None;
+        for &line in &block.lines {
+            if line.text.starts_with(' ') {
+                let document = last.filter(|key| DOCUMENTS.contains(key) || *key == "output");
+                let value: Option<&mut (Line, String)> = document.and_then(|key| values.get_mut(key));
+                let value =
+                    value.ok_or_else(|| line.fault("no document stands above that this goes on with"))?;
+                value.1.push_str(line.text);
+                continue;
+            }
+            let (key, text) = line.text.split_once(": ").ok_or_else(|| line.fault("no 'key: value'"))?;
+            if !DOCUMENTS.contains(&key) && !OTHERS.contains(&key) {
+                return Err(line.fault(format!("no key: '{key}'")));
+            }
+            if values.insert(key, (line, text.to_string())).is_some() {
+                return Err(line.fault(format!("'{key}' a second time")));
+            }
+            texts.insert(key, text);
+            last = Some(key);
+        }
+        Ok(Fields { opening: block.opening, values, texts })
+    }
+
+    /// A value on one line, and the line.
+    fn get(&self, key: &str) -> Option<(Line<'a>, &'a str)> {
+        Some((self.values.get(key)?.0, *self.texts.get(key)?))
+    }
+
+    /// A value on one line that has to be there.
+    fn needed(&self, key: &str) -> Result<(Line<'a>, &'a str), Failure> {
+        self.get(key).ok_or_else(|| self.opening.fault(format!("the case has no '{key}'")))
+    }
+
+    /// The entry that is called.
+    fn entry(&self) -> Result<Entry, Failure> {
+        let (line, text) = self.needed("entry")?;
+        let entry = Entry::ALL.into_iter().find(|&entry| title(entry) == text);
+        entry.ok_or_else(|| line.fault(format!("'{text}' is no entry")))
+    }
+
+    /// Fails where a value is stated that the entry does not use.
+    fn only(&self, keys: &[&str], entry: Entry) -> Result<(), Failure> {
+        let unused = |key: &str| match key {
+            "room" | "output" => !entry.writes(),
+            "heights" => !keys.contains(&"target"),
+            _ => DOCUMENTS.contains(&key) && !keys.contains(&key),
+        };
+        match self.values.iter().find(|(key, _)| unused(key)) {
+            Some((key, (line, _))) => Err(line.fault(format!("'{}' takes no '{key}'", title(entry)))),
+            None => Ok(()),
+        }
+    }
+
+    /// The name of the case that documents are taken from.
+    fn like(&self, earlier: &Examples) -> Result<Option<&'a str>, Failure> {
+        match self.get("like") {
+            Some((line, name)) if earlier.of_name(name).is_none() => {
+                Err(line.fault(format!("no earlier case '{name}'")))
+            }
+            other => Ok(other.map(|(_, name)| name)),
+        }
+    }
+
+    /// A document, stated or taken from another case.
+    fn document(&self, key: &str, like: Option<&str>, named: &Named) -> Result<Vec<u8>, Failure> {
+        match (self.values.get(key), like) {
+            (Some((line, text)), _) => bytes_of(text, named).map_err(|message| line.fault(message)),
+            (None, Some(name)) if named.contains_key(&format!("{name}.{key}")) => {
+                Ok(named[&format!("{name}.{key}")].clone())
+            }
+            _ => Err(self.opening.fault(format!("the case has no '{key}'"))),
+        }
+    }
+
+    /// The answer, with the document written where one is.
+    fn answer(&self, entry: Entry, named: &Named) -> Result<Answer, Failure> {
+        let (line, text) = self.needed("answer")?;
+        let words: Vec<&str> = text.split(' ').collect();
+        let numbers = words[1..].iter().map(|word| number(line, word));
+        let numbers: Vec<u64> = numbers.collect::<Result<_, _>>()?;
+        let output = self
+            .values
+            .get("output")
+            .map(|(line, text)| bytes_of(text, named).map_err(|message| line.fault(message)));
+        match (entry, words[0], &numbers[..], output) {
+            (_, "refused", &[number, document, mark], None) => {
+                Ok(Answer::Refused(Refusal { number, document, mark }))
+            }
+            (Entry::Carry, "carried", &[value, filler], Some(output)) => {
+                Ok(Answer::Ok { value, filler, output: output? })
+            }
+            (Entry::BringBack, "brought", &[value], Some(output)) => {
+                Ok(Answer::Ok { value, filler: 0, output: output? })
+            }
+            (entry, "accepted", &[value], None) if !entry.writes() => {
+                Ok(Answer::Ok { value, filler: 0, output: Vec::new() })
+            }
+            _ => Err(line.fault(format!(
+                "'{text}' is no answer of '{}'; an output stands with 'carried' and 'brought', and only there",
+                title(entry)
+            ))),
+        }
+    }
+
+    /// The heights stated, if any.
+    fn heights(&self) -> Result<Option<Vec<u64>>, Failure> {
+        let Some((line, text)) = self.get("heights") else { return Ok(None) };
+        text.split(' ').map(|word| number(line, word)).collect::<Result<_, _>>().map(Some)
+    }
+}
