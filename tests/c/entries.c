@@ -1,7 +1,7 @@
 /*
  * Calls the five entries and lafindry_decimal through include/lafindry.h, with buffers lent as lend.h says. Prints one
- * line for each group and last 'N passed, M failed'. With the argument 'tallies' it prints the tallies of all changes
- * instead, as they stand in `places`.
+ * line for each group, for changes of one byte how often the reference and the library gave each answer, and last
+ * 'N passed, M failed'.
  */
 #include "lend.h"
 
@@ -69,6 +69,16 @@ static struct call bring_by_patch(struct document tree, size_t room)
 /* Comparing and counting. */
 
 static unsigned long passed, failed, passed_before, failed_before;
+
+/* How many altered or damaged images were brought back. */
+static unsigned long changed_images;
+
+/* The call of bringing one back. */
+static struct call changed_image(struct call call)
+{
+    changed_images++;
+    return call;
+}
 
 static void begin_group(const char *name)
 {
@@ -224,8 +234,9 @@ static void worked_writing_cases(void)
     /* The image with a character in its filler element; it is no image however short the output is. */
     const struct document altered = DOCUMENT(0x30, 0x00, 0x30, 0x01, 0x30, 0x03, 0x31, 0x41, 0x32, 0x30, 0x03, 0x31,
                                              0x42, 0x32, 0x32, 0x30, 0x02, 0x30, 0x05, 0x32, 0x32, 0x32, 0x3F);
-    EXPECT(refused(LAFINDRY_NO_IMAGE, LAFINDRY_TREE, 0), bring_by_patch(altered, LAFINDRY_MOST_BYTES));
-    EXPECT(refused(LAFINDRY_NO_IMAGE, LAFINDRY_TREE, 0), bring_by_patch(altered, 0));
+    EXPECT(refused(LAFINDRY_NO_IMAGE, LAFINDRY_TREE, 0),
+           changed_image(bring_by_patch(altered, LAFINDRY_MOST_BYTES)));
+    EXPECT(refused(LAFINDRY_NO_IMAGE, LAFINDRY_TREE, 0), changed_image(bring_by_patch(altered, 0)));
 
     /* The tree to be brought back is judged by the target table, the one to be carried by the source table, which has
        no type 5. */
@@ -238,7 +249,7 @@ static void worked_writing_cases(void)
     EXPECT_WRITTEN(filled, 1, carry(EMPTY_ROOT, CHOICE_OF_ITSELF, MAPPED_ROOT, EMPTY_TREE, 7));
     EXPECT_WRITTEN(EMPTY_TREE, 0, bring_back(EMPTY_ROOT, CHOICE_OF_ITSELF, MAPPED_ROOT, filled, 4));
     EXPECT(refused(LAFINDRY_NO_IMAGE, LAFINDRY_TREE, 0),
-           bring_back(EMPTY_ROOT, CHOICE_OF_ITSELF, MAPPED_ROOT, filled_twice, ROOM));
+           changed_image(bring_back(EMPTY_ROOT, CHOICE_OF_ITSELF, MAPPED_ROOT, filled_twice, ROOM)));
     end_group();
 }
 
@@ -277,7 +288,7 @@ static void optional_cases(void)
     const struct document filled =
         DOCUMENT(0x30, 0x00, 0x30, 0x03, 0x30, 0x02, 0x32, 0x32, 0x30, 0x03, 0x32, 0x32, 0x3F);
     EXPECT(refused(LAFINDRY_NO_IMAGE, LAFINDRY_TREE, 0),
-           bring_back(OPTIONAL_ROOT, TWO_OPTIONAL, INTO_SECOND, filled, ROOM));
+           changed_image(bring_back(OPTIONAL_ROOT, TWO_OPTIONAL, INTO_SECOND, filled, ROOM)));
     end_group();
 }
 
@@ -297,10 +308,10 @@ static void output_lengths(void)
 
 /* The patch with one of its documents replaced. */
 
-/* Answers counted by refusal (0: accepted), the sums of their other fields, and of the bytes written, each byte
-   multiplied by its place from 1. */
+/* Answers counted by refusal (0: accepted) and document, the sums of their other fields, and of the bytes written, each
+   byte multiplied by its place from 1. */
 struct tally {
-    uint64_t count[LAFINDRY_NO_IMAGE + 1], documents, marks, values, fillers, bytes;
+    uint64_t count[LAFINDRY_NO_IMAGE + 1][LAFINDRY_OUTPUT + 1], marks, values, fillers, bytes;
 };
 
 /* What each entry is given. */
@@ -311,8 +322,8 @@ static const struct document *const SOURCE_TREE[] = {&SOURCE, &TREE};
 static const struct document *const PATCH[] = {&SOURCE, &TARGET, &EMBEDDING, &TREE};
 static const struct document *const PATCH_IMAGE[] = {&SOURCE, &TARGET, &EMBEDDING, &IMAGE};
 
-/* A document of the patch, given to an entry in the place `at`, and what is expected: the number of the document, the
-   answer for the patch itself, and the tally of all changes of one byte, which is the reference's. */
+/* A document of the patch, given to an entry in the place `at`, and what is expected: the number of the document, and
+   the answer for the patch itself. */
 static const struct place {
     const char *name;
     enum entry entry;
@@ -320,41 +331,33 @@ static const struct place {
     int at;
     uint64_t number, value, filler;
     const struct document *written;
-    struct tally changes;
 } places[] = {
-    {"table, source", JUDGE_TABLE, SOURCE_ONLY, 0, LAFINDRY_SOURCE_TABLE, 5, 0, NULL,
-     {{34, 0, 2539, 0, 1007, 2, 2, 0, 0, 0, 0, 0, 0, 0, 0, 0}, 3550, 22110, 171, 0, 0}},
-    {"table, target", JUDGE_TABLE, TARGET_ONLY, 0, LAFINDRY_SOURCE_TABLE, 6, 0, NULL,
-     {{50, 0, 3301, 0, 1503, 4, 6, 0, 0, 0, 0, 0, 0, 0, 0, 0}, 4814, 41858, 302, 0, 0}},
-    {"embedding, source table", JUDGE_EMBEDDING, SETTING, 0, LAFINDRY_SOURCE_TABLE, 5, 0, NULL,
-     {{14, 0, 2543, 0, 1007, 2, 2, 0, 12, 4, 0, 0, 0, 0, 0, 0}, 3610, 22337, 70, 0, 0}},
-    {"embedding, target table", JUDGE_EMBEDDING, SETTING, 1, LAFINDRY_TARGET_TABLE, 5, 0, NULL,
-     {{25, 0, 3301, 0, 1508, 4, 6, 0, 17, 3, 0, 0, 0, 0, 0, 0}, 9703, 42096, 125, 0, 0}},
-    {"embedding", JUDGE_EMBEDDING, SETTING, 2, LAFINDRY_EMBEDDING, 5, 0, NULL,
-     {{27, 0, 4080, 0, 2528, 0, 0, 0, 21, 0, 0, 0, 0, 0, 0, 0}, 19887, 80258, 135, 0, 0}},
-    {"tree, table", JUDGE_TREE, SOURCE_TREE, 0, LAFINDRY_SOURCE_TABLE, 4, 0, NULL,
-     {{20, 0, 2539, 0, 1007, 2, 2, 0, 0, 0, 0, 14, 0, 0, 0, 0}, 3606, 22198, 80, 0, 0}},
-    {"tree", JUDGE_TREE, SOURCE_TREE, 1, LAFINDRY_TREE, 4, 0, NULL,
-     {{208, 0, 2550, 0, 1067, 0, 0, 0, 0, 0, 0, 15, 0, 0, 0, 0}, 14528, 24770, 832, 0, 0}},
-    {"carry, source table", CARRY, PATCH, 0, LAFINDRY_SOURCE_TABLE, 21, 1, &IMAGE,
-     {{14, 0, 2543, 0, 1007, 2, 2, 0, 12, 4, 0, 0, 0, 0, 0, 0}, 3610, 22337, 294, 14, 129612}},
-    {"carry, target table", CARRY, PATCH, 1, LAFINDRY_TARGET_TABLE, 21, 1, &IMAGE,
-     {{24, 0, 3301, 0, 1508, 4, 6, 0, 17, 3, 0, 0, 0, 0, 1, 0}, 9708, 42096, 504, 24, 222225}},
-    {"carry, embedding", CARRY, PATCH, 2, LAFINDRY_EMBEDDING, 21, 1, &IMAGE,
-     {{27, 0, 4080, 0, 2528, 0, 0, 0, 21, 0, 0, 0, 0, 0, 0, 0}, 19887, 80258, 567, 27, 250106}},
-    {"carry, tree", CARRY, PATCH, 3, LAFINDRY_TREE, 21, 1, &IMAGE,
-     {{208, 0, 2550, 0, 1067, 0, 0, 0, 0, 0, 0, 15, 0, 0, 0, 0}, 14528, 24770, 4368, 208, 2044839}},
-    {"bring back, source table", BRING_BACK, PATCH_IMAGE, 0, LAFINDRY_SOURCE_TABLE, 15, 0, &TREE,
-     {{14, 0, 2543, 0, 1007, 2, 2, 0, 12, 4, 0, 0, 0, 0, 0, 0}, 3610, 22337, 210, 0, 69874}},
-    {"bring back, target table", BRING_BACK, PATCH_IMAGE, 1, LAFINDRY_TARGET_TABLE, 15, 0, &TREE,
-     {{22, 0, 3301, 0, 1508, 4, 6, 0, 17, 3, 0, 3, 0, 0, 0, 0}, 9715, 42123, 330, 0, 109802}},
-    {"bring back, embedding", BRING_BACK, PATCH_IMAGE, 2, LAFINDRY_EMBEDDING, 15, 0, &TREE,
-     {{26, 0, 4080, 0, 2528, 0, 0, 0, 21, 0, 0, 0, 0, 0, 0, 1}, 19891, 80258, 390, 0, 129766}},
-    {"bring back, tree", BRING_BACK, PATCH_IMAGE, 3, LAFINDRY_TREE, 15, 0, &TREE,
-     {{214, 0, 3570, 0, 1563, 0, 0, 0, 0, 0, 0, 29, 0, 0, 0, 0}, 20648, 50692, 3210, 0, 1157479}},
+    {"table, source", JUDGE_TABLE, SOURCE_ONLY, 0, LAFINDRY_SOURCE_TABLE, 5, 0, NULL},
+    {"table, target", JUDGE_TABLE, TARGET_ONLY, 0, LAFINDRY_SOURCE_TABLE, 6, 0, NULL},
+    {"embedding, source table", JUDGE_EMBEDDING, SETTING, 0, LAFINDRY_SOURCE_TABLE, 5, 0, NULL},
+    {"embedding, target table", JUDGE_EMBEDDING, SETTING, 1, LAFINDRY_TARGET_TABLE, 5, 0, NULL},
+    {"embedding", JUDGE_EMBEDDING, SETTING, 2, LAFINDRY_EMBEDDING, 5, 0, NULL},
+    {"tree, table", JUDGE_TREE, SOURCE_TREE, 0, LAFINDRY_SOURCE_TABLE, 4, 0, NULL},
+    {"tree", JUDGE_TREE, SOURCE_TREE, 1, LAFINDRY_TREE, 4, 0, NULL},
+    {"carry, source table", CARRY, PATCH, 0, LAFINDRY_SOURCE_TABLE, 21, 1, &IMAGE},
+    {"carry, target table", CARRY, PATCH, 1, LAFINDRY_TARGET_TABLE, 21, 1, &IMAGE},
+    {"carry, embedding", CARRY, PATCH, 2, LAFINDRY_EMBEDDING, 21, 1, &IMAGE},
+    {"carry, tree", CARRY, PATCH, 3, LAFINDRY_TREE, 21, 1, &IMAGE},
+    {"bring back, source table", BRING_BACK, PATCH_IMAGE, 0, LAFINDRY_SOURCE_TABLE, 15, 0, &TREE},
+    {"bring back, target table", BRING_BACK, PATCH_IMAGE, 1, LAFINDRY_TARGET_TABLE, 15, 0, &TREE},
+    {"bring back, embedding", BRING_BACK, PATCH_IMAGE, 2, LAFINDRY_EMBEDDING, 15, 0, &TREE},
+    {"bring back, tree", BRING_BACK, PATCH_IMAGE, 3, LAFINDRY_TREE, 15, 0, &TREE},
 };
 
 enum { PLACES = sizeof places / sizeof places[0] };
+
+/* For each place the tally of all changes of one byte, as the reference answers them; tests/reference/tests/changes.rs
+   compares. */
+static const struct tally by_reference[] = {
+#include "changes.inc"
+};
+
+_Static_assert(sizeof by_reference / sizeof by_reference[0] == PLACES, "a tally for each place");
 
 /* The length of output lent with changed documents; some of their images are longer. */
 enum { PLACE_ROOM = 22 };
@@ -368,6 +371,9 @@ static struct call call_with(const struct place *place, struct document document
     call.documents[place->at] = document;
     return call;
 }
+
+/* Whether the document of a place is an image to bring back. */
+static int is_image(const struct place *place) { return place->entry == BRING_BACK && place->at == 3; }
 
 static struct expected whole_patch(const struct place *place)
 {
@@ -402,6 +408,7 @@ static void beginnings(void)
         expect_at(place->name, beginning.length, whole_patch(place), call_with(place, beginning));
         while (beginning.length > 0) {
             beginning.length--;
+            changed_images += is_image(place);
             struct lafindry_answer answer = refused(LAFINDRY_BAD_FORM, place->number, whole_commands(beginning));
             expect_at(place->name, beginning.length, (struct expected){answer, NO_BYTES},
                       call_with(place, beginning));
@@ -461,8 +468,7 @@ static int is_well_formed(enum entry entry, struct lafindry_answer answer)
 
 static void add_to_tally(struct tally *tally, const struct result *result)
 {
-    tally->count[result->answer.refusal]++;
-    tally->documents += result->answer.document;
+    tally->count[result->answer.refusal][result->answer.document]++;
     tally->marks += result->answer.mark;
     tally->values += result->answer.value;
     tally->fillers += result->answer.filler;
@@ -470,7 +476,7 @@ static void add_to_tally(struct tally *tally, const struct result *result)
         tally->bytes += (i + 1) * result->written.bytes[i];
 }
 
-/* Each byte of the document of a place takes all values; each answer is looked at alone. */
+/* Each byte of the document of a place takes each other value; each answer is looked at alone. */
 static struct tally tally_changes(const struct place *place)
 {
     const struct document *document = place->documents[place->at];
@@ -478,15 +484,16 @@ static struct tally tally_changes(const struct place *place)
     struct tally tally = {0};
     memcpy(bytes, document->bytes, document->length);
     for (size_t at = 0; at < document->length; at++) {
-        for (int byte = 0; byte <= 0xFF; byte++) {
-            bytes[at] = (uint8_t)byte;
+        for (int change = 1; change <= 0xFF; change++) {
+            bytes[at] = document->bytes[at] ^ (uint8_t)change;
             struct call call = call_with(place, (struct document){bytes, document->length});
             struct result result = make_call(&call);
+            changed_images += is_image(place);
             if (result.wrong == NULL && is_well_formed(place->entry, result.answer)) {
                 passed++;
                 add_to_tally(&tally, &result);
             } else if (fail()) {
-                printf("\n  %s, byte %zu set to %02X:", place->name, at, (unsigned)byte);
+                printf("\n  %s, byte %zu set to %02X:", place->name, at, (unsigned)bytes[at]);
                 print_answer("answered", result.answer);
                 printf("%s%s", result.wrong != NULL ? "; " : "", result.wrong != NULL ? result.wrong : "");
             }
@@ -496,30 +503,43 @@ static struct tally tally_changes(const struct place *place)
     return tally;
 }
 
-static void changed_bytes(void)
+/* Prints how often the reference and the library gave each answer for the changes of a place, and compares. */
+static void compare_tallies(const struct place *place, const struct tally *reference, const struct tally *library)
 {
-    begin_group("changes of one byte");
-    for (int i = 0; i < PLACES; i++) {
-        struct tally tally = tally_changes(&places[i]);
-        if (memcmp(&tally, &places[i].changes, sizeof tally) == 0)
-            passed++;
-        else if (fail())
-            printf("\n  %s: the tally of all changes is another", places[i].name);
+    printf("\n  %s:", place->name);
+    for (int refusal = 0; refusal <= LAFINDRY_NO_IMAGE; refusal++) {
+        for (int document = 0; document <= LAFINDRY_OUTPUT; document++) {
+            const unsigned long long expected = reference->count[refusal][document];
+            const unsigned long long counted = library->count[refusal][document];
+            if (expected == 0 && counted == 0)
+                continue;
+            if (refusal == 0)
+                printf(" accepted %llu/%llu;", expected, counted);
+            else
+                printf(" %d of document %d %llu/%llu;", refusal, document, expected, counted);
+            if (expected == counted)
+                passed++;
+            else if (fail())
+                printf("\n  %s: %d of document %d: %llu by the reference, %llu by the library;", place->name, refusal,
+                       document, expected, counted);
+        }
     }
-    end_group();
+    if (reference->marks == library->marks && reference->values == library->values &&
+        reference->fillers == library->fillers && reference->bytes == library->bytes)
+        passed++;
+    else if (fail())
+        printf("\n  %s: the marks, values, fillers or bytes written are others", place->name);
 }
 
-static void print_tallies(void)
+static void changed_bytes(void)
 {
+    begin_group("changes of one byte, answers by the reference/by the library");
     for (int i = 0; i < PLACES; i++) {
-        struct tally tally = tally_changes(&places[i]);
-        printf("%s: {{", places[i].name);
-        for (int refusal = 0; refusal <= LAFINDRY_NO_IMAGE; refusal++)
-            printf("%s%llu", refusal > 0 ? ", " : "", (unsigned long long)tally.count[refusal]);
-        printf("}, %llu, %llu, %llu, %llu, %llu}\n", (unsigned long long)tally.documents,
-               (unsigned long long)tally.marks, (unsigned long long)tally.values, (unsigned long long)tally.fillers,
-               (unsigned long long)tally.bytes);
+        const struct tally by_library = tally_changes(&places[i]);
+        compare_tallies(&places[i], &by_reference[i], &by_library);
     }
+    printf("\n  ");
+    end_group();
 }
 
 /* Documents at the limits and one beyond. */
@@ -683,6 +703,7 @@ static void all_characters(void)
                   carry(TEXT, TEXT_IN_SEQUENCE, embedding, tree, image.length));
         expect_at("text brought back, byte", byte, allowed ? written_document(tree, 0) : in_image,
                   bring_back(TEXT, TEXT_IN_SEQUENCE, embedding, image, tree.length));
+        changed_images += !allowed;
 
         const struct expected unexpected = {refused(LAFINDRY_UNEXPECTED, LAFINDRY_TREE, 2), NO_BYTES};
         const struct expected in_list = allowed ? unexpected : in_tree;
@@ -690,7 +711,7 @@ static void all_characters(void)
         expect_at("list carried, byte", byte, in_list,
                   carry(LIST_OF_ITSELF, LIST_OF_ITSELF, embedding, tree, ROOM));
         expect_at("list brought back, byte", byte, in_list,
-                  bring_back(LIST_OF_ITSELF, LIST_OF_ITSELF, embedding, tree, ROOM));
+                  changed_image(bring_back(LIST_OF_ITSELF, LIST_OF_ITSELF, embedding, tree, ROOM)));
     }
     end_group();
 }
@@ -813,26 +834,36 @@ static const struct {
 static void decimal_numbers(void)
 {
     const struct expected too_short = {accepted(0), NO_BYTES};
+    unsigned long cases = 0;
     begin_group("numbers in decimal");
     for (size_t i = 0; i < sizeof numbers / sizeof numbers[0]; i++) {
         const char *text = numbers[i].digits;
         const struct document digits = {(const uint8_t *)text, strlen(text)};
         char name[LAFINDRY_MOST_DIGITS + sizeof " into"];
         snprintf(name, sizeof name, "%s into", text);
-        for (size_t room = 0; room <= ROOM; room += room < LAFINDRY_MOST_DIGITS + 4 ? 1 : 20025)
+        for (size_t room = 0; room <= ROOM; room += room < LAFINDRY_MOST_DIGITS + 4 ? 1 : 20025, cases++)
             expect_at(name, room, room < digits.length ? too_short : written_document(digits, 0),
                       decimal(numbers[i].number, room));
     }
+    printf("%lu cases; ", cases);
     end_group();
 }
 
-int main(int count, char **arguments)
+/* 5,355 images with a byte changed and 21 cut off, 63 and 256 with a character that stands wrong, and 4 by hand. */
+static void count_of_changed_images(void)
+{
+    begin_group("altered or damaged images brought back");
+    printf("%lu; ", changed_images);
+    if (changed_images == 5355 + 21 + 63 + 256 + 4)
+        passed++;
+    else if (fail())
+        printf("not as many as there were");
+    end_group();
+}
+
+int main(void)
 {
     map_buffers();
-    if (count == 2 && strcmp(arguments[1], "tallies") == 0) {
-        print_tallies();
-        return 0;
-    }
     worked_judging_cases();
     worked_writing_cases();
     optional_cases();
@@ -845,6 +876,7 @@ int main(int count, char **arguments)
     limits_of_levels();
     limits_of_length();
     decimal_numbers();
+    count_of_changed_images();
     printf("%lu passed, %lu failed\n", passed, failed);
     return failed == 0 ? 0 : 1;
 }

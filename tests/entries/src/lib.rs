@@ -1,16 +1,19 @@
 //! The library's C entries, called as `include/lafindry.h` declares them, and
 //! compared with the cases and answers of the reference.
 //!
-//! [`compare`] runs one case through both; every test of an entry is built on
-//! it or on [`check`]. [`decimal`] is no entry: it writes a number.
+//! A [`Tally`] runs cases through both, compares, and counts the answers of each;
+//! every test of an entry is built on it. [`decimal`] is no entry: it writes a
+//! number.
 
 mod decimal;
-mod histogram;
 mod setting;
+mod sides;
+mod tally;
 
 pub use decimal::{decimal, MOST_DIGITS};
-pub use histogram::Histogram;
 pub use setting::Setting;
+pub use sides::{Pair, Side, Sides};
+pub use tally::{refused_by, Histogram, Kind, Refused, Tally, DAMAGED};
 
 use lafindry_reference::generate::Rng;
 use lafindry_reference::vectors::{Answer, Case, Entry, JUNK};
@@ -158,25 +161,6 @@ impl fmt::Debug for Failure {
     fn fmt(&self, f: &mut fmt::Formatter) -> fmt::Result {
         write!(f, "{}", self.0)
     }
-}
-
-/// Runs a case through its C entry and compares. The failure has the case with
-/// the expected answer as a vector line, and what the library gave.
-pub fn check(case: &Case, expected: &Answer) -> Result<(), Failure> {
-    let problem = match run(case) {
-        Ok(answer) if answer == *expected => return Ok(()),
-        Ok(answer) => answer.to_string(),
-        Err(message) => message,
-    };
-    Err(Failure(format!("{case} -> {expected}\nthe library: {problem}")))
-}
-
-/// Runs a case through the reference and its C entry, compares, and gives the
-/// answer.
-pub fn compare(case: &Case) -> Result<Answer, Failure> {
-    let expected = case.run().map_err(|message| Failure(format!("{case}\nthe reference: {message}")))?;
-    check(case, &expected)?;
-    Ok(expected)
 }
 
 /// Fails with a message unless a condition holds.

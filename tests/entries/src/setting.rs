@@ -1,6 +1,6 @@
 //! Two tables and an embedding as documents, and the entries called with them.
 
-use crate::{compare, Failure};
+use crate::{Failure, Tally};
 use lafindry_reference::generate::World;
 use lafindry_reference::vectors::{Answer, Case, Entry};
 use lafindry_reference::Refusal;
@@ -32,19 +32,20 @@ impl Setting {
     /// the reference. Gives the document written.
     pub fn written(
         &self,
+        tally: &mut Tally,
         entry: Entry,
         tree: &[u8],
         output_length: usize,
     ) -> Result<Result<Vec<u8>, Refusal>, Failure> {
-        Ok(match compare(&self.case(entry, tree, output_length))? {
+        Ok(match tally.compare(&self.case(entry, tree, output_length))? {
             Answer::Ok { output, .. } => Ok(output),
             Answer::Refused(refusal) => Err(refusal),
         })
     }
 
     /// Judges a tree by the target table, and compares with the reference.
-    pub fn judge_image(&self, tree: &[u8]) -> Result<Answer, Failure> {
+    pub fn judge_image(&self, tally: &mut Tally, tree: &[u8]) -> Result<Answer, Failure> {
         let documents = vec![self.documents[1].clone(), tree.to_vec()];
-        compare(&Case { entry: Entry::JudgeTree, documents, output_length: 0 })
+        tally.compare(&Case { entry: Entry::JudgeTree, documents, output_length: 0 })
     }
 }

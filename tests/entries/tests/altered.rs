@@ -3,7 +3,8 @@
 
 mod seed;
 
-use lafindry_entries::{ensure, report, Failure, Setting};
+use lafindry_entries::{ensure, Failure, Histogram, Setting, Tally};
+use lafindry_reference::generate::cases::Made;
 use lafindry_reference::generate::damage::{alter, damage_bytes, damage_commands, damage_tree};
 use lafindry_reference::generate::trees::{random_accent, random_element};
 use lafindry_reference::generate::{Rng, Shape, TableSize, World};
@@ -14,8 +15,17 @@ use lafindry_reference::vectors::{Answer, Entry};
 use lafindry_reference::{Refusal, TREE};
 use seed::seed;
 
+/// The place of the image among the documents of bringing back.
+const IMAGE: usize = 3;
+
+/// Altered images, and the answers that they got.
+struct Run {
+    /// Whether they are altered or damaged.
+    made: Made,
+    tally: Tally,
+}
+
 /// How often bringing back an altered image gave what.
-#[derive(Debug, Default)]
 struct Outcomes {
     /// A source document.
     source: usize,
@@ -25,36 +35,44 @@ struct Outcomes {
     refused: usize,
 }
 
-impl Outcomes {
-    /// Brings an altered image back and counts what it gave. Fails unless a
-    /// source document that is given has just this image, and any refusal but
-    /// 15 is the judge's.
-    fn bring(&mut self, setting: &Setting, altered: &[u8]) -> Result<(), Failure> {
-        // A source is never longer than its image.
-        let room = altered.len();
-        let right = match setting.written(Entry::BringBack, altered, room)? {
-            Ok(source) => {
-                self.source += 1;
-                setting.written(Entry::Carry, &source, room)?.as_deref() == Ok(altered)
-            }
-            Err(Refusal { number: 15, document: TREE, mark: 0 }) => {
-                self.no_image += 1;
-                matches!(setting.judge_image(altered)?, Answer::Ok { .. })
-            }
-            Err(refusal) => {
-                self.refused += 1;
-                setting.judge_image(altered)? == Answer::Refused(refusal)
-            }
-        };
-        let text = || format!("{}: a wrong outcome", setting.case(Entry::BringBack, altered, room));
-        ensure(right, text())
+impl Run {
+    /// The run of a test whose images are made so.
+    fn new(made: Made) -> Run {
+        Run { made, tally: Tally::default() }
     }
 
-    /// Prints the counts.
-    fn print(&self, title: &str) {
-        let Outcomes { source, no_image, refused } = self;
-        let seed = seed();
-        report(&format!("{title}, seed {seed}: {source} sources, {no_image} no image, {refused} refused"));
+    /// Brings an altered image back and counts it. Fails unless a source
+    /// document that is given has just this image, and any refusal but 15 is
+    /// the judge's.
+    fn bring(&mut self, setting: &Setting, altered: &[u8]) -> Result<(), Failure> {
+        let tally = &mut self.tally;
+        // A source is never longer than its image.
+        let case = setting.case(Entry::BringBack, altered, altered.len());
+        tally.count_change(case.entry, IMAGE, self.made);
+        let right = match tally.compare(&case)? {
+            Answer::Ok { output: source, .. } => {
+                setting.written(tally, Entry::Carry, &source, altered.len())?.as_deref() == Ok(altered)
+            }
+            Answer::Refused(Refusal { number: 15, document: TREE, mark: 0 }) => {
+                matches!(setting.judge_image(tally, altered)?, Answer::Ok { .. })
+            }
+            refused => setting.judge_image(tally, altered)? == refused,
+        };
+        ensure(right, format!("{case}: a wrong outcome"))
+    }
+
+    /// Prints the counts, and gives those of bringing back.
+    fn finish(self, title: &str) -> Result<Outcomes, Failure> {
+        let histogram = self.tally.finish(&format!("{title}, seed {}", seed()))?;
+        Ok(Outcomes::of(&histogram))
+    }
+}
+
+impl Outcomes {
+    /// What bringing back gave.
+    fn of(histogram: &Histogram) -> Outcomes {
+        let [source, no_image] = [0, 15].map(|number| histogram.of(Entry::BringBack, number));
+        Outcomes { source, no_image, refused: histogram.total_of(Entry::BringBack) - source - no_image }
     }
 }
 
@@ -62,7 +80,7 @@ impl Outcomes {
 #[test]
 fn bytes_changed() -> Result<(), Failure> {
     let mut rng = Rng::new(seed().wrapping_add(300));
-    let mut outcomes = Outcomes::default();
+    let mut run = Run::new(Made::Damaged);
     let mut images = 0;
     while images < 30 {
         let size = TableSize { types: 4, members: 3, optional: 30, lists: 30 };
@@ -76,30 +94,32 @@ fn bytes_changed() -> Result<(), Failure> {
         for (at, change) in (0..image.len()).flat_map(|at| (1..=0xFF).map(move |change| (at, change))) {
             let mut altered = image.clone();
             altered[at] ^= change;
-            outcomes.bring(&setting, &altered)?;
+            run.bring(&setting, &altered)?;
         }
     }
-    outcomes.print("images with a byte changed");
+    let outcomes = run.finish("images with a byte changed")?;
     ensure(outcomes.source > 50 && outcomes.refused > 100_000, "too few outcomes")
 }
 
 /// Alters the images of worlds of mixed size and brings them back.
 fn bring_altered(
     title: &str,
+    made: Made,
     alteration: impl Fn(&mut Rng, &World, &Element) -> Option<Vec<u8>>,
 ) -> Result<Outcomes, Failure> {
-    bring_altered_of(title, World::mixed, alteration)
+    bring_altered_of(title, made, World::mixed, alteration)
 }
 
 /// Alters the images of random worlds and brings them back. Alterations that
 /// change nothing are left out.
 fn bring_altered_of(
     title: &str,
+    made: Made,
     random_world: impl Fn(&mut Rng) -> World,
     alteration: impl Fn(&mut Rng, &World, &Element) -> Option<Vec<u8>>,
 ) -> Result<Outcomes, Failure> {
     let mut rng = Rng::new(seed().wrapping_add(400));
-    let mut outcomes = Outcomes::default();
+    let mut run = Run::new(made);
     for _ in 0..3000 {
         let world = random_world(&mut rng);
         let Some(image) = world.image() else {
@@ -107,11 +127,10 @@ fn bring_altered_of(
         };
         let altered = alteration(&mut rng, &world, &image);
         if let Some(altered) = altered.filter(|altered| *altered != image.to_bytes()) {
-            outcomes.bring(&Setting::of(&world), &altered)?;
+            run.bring(&Setting::of(&world), &altered)?;
         }
     }
-    outcomes.print(title);
-    Ok(outcomes)
+    run.finish(title)
 }
 
 /// A filler element altered so that the tree still conforms: no tree has this
@@ -204,20 +223,20 @@ fn change_character(rng: &mut Rng, _: &World, image: &Element) -> Option<Vec<u8>
 #[test]
 fn optional_choices_emptied() -> Result<(), Failure> {
     let title = "images with an optional choice emptied";
-    let outcomes = bring_altered_of(title, World::optional, empty_optional)?;
+    let outcomes = bring_altered_of(title, Made::Altered, World::optional, empty_optional)?;
     ensure(outcomes.source > 200 && outcomes.no_image > 200, "too few outcomes")
 }
 
 #[test]
 fn optional_choices_filled() -> Result<(), Failure> {
     let title = "images with an optional choice filled";
-    let outcomes = bring_altered_of(title, World::optional, fill_optional)?;
+    let outcomes = bring_altered_of(title, Made::Altered, World::optional, fill_optional)?;
     ensure(outcomes.source > 200 && outcomes.no_image > 200, "too few outcomes")
 }
 
 #[test]
 fn filler_changed() -> Result<(), Failure> {
-    let outcomes = bring_altered("images with filler changed", change_filler)?;
+    let outcomes = bring_altered("images with filler changed", Made::Altered, change_filler)?;
     ensure(outcomes.source == 0, "a source for an image with other filler")?;
     ensure(outcomes.no_image > 200, "too few outcomes")
 }
@@ -227,14 +246,14 @@ fn filler_changed() -> Result<(), Failure> {
 #[test]
 fn characters_changed() -> Result<(), Failure> {
     let title = "images with a character changed";
-    let outcomes = bring_altered_of(title, World::accented, change_character)?;
+    let outcomes = bring_altered_of(title, Made::Altered, World::accented, change_character)?;
     ensure(outcomes.no_image + outcomes.refused == 0, "no source for an image with another character")?;
     ensure(outcomes.source > 2000, "too few outcomes")
 }
 
 #[test]
 fn items_added() -> Result<(), Failure> {
-    let outcomes = bring_altered("images with an item added", |rng, world, image| {
+    let outcomes = bring_altered("images with an item added", Made::Altered, |rng, world, image| {
         add_item(rng, world, image, all_lists)
     })?;
     ensure(outcomes.source > 300 && outcomes.no_image > 300, "too few outcomes")
@@ -242,7 +261,7 @@ fn items_added() -> Result<(), Failure> {
 
 #[test]
 fn items_dropped() -> Result<(), Failure> {
-    let outcomes = bring_altered("images with an item dropped", |rng, world, image| {
+    let outcomes = bring_altered("images with an item dropped", Made::Altered, |rng, world, image| {
         drop_item(rng, world, image, all_lists)
     })?;
     ensure(outcomes.source > 200 && outcomes.no_image > 80, "too few outcomes")
@@ -252,7 +271,7 @@ fn items_dropped() -> Result<(), Failure> {
 #[test]
 fn items_added_on_paths() -> Result<(), Failure> {
     let title = "images with a second item on the path of a choice";
-    let outcomes = bring_altered_of(title, World::listed, |rng, world, image| {
+    let outcomes = bring_altered_of(title, Made::Altered, World::listed, |rng, world, image| {
         add_item(rng, world, image, lists_on_paths)
     })?;
     ensure(outcomes.source == 0, "a source for an image with a second item")?;
@@ -263,7 +282,7 @@ fn items_added_on_paths() -> Result<(), Failure> {
 #[test]
 fn items_dropped_on_paths() -> Result<(), Failure> {
     let title = "images with no item on the path of a choice";
-    let outcomes = bring_altered_of(title, World::listed, |rng, world, image| {
+    let outcomes = bring_altered_of(title, Made::Altered, World::listed, |rng, world, image| {
         drop_item(rng, world, image, lists_on_paths)
     })?;
     ensure(outcomes.source == 0, "a source for an image without an item")?;
@@ -273,7 +292,7 @@ fn items_dropped_on_paths() -> Result<(), Failure> {
 /// Anything altered, so that the tree still conforms to the target table.
 #[test]
 fn anything_altered() -> Result<(), Failure> {
-    let outcomes = bring_altered("altered images", |rng, world, image| {
+    let outcomes = bring_altered("altered images", Made::Altered, |rng, world, image| {
         let target = &world.embedded.target;
         let altered = alter(rng, target, image);
         Some(if rng.chance(50) { altered } else { alter(rng, target, &altered) }.to_bytes())
@@ -285,7 +304,7 @@ fn anything_altered() -> Result<(), Failure> {
 /// no more.
 #[test]
 fn anything_damaged() -> Result<(), Failure> {
-    let outcomes = bring_altered("damaged images", |rng, world, image| {
+    let outcomes = bring_altered("damaged images", Made::Damaged, |rng, world, image| {
         let mut bytes = image.to_bytes();
         match rng.below(3) {
             0 => damage_bytes(rng, &mut bytes),

@@ -4,12 +4,12 @@
 //! clause about characters occurs. LAFINDRY_SEED sets another seed.
 
 mod clauses;
-mod counts;
 mod seed;
 
 use clauses::Subject;
-use lafindry_entries::{compare, ensure, report, Failure, Histogram, Setting};
+use lafindry_entries::{ensure, Failure, Histogram, Kind, Setting, Tally};
 use lafindry_reference::clauses::characters::{has_accent, shown, CharacterClause};
+use lafindry_reference::generate::cases::Made;
 use lafindry_reference::generate::{Rng, World};
 use lafindry_reference::vectors::{Answer, Case, Entry};
 use lafindry_reference::{Refusal, MOST_LEVELS, TREE};
@@ -120,15 +120,20 @@ fn image(tree: &[u8], in_filler: &[u8]) -> Vec<u8> {
 
 /// Compares answers with those that are expected, and counts them.
 #[derive(Default)]
-struct Run(Histogram);
+struct Run(Tally);
 
 impl Run {
-    /// Fails unless the library and the reference both give an answer to a case.
+    /// Fails unless the library and the reference both give an answer to a
+    /// case. Where it is a refusal, the tree is damaged, or altered if it still
+    /// conforms.
     fn ensure(&mut self, case: Case, expected: Answer) -> Result<(), Failure> {
-        let answer = compare(&case)?;
-        ensure(answer == expected, format!("{case} -> {answer}\nexpected: {expected}"))?;
-        self.0.add(&case, &answer);
-        Ok(())
+        let made = match expected {
+            Answer::Ok { .. } => Made::Whole,
+            Answer::Refused(Refusal { number: 15, .. }) => Made::Altered,
+            Answer::Refused(_) => Made::Damaged,
+        };
+        self.0.count_change(case.entry, case.documents.len() - 1, made);
+        self.0.compare_with(&case, &expected)
     }
 
     /// Fails unless a tree is judged, carried and, as it is in its image,
@@ -156,10 +161,15 @@ impl Run {
         self.ensure_all(tree, [refused(mark), refused(mark), refused(mark + FILLER_LENGTH)])
     }
 
-    /// Prints the counts. Fails unless there were so many cases.
-    fn finish(&self, title: &str, cases: usize) -> Result<(), Failure> {
-        report(&format!("{title}: {} cases agree\n{}", self.0.total(), self.0));
-        ensure(self.0.total() == cases, format!("{title}: not {cases} cases"))
+    /// Prints the counts and gives them. Fails unless there were so many cases,
+    /// and among them so many altered or damaged trees, and images.
+    fn finish(self, title: &str, cases: usize, changed: [usize; 2]) -> Result<Histogram, Failure> {
+        let histogram = self.0.finish(title)?;
+        let made = |kind| histogram.made(kind, Made::Altered) + histogram.made(kind, Made::Damaged);
+        ensure(histogram.total() == cases, format!("{title}: not {cases} cases"))?;
+        let right = [Kind::Tree, Kind::Image].map(made) == changed;
+        ensure(right, format!("{title}: not {changed:?} altered or damaged trees and images"))?;
+        Ok(histogram)
     }
 }
 
@@ -183,9 +193,10 @@ fn bytes_in_a_text() -> Result<(), Failure> {
             }
         }
     }
-    run.finish("bytes in a text", 4 * 3 * 0x100)?;
-    // 2 and 95 of paper 01, 96 of paper 02.
-    ensure(Entry::WITH_TREE.iter().all(|&entry| run.0.of(entry, 0) == 4 * 193), "not 193 characters")
+    // The characters: 2 and 95 of paper 01, 96 of paper 02. The other bytes are refused.
+    let refused = 0x100 - 193;
+    let histogram = run.finish("bytes in a text", 4 * 3 * 0x100, [4 * 2 * refused, 4 * refused])?;
+    ensure(Entry::WITH_TREE.iter().all(|&entry| histogram.of(entry, 0) == 4 * 193), "not 193 characters")
 }
 
 #[test]
@@ -197,7 +208,7 @@ fn bytes_in_other_elements() -> Result<(), Failure> {
         let number = if is_allowed(byte) { 11 } else { 4 };
         run.ensure_refused(&put.tree(), (number, put.offset(place)))?;
     }
-    run.finish("bytes in other elements", 5 * 3 * 0x100)
+    run.finish("bytes in other elements", 5 * 3 * 0x100, [5 * 2 * 0x100, 5 * 0x100]).map(drop)
 }
 
 /// Something wrong: the place where it is put, its bytes, the number of its
@@ -233,7 +244,7 @@ fn bytes_beside_another_fault() -> Result<(), Failure> {
             run.ensure_refused(&put.tree(), if is_allowed(byte) { fault } else { fault.min(forbidden) })?;
         }
     }
-    run.finish("bytes beside another fault", 6 * 3 * 0x100)
+    run.finish("bytes beside another fault", 6 * 3 * 0x100, [6 * 2 * 0x100, 6 * 0x100]).map(drop)
 }
 
 /// No image has a character in its filler. The output is long enough for the
@@ -247,7 +258,7 @@ fn bytes_in_filler() -> Result<(), Failure> {
         let (number, mark) = if is_allowed(byte) { (15, 0) } else { (4, OPENING + FILLER[0].len()) };
         run.ensure(case, Answer::Refused(Refusal::new(number, TREE, mark)))?;
     }
-    run.finish("bytes in filler", 2 * 0x100)
+    run.finish("bytes in filler", 2 * 0x100, [0, 2 * 0x100]).map(drop)
 }
 
 /// How often each clause has to occur. With seed 1 the rarest occurs 15 times.
@@ -267,5 +278,7 @@ fn cases_with_accents_agree() -> Result<(), Failure> {
     let rng = Rng::new(seed().wrapping_add(1000));
     let histogram = ACCENTS.compare(rng, 4800, &Entry::WITH_TREE, LEAST)?;
     histogram.ensure_all(&Entry::WITH_TREE, 1)?;
+    let ways = [(Kind::Tree, Made::Damaged), (Kind::Image, Made::Damaged), (Kind::Image, Made::Altered)];
+    histogram.ensure_made(&ways, 1000)?;
     ensure(histogram.total() >= 50_000, "too few cases")
 }

@@ -4,7 +4,7 @@
 
 mod page;
 
-use lafindry_entries::{check, compare, ensure, report, Failure, Histogram};
+use lafindry_entries::{ensure, report, Failure, Tally};
 use lafindry_reference::table::accept;
 use lafindry_reference::vectors::{Answer, Case, Entry};
 use lafindry_reference::{MOST_BYTES, TARGET};
@@ -23,9 +23,12 @@ fn page_text() -> Result<String, Failure> {
     String::from_utf8(content(PAGE)?).map_err(|error| Failure(format!("{PAGE}: {error}")))
 }
 
-/// What a page has.
+/// What a page has: its cases, the images among their answers brought back,
+/// drawings, and rows of bytes elsewhere.
+#[derive(Default)]
 struct Seen {
-    histogram: Histogram,
+    cases: Tally,
+    returns: Tally,
     drawings: usize,
     spans: usize,
 }
@@ -34,27 +37,25 @@ struct Seen {
 fn check_page(text: &str) -> Result<Seen, Failure> {
     let page = Page::read(text)?;
     let examples = Examples::read(&page)?;
-    let mut histogram = Histogram::default();
+    let mut seen = Seen::default();
     for example in &examples.all {
-        check_example(example).map_err(|failure| example.line.fault(failure.0))?;
-        histogram.add(&example.case, &example.answer);
+        check_example(example, &mut seen).map_err(|failure| example.line.fault(failure.0))?;
     }
-    let drawings = drawings::check(&page, &examples)?;
-    Ok(Seen { histogram, drawings, spans: spans::check(&page, &examples)? })
+    seen.drawings = drawings::check(&page, &examples)?;
+    seen.spans = spans::check(&page, &examples)?;
+    Ok(seen)
 }
 
-/// Compares the page's answer with the reference's and with the archive's. A
+/// Compares the page's answer with the reference's and with the library's. A
 /// document that was carried has to come back.
-fn check_example(example: &Example) -> Result<(), Failure> {
+fn check_example(example: &Example, seen: &mut Seen) -> Result<(), Failure> {
     let Example { case, answer, heights, .. } = example;
-    let given = case.run().map_err(|message| Failure(format!("the reference: {message}")))?;
-    ensure(given == *answer, format!("the page has '{answer}', the reference gives '{given}'"))?;
-    check(case, answer)?;
+    seen.cases.compare_with(case, answer)?;
     if let Some(heights) = heights {
         check_heights(case, heights)?;
     }
     match (case.entry, answer) {
-        (Entry::Carry, Answer::Ok { output, .. }) => comes_back(case, output),
+        (Entry::Carry, Answer::Ok { output, .. }) => comes_back(case, output, &mut seen.returns),
         _ => Ok(()),
     }
 }
@@ -68,10 +69,10 @@ fn check_heights(case: &Case, heights: &[u64]) -> Result<(), Failure> {
 }
 
 /// Fails unless an image gives the tree that was carried.
-fn comes_back(case: &Case, image: &[u8]) -> Result<(), Failure> {
+fn comes_back(case: &Case, image: &[u8], tally: &mut Tally) -> Result<(), Failure> {
     let mut documents = case.documents.clone();
     documents[3] = image.to_vec();
-    match compare(&Case { entry: Entry::BringBack, documents, output_length: MOST_BYTES })? {
+    match tally.compare(&Case { entry: Entry::BringBack, documents, output_length: MOST_BYTES })? {
         Answer::Ok { output, .. } if output == case.documents[3] => Ok(()),
         other => Err(Failure(format!("the image does not come back: {other}"))),
     }
@@ -80,17 +81,15 @@ fn comes_back(case: &Case, image: &[u8]) -> Result<(), Failure> {
 #[test]
 fn examples_of_the_page_agree() -> Result<(), Failure> {
     let text = page_text()?;
-    let Seen { histogram, drawings, spans } = check_page(&text)?;
-    report(&format!(
-        "{PAGE}: {} cases agree, {drawings} drawings and {spans} rows of bytes stand in their documents\n{histogram}",
-        histogram.total()
-    ));
+    let Seen { cases, returns, drawings, spans } = check_page(&text)?;
+    let histogram = cases.finish(PAGE)?;
+    returns.finish(&format!("{PAGE}, images brought back"))?;
+    report(&format!("{PAGE}: {drawings} drawings and {spans} rows of bytes stand in their documents"));
     let blocks = text.lines().filter(|line| line.trim_start().starts_with("```case")).count();
     ensure(histogram.total() == blocks, format!("{} cases in {blocks} code blocks", histogram.total()))?;
     ensure(blocks >= 108 && drawings >= 13 && spans >= 9, "fewer examples than the page had")?;
     for number in 0..=15 {
-        let count: usize = Entry::ALL.map(|entry| histogram.of(entry, number)).iter().sum();
-        ensure(count > 0, format!("no example of refusal {number} (0: accepted)"))?;
+        ensure(histogram.of_any(number) > 0, format!("no example of refusal {number} (0: accepted)"))?;
     }
     Ok(())
 }

@@ -3,12 +3,12 @@
 //! LAFINDRY_SEED sets another seed.
 
 mod clauses;
-mod counts;
 mod seed;
 
 use clauses::Subject;
-use lafindry_entries::{ensure, Failure};
+use lafindry_entries::{ensure, Failure, Kind};
 use lafindry_reference::clauses::lists::{has_list_on_choice, shown, ListClause};
+use lafindry_reference::generate::cases::Made;
 use lafindry_reference::generate::{Rng, World};
 use lafindry_reference::vectors::Entry;
 use seed::seed;
@@ -46,5 +46,7 @@ fn cases_with_lists_on_paths_agree() -> Result<(), Failure> {
         let missing = numbers.iter().find(|&&number| histogram.of(entry, number) == 0);
         ensure(missing.is_none(), format!("{}: {missing:?} did not occur", entry.name()))?;
     }
+    let ways = [(Kind::Embedding, Made::Damaged), (Kind::Image, Made::Damaged), (Kind::Image, Made::Altered)];
+    histogram.ensure_made(&ways, 1000)?;
     ensure(histogram.total() >= 50_000, "too few cases")
 }

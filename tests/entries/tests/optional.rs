@@ -3,11 +3,10 @@
 //! them. LAFINDRY_SEED sets another seed.
 
 mod clauses;
-mod counts;
 mod seed;
 
 use clauses::Subject;
-use lafindry_entries::{ensure, Failure};
+use lafindry_entries::{ensure, Failure, DAMAGED};
 use lafindry_reference::clauses::{has_optional, shown, Clause};
 use lafindry_reference::generate::{Rng, World};
 use lafindry_reference::vectors::Entry;
@@ -31,5 +30,6 @@ fn cases_with_optional_choices_agree() -> Result<(), Failure> {
     let rng = Rng::new(seed().wrapping_add(500));
     let histogram = OPTIONAL.compare(rng, 6500, &Entry::ALL, LEAST)?;
     histogram.ensure_all(&Entry::ALL, 1)?;
+    histogram.ensure_made(&DAMAGED, 1000)?;
     ensure(histogram.total() >= 100_000, "too few cases")
 }

@@ -1,9 +1,11 @@
 //! The C entries agree with the reference on the worked patch and on every
 //! document that differs from it in one place.
 
-use lafindry_entries::{compare, ensure, report, Failure, Histogram};
+use lafindry_entries::{ensure, Failure, Kind, Tally};
+use lafindry_reference::generate::cases::Made;
 use lafindry_reference::vectors::{Answer, Case, Entry};
 use lafindry_reference::MOST_BYTES;
+use std::collections::BTreeSet;
 
 /// The source table, target table, embedding and tree of the patch.
 fn patch() -> [Vec<u8>; 4] {
@@ -12,6 +14,10 @@ fn patch() -> [Vec<u8>; 4] {
         std::fs::read(&path).expect(&path)
     })
 }
+
+/// How many tables, embeddings, trees and images differ from the patch's in one
+/// place, those given to several entries counted for each.
+const CHANGED: [usize; 4] = [67_056, 40_701, 15_866, 11_004];
 
 /// The patch as a case of an entry; the tree to bring back is its image.
 fn patch_case(entry: Entry) -> Case {
@@ -32,38 +38,41 @@ fn patch_case(entry: Entry) -> Case {
 
 /// All documents that differ from one in one place: cut off there, a byte
 /// changed, left out or put in.
-fn changes(document: &[u8]) -> Vec<Vec<u8>> {
-    let mut all = Vec::new();
+fn changes(document: &[u8]) -> BTreeSet<Vec<u8>> {
+    let mut all = BTreeSet::new();
     for at in 0..=document.len() {
         let (before, after) = document.split_at(at);
-        all.push(before.to_vec());
+        all.insert(before.to_vec());
         all.extend((0..=0xFF).map(|byte| [before, &[byte], after].concat()));
         if let Some((_, rest)) = after.split_first() {
-            all.push([before, rest].concat());
+            all.insert([before, rest].concat());
             all.extend((0..=0xFF).map(|byte| [before, &[byte], rest].concat()));
         }
     }
+    all.remove(document);
     all
 }
 
 #[test]
 fn changes_of_the_patch_agree() -> Result<(), Failure> {
-    let mut histogram = Histogram::default();
+    let mut tally = Tally::default();
     for entry in Entry::ALL {
         let patch = patch_case(entry);
         for at in 0..patch.documents.len() {
             for changed in changes(&patch.documents[at]) {
                 let mut case = patch.clone();
                 case.documents[at] = changed;
-                let answer = compare(&case)?;
-                histogram.add(&case, &answer);
+                tally.count_change(entry, at, Made::Damaged);
+                tally.compare(&case)?;
             }
         }
     }
-    report(&format!("changes of the patch: {} cases agree\n{histogram}", histogram.total()));
+    let histogram = tally.finish("changes of the patch")?;
     // The refusals that a change in one place can bring about.
-    let count = |number| Entry::ALL.map(|entry| histogram.of(entry, number)).iter().sum::<usize>();
-    let rare = [2, 4, 5, 6, 8, 9, 11, 15].into_iter().find(|&number| count(number) == 0);
+    let rare = [2, 4, 5, 6, 8, 9, 11, 15].into_iter().find(|&number| histogram.of_any(number) == 0);
     ensure(rare.is_none(), format!("refusal {rare:?} did not occur"))?;
-    ensure(histogram.total() > 135_000 && count(0) > 600, "too few cases")
+    let damaged = [Kind::Table, Kind::Embedding, Kind::Tree, Kind::Image];
+    let damaged = damaged.map(|kind| histogram.made(kind, Made::Damaged));
+    ensure(damaged == CHANGED && histogram.total() == CHANGED.iter().sum(), "not as many changes")?;
+    ensure(histogram.of_any(0) > 300, "too few accepted")
 }

@@ -72,13 +72,12 @@ fn lines_of_vectors() -> Result<(), Failure> {
             }
         }
     }
-    run.report("lines of vectors");
-    report(&run.histogram.to_string());
+    let histogram = run.finish("lines of vectors")?;
     let carried = (0..=13).map(|number| (Entry::Carry, number));
     let brought = (0..=11).chain([15]).map(|number| (Entry::BringBack, number));
-    let missing = carried.chain(brought).find(|&(entry, number)| run.histogram.of(entry, number) == 0);
+    let missing = carried.chain(brought).find(|&(entry, number)| histogram.of(entry, number) == 0);
     ensure(missing.is_none(), format!("no line of {missing:?}"))?;
-    ensure(run.histogram.total() >= 800, "too few lines")
+    ensure(histogram.total() >= 800, "too few lines")
 }
 
 /// Lengths and offsets where a number gets one digit more, and about the
@@ -116,12 +115,12 @@ fn lines_with_lengths() -> Result<(), Failure> {
             }
         }
     }
-    run.report("lines with lengths");
     run.ensure_printed(&["carried 9 0", "carried 10 1", "carried 99 0", "carried 100 1", "carried 999 0"])?;
     run.ensure_printed(&["carried 1000 1", "carried 9999 0", "carried 10000 1", "carried 10003 0"])?;
     run.ensure_printed(&["carried 59999 0", "carried 60000 1", "refused 13 5 0", "brought 4", "brought 8"])?;
     run.ensure_printed(&["brought 10", "brought 98", "brought 100", "brought 998", "brought 1000"])?;
-    run.ensure_printed(&["brought 9998", "brought 10000", "brought 59994", "brought 59996"])
+    run.ensure_printed(&["brought 9998", "brought 10000", "brought 59994", "brought 59996"])?;
+    run.finish("lines with lengths").map(drop)
 }
 
 /// Trees whose bytes run out after so many, or within the command there.
@@ -130,12 +129,12 @@ fn lines_with_marks() -> Result<(), Failure> {
     let mut run = Run::new("marks")?;
     let tree = text(MOST_BYTES);
     for (length, entry) in edges().flat_map(|length| ENTRIES.map(|entry| (length, entry))) {
-        run.compare(&text_setting(ALONE).case(entry, &tree[..length], MOST_BYTES))?;
+        run.compare_damaged(&text_setting(ALONE).case(entry, &tree[..length], MOST_BYTES))?;
     }
-    run.report("lines with marks");
     run.ensure_printed(&["refused 2 4 0", "refused 2 4 8", "refused 2 4 10", "refused 2 4 98"])?;
     run.ensure_printed(&["refused 2 4 100", "refused 2 4 998", "refused 2 4 1000", "refused 2 4 9998"])?;
-    run.ensure_printed(&["refused 2 4 10000", "refused 2 4 59998", "refused 2 4 60000", "refused 1 4 0"])
+    run.ensure_printed(&["refused 2 4 10000", "refused 2 4 59998", "refused 2 4 60000", "refused 1 4 0"])?;
+    run.finish("lines with marks").map(drop)
 }
 
 /// An empty element carried into a sequence of filler: so many elements, each a
@@ -169,7 +168,6 @@ fn lines_with_filler() -> Result<(), Failure> {
     for widths in widths {
         run.round_trip(&filler_setting(widths), &[0x30, 0, 0x32, 0x3F])?;
     }
-    run.report("lines with filler");
     run.ensure_printed(&[
         "carried 7 1",
         "carried 31 9",
@@ -183,7 +181,8 @@ fn lines_with_filler() -> Result<(), Failure> {
         "carried 30001 9999",
         "carried 30004 10000",
     ])?;
-    run.ensure_printed(&["carried 49972 16656", "refused 13 5 0", "brought 4"])
+    run.ensure_printed(&["carried 49972 16656", "refused 13 5 0", "brought 4"])?;
+    run.finish("lines with filler").map(drop)
 }
 
 /// Random trees and images of about the greatest length.
@@ -195,16 +194,12 @@ fn lines_of_long_documents() -> Result<(), Failure> {
         let size = TableSize::random(&mut rng);
         let world = World::at_most_bytes(&mut rng, size);
         let answer = run.round_trip(&Setting::of(&world), &world.tree.to_bytes())?;
-        let refused =
-            |expected| matches!(answer, Answer::Refused(Refusal { number, .. }) if number == expected);
-        counts.add(
-            "carried to more than 59,000 bytes",
-            matches!(answer, Answer::Ok { value, .. } if value > 59_000),
-        );
-        counts.add("refused as too long", refused(1));
-        counts.add("refused for too long an image", refused(13));
+        let is_long = matches!(answer, Answer::Ok { value, .. } if value > 59_000);
+        counts.add("carried to more than 59,000 bytes", is_long);
     }
-    run.report("lines of long documents");
+    let histogram = run.finish("lines of long documents")?;
+    let rare = [1, 13].into_iter().find(|&number| histogram.of(Entry::Carry, number) < 5);
+    ensure(rare.is_none(), format!("too few refusals: {rare:?}"))?;
     counts.finish("long documents", 5)
 }
 
@@ -226,9 +221,9 @@ fn lines_without_some_files() -> Result<(), Failure> {
         left_out.iter().for_each(|&at| case.documents[at].clear());
         run.ensure_line_without(&left_out, &case, &answer_to(&case)?)?;
     }
-    run.report("lines without some files");
     run.ensure_printed(&["carried 21 1", "brought 15"])?;
-    run.ensure_printed(&["refused 2 1 0", "refused 2 2 0", "refused 2 3 0", "refused 2 4 0"])
+    run.ensure_printed(&["refused 2 1 0", "refused 2 2 0", "refused 2 3 0", "refused 2 4 0"])?;
+    run.finish("lines without some files").map(drop)
 }
 
 /// The program `cases` prints what is stored, a line by each write.

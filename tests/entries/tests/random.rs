@@ -5,10 +5,10 @@ mod arbitrary;
 mod seed;
 
 use arbitrary::{arbitrary_case, long_case};
-use lafindry_entries::{compare, ensure, report, Failure, Histogram};
-use lafindry_reference::generate::cases::case_of;
+use lafindry_entries::{ensure, refused_by, Failure, Tally, DAMAGED};
+use lafindry_reference::generate::cases::{draw_case, Drawn};
 use lafindry_reference::generate::{Rng, Shape, TableSize, World};
-use lafindry_reference::vectors::{Answer, Case, Entry};
+use lafindry_reference::vectors::Entry;
 use seed::seed;
 
 /// How often each answer of each entry has to occur. With seed 1 the rarest
@@ -18,21 +18,17 @@ const LEAST: usize = 15;
 /// Runs cases and counts their answers.
 #[derive(Default)]
 struct Run {
-    histogram: Histogram,
-    /// Cases whose last document has more than 59,000 bytes, and how many of
-    /// these were accepted.
-    long: usize,
-    long_accepted: usize,
+    tally: Tally,
+    /// Of these, the cases whose last document has more than 59,000 bytes.
+    long: Tally,
 }
 
 impl Run {
     /// Compares the library with the reference on one case.
-    fn compare(&mut self, case: Case) -> Result<(), Failure> {
-        let answer = compare(&case)?;
-        self.histogram.add(&case, &answer);
-        if case.documents.last().is_some_and(|document| document.len() > 59_000) {
-            self.long += 1;
-            self.long_accepted += matches!(answer, Answer::Ok { .. }) as usize;
+    fn compare(&mut self, drawn: Drawn) -> Result<(), Failure> {
+        let (reference, library) = self.tally.compare_drawn(&drawn)?;
+        if drawn.case.documents.last().is_some_and(|document| document.len() > 59_000) {
+            self.long.count(drawn.case.entry, refused_by(&reference), refused_by(&library));
         }
         Ok(())
     }
@@ -65,8 +61,8 @@ fn random_cases_agree() -> Result<(), Failure> {
         let small = small_world(&mut rng);
         for entry in Entry::ALL {
             for _ in 0..3 {
-                run.compare(case_of(&mut rng, &mixed, entry))?;
-                run.compare(case_of(&mut rng, &small, entry))?;
+                run.compare(draw_case(&mut rng, &mixed, entry))?;
+                run.compare(draw_case(&mut rng, &small, entry))?;
             }
             let world = if rng.chance(50) { &mixed } else { &small };
             run.compare(arbitrary_case(&mut rng, world, entry))?;
@@ -74,18 +70,15 @@ fn random_cases_agree() -> Result<(), Failure> {
         if number % 10 == 0 {
             let world = long_world(&mut rng);
             for entry in Entry::ALL {
-                run.compare(case_of(&mut rng, &world, entry))?;
+                run.compare(draw_case(&mut rng, &world, entry))?;
                 run.compare(long_case(&mut rng, &world, entry))?;
             }
         }
     }
-    let Run { histogram, long, long_accepted } = run;
-    let cases = histogram.total();
-    report(&format!(
-        "random cases, seed {}: {cases} agree, {long} with more than 59,000 bytes, \
-         {long_accepted} of these accepted\n{histogram}",
-        seed()
-    ));
+    let histogram = run.tally.finish(&format!("random cases, seed {}", seed()))?;
+    let long = run.long.finish(&format!("of these with more than 59,000 bytes, seed {}", seed()))?;
     histogram.ensure_all(&Entry::ALL, LEAST)?;
-    ensure(cases >= 20_000 && long >= 1000 && long_accepted >= 100, "too few cases")
+    histogram.ensure_made(&DAMAGED, 1000)?;
+    let enough = histogram.total() >= 20_000 && long.total() >= 1000 && long.of_any(0) >= 100;
+    ensure(enough, "too few cases")
 }

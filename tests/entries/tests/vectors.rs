@@ -1,6 +1,7 @@
-//! The vector files agree with the C entries.
+//! The vector files agree with the C entries. Where they come from, a program
+//! written independently for most, is said at `lafindry_reference::vectors`.
 
-use lafindry_entries::{check, ensure, report, Failure, Histogram};
+use lafindry_entries::{ensure, Failure, Tally};
 use lafindry_reference::vectors::{is_skipped, parse_line, Entry};
 
 /// Runs every line of a file under tests/data; there must be at least so many,
@@ -8,14 +9,13 @@ use lafindry_reference::vectors::{is_skipped, parse_line, Entry};
 fn run_file(name: &str, least: usize, entries: &[Entry]) -> Result<(), Failure> {
     let path = format!("{}/../data/{name}", env!("CARGO_MANIFEST_DIR"));
     let text = std::fs::read_to_string(&path).map_err(|error| Failure(format!("{path}: {error}")))?;
-    let mut histogram = Histogram::default();
+    let mut tally = Tally::default();
     for (number, line) in text.lines().enumerate().filter(|(_, line)| !is_skipped(line)) {
         let at_line = |message| Failure(format!("{name}:{}: {message}", number + 1));
         let (case, expected) = parse_line(line).map_err(at_line)?;
-        check(&case, &expected).map_err(|failure| at_line(failure.0))?;
-        histogram.add(&case, &expected);
+        tally.compare_with(&case, &expected).map_err(|failure| at_line(failure.0))?;
     }
-    report(&format!("{name}: {} lines agree\n{histogram}", histogram.total()));
+    let histogram = tally.finish(name)?;
     ensure(histogram.total() >= least, format!("{name}: only {} lines", histogram.total()))?;
     let idle = entries.iter().find(|&&entry| histogram.of(entry, 0) == 0);
     ensure(idle.is_none(), format!("{name}: {idle:?} accepted nothing"))

@@ -6,6 +6,11 @@
 //! ```
 //!
 //! Documents and OUTPUT are in hexadecimal, `-` for no bytes.
+//!
+//! The vectors of `tests/data`, `base.txt`, `n3.txt`, `n6.txt` and `n5.txt`, were
+//! computed by another program, written independently, from the papers alone. 10
+//! of `base.txt` and 30 of `n3.txt` have the reference's answers since N6. The
+//! files `cases-*.txt` are worked cases, and cases that the reference made.
 
 use crate::{bring_back, carry, judge_embedding, judge_table, judge_tree, Refusal};
 use std::fmt;

@@ -1,4 +1,5 @@
 //! The vector files agree with the reference, and lines are read as written.
+//! Where they come from is said at `lafindry_reference::vectors`.
 
 use lafindry_reference::generate::{random_small_case, Rng};
 use lafindry_reference::vectors::{check_line, from_hex, is_skipped, parse_line, to_hex};

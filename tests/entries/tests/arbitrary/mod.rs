@@ -1,8 +1,9 @@
 //! Cases with arbitrary bytes, and with documents of about 60,000 bytes.
 
+use lafindry_reference::generate::cases::{Drawn, Made};
 use lafindry_reference::generate::damage::{damage_bytes, split_commands};
 use lafindry_reference::generate::{Rng, World};
-use lafindry_reference::vectors::{Case, Entry};
+use lafindry_reference::vectors::Entry;
 use lafindry_reference::MOST_BYTES;
 
 /// The commands of tables, embeddings and trees.
@@ -22,21 +23,23 @@ fn arbitrary_bytes(rng: &mut Rng, length: usize) -> Vec<u8> {
 
 /// A case whose later document, and sometimes any other, holds arbitrary
 /// bytes or is a document of another kind.
-pub fn arbitrary_case(rng: &mut Rng, world: &World, entry: Entry) -> Case {
-    let mut documents = world.documents(rng, entry);
-    let last = documents.len() - 1;
-    let at = if rng.chance(70) { last } else { rng.below(documents.len()) };
-    let others = world.documents(rng, Entry::Carry);
-    documents[at] = match rng.weighted(&[60, 20, 20]) {
+pub fn arbitrary_case(rng: &mut Rng, world: &World, entry: Entry) -> Drawn {
+    let mut drawn = world.draw_documents(rng, entry);
+    let Drawn { case, made } = &mut drawn;
+    let last = made.len() - 1;
+    let at = if rng.chance(70) { last } else { rng.below(made.len()) };
+    let others = world.draw_documents(rng, Entry::Carry).case.documents;
+    (case.documents[at], made[at]) = match rng.weighted(&[60, 20, 20]) {
         0 => {
             let most = rng.pick(&[4, 16, 64, 400]);
             let length = rng.between(0, most);
-            arbitrary_bytes(rng, length)
+            (arbitrary_bytes(rng, length), Made::Other)
         }
-        1 => rng.pick(&others),
-        _ => beginning(rng, &documents[at]),
+        1 => (rng.pick(&others), Made::Other),
+        _ => (beginning(rng, &case.documents[at]), made[at].damaged()),
     };
-    Case { entry, documents, output_length: output_length(rng, entry) }
+    case.output_length = output_length(rng, entry);
+    drawn.settled(world)
 }
 
 /// The beginning of a document and some arbitrary bytes after it.
@@ -47,20 +50,22 @@ fn beginning(rng: &mut Rng, document: &[u8]) -> Vec<u8> {
 }
 
 /// A case with a document of about 60,000 bytes: up to ten more or fewer.
-pub fn long_case(rng: &mut Rng, world: &World, entry: Entry) -> Case {
-    let mut documents = world.documents(rng, entry);
-    let at = rng.below(documents.len());
+pub fn long_case(rng: &mut Rng, world: &World, entry: Entry) -> Drawn {
+    let mut drawn = world.draw_documents(rng, entry);
+    let Drawn { case, made } = &mut drawn;
+    let at = rng.below(made.len());
     let is_tree = at == 3 || (entry == Entry::JudgeTree && at == 1);
     let kind = if is_tree { 2 } else { at / 2 };
     let length = rng.between(MOST_BYTES - 10, MOST_BYTES + 10);
-    documents[at] = match rng.below(4) {
-        0 => arbitrary_bytes(rng, length),
-        _ => long_document(rng, &documents[at], kind, length),
+    (case.documents[at], made[at]) = match rng.below(4) {
+        0 => (arbitrary_bytes(rng, length), Made::Other),
+        _ => (long_document(rng, &case.documents[at], kind, length), made[at].damaged()),
     };
     if rng.chance(30) {
-        damage_bytes(rng, &mut documents[at]);
+        damage_bytes(rng, &mut case.documents[at]);
     }
-    Case { entry, documents, output_length: output_length(rng, entry) }
+    case.output_length = output_length(rng, entry);
+    drawn.settled(world)
 }
 
 /// A document of a kind (0 table, 1 embedding, 2 tree) and of a length, made

@@ -1,9 +1,8 @@
 //! Random cases about one subject, among which every clause about it occurs.
 
-use crate::counts::Counts;
 use crate::seed::seed;
-use lafindry_entries::{compare, report, Failure, Histogram};
-use lafindry_reference::generate::cases::case_of;
+use lafindry_entries::{Failure, Histogram, Side, Sides, Tally};
+use lafindry_reference::generate::cases::draw_case;
 use lafindry_reference::generate::{Rng, World};
 use lafindry_reference::vectors::{Answer, Case, Entry};
 
@@ -31,29 +30,32 @@ impl<C: PartialEq> Subject<C> {
         entries: &[Entry],
         least: usize,
     ) -> Result<Histogram, Failure> {
-        let (mut histogram, mut counts) = (Histogram::default(), Counts::default());
+        let (mut tally, mut others, mut shown) = (Tally::default(), Tally::default(), Sides::default());
         for _ in 0..worlds {
             let world = (self.world)(&mut rng);
             for &entry in entries.iter().flat_map(|entry| [entry; CASES_OF_ENTRY]) {
-                let case = case_of(&mut rng, &world, entry);
-                let answer = compare(&case)?;
-                if (self.has)(&case) {
-                    histogram.add(&case, &answer);
-                    self.count(&mut counts, &case, &answer);
+                let drawn = draw_case(&mut rng, &world, entry);
+                if (self.has)(&drawn.case) {
+                    let (reference, library) = tally.compare_drawn(&drawn)?;
+                    self.count(&mut shown, Side::Reference, &drawn.case, &reference);
+                    self.count(&mut shown, Side::Library, &drawn.case, &library);
+                } else {
+                    others.compare_drawn(&drawn)?;
                 }
             }
         }
-        let (name, cases) = (self.name, histogram.total());
-        report(&format!("cases with {name}, seed {}: {cases} agree\n{histogram}", seed()));
-        counts.finish(&format!("clauses about {name}"), least)?;
+        let (name, seed) = (self.name, seed());
+        let histogram = tally.finish(&format!("cases with {name}, seed {seed}"))?;
+        others.finish(&format!("cases drawn with these that have no {name}, seed {seed}"))?;
+        shown.finish(&format!("clauses about {name}, seed {seed}"), least)?;
         Ok(histogram)
     }
 
-    /// Counts the clauses that a case and its answer show.
-    fn count(&self, counts: &mut Counts, case: &Case, answer: &Answer) {
+    /// Counts the clauses that a case and the answer of a side show.
+    fn count(&self, counts: &mut Sides<&'static str>, side: Side, case: &Case, answer: &Answer) {
         let shown = (self.shown)(case, answer);
         for (clause, text) in self.clauses {
-            counts.add(text, shown.contains(clause));
+            counts.add(side, text, shown.contains(clause));
         }
     }
 }

@@ -1,7 +1,8 @@
 //! The programs `carry` and `bring` and the lines that they print.
 
 use crate::writes::writes_of;
-use lafindry_entries::{ensure, report, Failure, Histogram, Setting};
+use lafindry_entries::{ensure, refused_by, report, Failure, Histogram, Refused, Setting, Tally};
+use lafindry_reference::generate::cases::Made;
 use lafindry_reference::vectors::{Answer, Case, Entry};
 use lafindry_reference::{Refusal, MOST_BYTES};
 use std::collections::BTreeSet;
@@ -42,6 +43,17 @@ fn line_of(entry: Entry, answer: &Answer) -> String {
         Answer::Refused(Refusal { number, document, mark }) => {
             format!("refused {number} {document} {mark}\n")
         }
+    }
+}
+
+/// The number and the document of the refusal that the program of an entry
+/// printed, both 0 where it accepted; none if it is no such line.
+fn printed_by(entry: Entry, line: &[u8]) -> Option<Refused> {
+    let words: Vec<&str> = std::str::from_utf8(line).ok()?.split_whitespace().collect();
+    match (entry, &words[..]) {
+        (Entry::Carry, ["carried", _, _]) | (Entry::BringBack, ["brought", _]) => Some((0, 0)),
+        (_, ["refused", number, document, _]) => Some((number.parse().ok()?, document.parse().ok()?)),
+        _ => None,
     }
 }
 
@@ -95,18 +107,20 @@ impl Drop for Folder {
     }
 }
 
-/// Runs the programs, and keeps what they printed.
+/// Runs the programs, and keeps what they printed. In its tally the reference's
+/// answers are the expected ones, a vector's where there is one, and the
+/// library's those that the programs print.
 pub struct Run {
     folder: Folder,
-    pub histogram: Histogram,
+    tally: Tally,
     lines: BTreeSet<String>,
 }
 
 impl Run {
     /// The run of a test.
     pub fn new(test: &str) -> Result<Run, Failure> {
-        let (histogram, lines) = (Histogram::default(), BTreeSet::new());
-        Ok(Run { folder: Folder::new(test)?, histogram, lines })
+        let (tally, lines) = (Tally::default(), BTreeSet::new());
+        Ok(Run { folder: Folder::new(test)?, tally, lines })
     }
 
     /// Fails unless the program of a case prints the line of an answer by one
@@ -121,11 +135,16 @@ impl Run {
         let name = if case.entry == Entry::Carry { "carry" } else { "bring" };
         let line = line_of(case.entry, answer);
         let writes = writes_of(&program(name)?, self.folder.path(), Stdio::null())?;
-        if writes != [line.as_bytes()] {
-            let writes: Vec<_> = writes.iter().map(|bytes| String::from_utf8_lossy(bytes)).collect();
-            return Err(Failure(format!("{case}\n{name} wrote {writes:?}, not {:?}", [line])));
+        let printed = writes.first().and_then(|first| printed_by(case.entry, first));
+        match printed {
+            Some(printed) if writes == [line.as_bytes()] => {
+                self.tally.count(case.entry, refused_by(answer), printed);
+            }
+            _ => {
+                let writes: Vec<_> = writes.iter().map(|bytes| String::from_utf8_lossy(bytes)).collect();
+                return Err(Failure(format!("{case}\n{name} wrote {writes:?}, not {:?}", [line])));
+            }
         }
-        self.histogram.add(case, answer);
         self.lines.insert(line);
         Ok(())
     }
@@ -142,6 +161,14 @@ impl Run {
         Ok(answer)
     }
 
+    /// The same where the tree is a source tree that was damaged: for bringing
+    /// back, another one than an image.
+    pub fn compare_damaged(&mut self, case: &Case) -> Result<(), Failure> {
+        let made = if case.entry == Entry::Carry { Made::Damaged } else { Made::Other };
+        self.tally.count_change(case.entry, case.documents.len() - 1, made);
+        self.compare(case).map(drop)
+    }
+
     /// Compares carrying a tree, whose answer it gives, and bringing its image
     /// back, where it has one.
     pub fn round_trip(&mut self, setting: &Setting, tree: &[u8]) -> Result<Answer, Failure> {
@@ -152,16 +179,16 @@ impl Run {
         Ok(answer)
     }
 
-    /// Prints how many lines there were.
-    pub fn report(&self, title: &str) {
-        let (total, different) = (self.histogram.total(), self.lines.len());
-        report(&format!("{title}: {total} agree, {different} different ones"));
-    }
-
     /// Fails unless some lines, given without their ends, are among those
     /// printed.
     pub fn ensure_printed(&self, lines: &[&str]) -> Result<(), Failure> {
         let missing = lines.iter().find(|line| !self.lines.contains(&format!("{line}\n")));
         ensure(missing.is_none(), format!("{missing:?} was not printed"))
+    }
+
+    /// Prints how many lines there were, and gives how many of each answer.
+    pub fn finish(self, title: &str) -> Result<Histogram, Failure> {
+        report(&format!("{title}: {} different ones", self.lines.len()));
+        self.tally.finish(title)
     }
 }

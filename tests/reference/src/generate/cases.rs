@@ -25,6 +25,38 @@ pub struct World {
     pub tree: Element,
 }
 
+/// How a document of a case was made from those of its world.
+#[derive(Debug, Clone, Copy, PartialEq, Eq, PartialOrd, Ord)]
+pub enum Made {
+    /// It is the world's table, embedding, tree or image.
+    Whole,
+    /// It is altered, most often to another valid document.
+    Altered,
+    /// It is damaged: bytes, commands or parts of it are changed, left out or
+    /// put in.
+    Damaged,
+    /// It was not made from the world's document: another tree, a document of
+    /// another kind, random commands or bytes.
+    Other,
+}
+
+impl Made {
+    /// How it is made once it is damaged.
+    pub fn damaged(self) -> Made {
+        match self {
+            Made::Other => Made::Other,
+            _ => Made::Damaged,
+        }
+    }
+}
+
+/// A case, and how each of its documents was made.
+#[derive(Debug, Clone)]
+pub struct Drawn {
+    pub case: Case,
+    pub made: Vec<Made>,
+}
+
 impl World {
     /// A world with tables of a size and a tree of a shape.
     pub fn random(rng: &mut Rng, size: TableSize, shape: Shape) -> World {
@@ -180,30 +212,67 @@ impl World {
         Some(tree::build(&output[..carried.length as usize]))
     }
 
-    /// The documents of an entry: valid ones, and for bringing back an image
-    /// or another tree that conforms to the target table.
-    pub fn documents(&self, rng: &mut Rng, entry: Entry) -> Vec<Vec<u8>> {
+    /// The tables, the embedding and the source tree.
+    fn all_documents(&self) -> [Vec<u8>; 4] {
         let Embedded { source, target, embedding } = &self.embedded;
-        let all = [source.to_bytes(), target.to_bytes(), embedding.to_bytes(), self.tree.to_bytes()];
-        match entry {
+        [source.to_bytes(), target.to_bytes(), embedding.to_bytes(), self.tree.to_bytes()]
+    }
+
+    /// A case of an entry whose output has no bytes. Its documents are valid;
+    /// for bringing back there is an image or another tree that conforms to the
+    /// target table.
+    pub fn draw_documents(&self, rng: &mut Rng, entry: Entry) -> Drawn {
+        let all = self.all_documents();
+        let documents = match entry {
             Entry::JudgeTable => vec![all[rng.below(2)].clone()],
             Entry::JudgeTree => vec![all[0].clone(), all[3].clone()],
             Entry::JudgeEmbedding => all[..3].to_vec(),
-            Entry::Carry => all.to_vec(),
-            Entry::BringBack => [&all[..3], &[self.given_image(rng)]].concat(),
+            Entry::Carry | Entry::BringBack => all.to_vec(),
+        };
+        let mut made = vec![Made::Whole; documents.len()];
+        let mut case = Case { entry, documents, output_length: 0 };
+        if entry == Entry::BringBack {
+            (case.documents[3], made[3]) = self.draw_image(rng);
         }
+        Drawn { case, made }
     }
 
     /// A tree to bring back: the image, an altered image or a random tree.
-    fn given_image(&self, rng: &mut Rng) -> Vec<u8> {
+    fn draw_image(&self, rng: &mut Rng) -> (Vec<u8>, Made) {
         let target = &self.embedded.target;
         let shape = Shape::small(rng);
         let image = self.image();
-        match (image, rng.weighted(&[50, 40, 10])) {
-            (Some(image), 0) => image.to_bytes(),
-            (Some(image), 1) => alter(rng, target, &image).to_bytes(),
-            _ => random_tree(rng, target, shape).unwrap_or(self.tree.clone()).to_bytes(),
+        let (tree, made) = match (image, rng.weighted(&[50, 40, 10])) {
+            (Some(image), 0) => (image, Made::Whole),
+            (Some(image), 1) => (alter(rng, target, &image), Made::Altered),
+            _ => (random_tree(rng, target, shape).unwrap_or(self.tree.clone()), Made::Other),
+        };
+        (tree.to_bytes(), made)
+    }
+
+    /// Whether a document in a place of an entry is the world's: for judging a
+    /// table either one, for bringing back the image.
+    fn is_own(&self, entry: Entry, at: usize, document: &[u8]) -> bool {
+        let own = self.all_documents();
+        match (entry, at) {
+            (Entry::JudgeTable, _) => own[0] == document || own[1] == document,
+            (Entry::JudgeTree, 1) => own[3] == document,
+            (Entry::BringBack, 3) => self.image().is_some_and(|image| image.to_bytes() == document),
+            _ => own[at] == document,
         }
+    }
+}
+
+impl Drawn {
+    /// Says of documents that were changed, and are the world's again, that
+    /// they are whole.
+    pub fn settled(mut self, world: &World) -> Drawn {
+        for (at, document) in self.case.documents.iter().enumerate() {
+            if self.made[at] != Made::Whole && world.is_own(self.case.entry, at, document) {
+                self.made[at] = Made::Whole;
+            }
+        }
+        self
     }
 }
 
@@ -281,48 +350,64 @@ fn random_small_case_of(
 /// A case of an entry in a world; about half of them have damage. In some a
 /// path is changed together with the target table.
 pub fn case_of(rng: &mut Rng, world: &World, entry: Entry) -> Case {
-    let mut documents = world.documents(rng, entry);
-    if documents.len() > 2 && rng.chance(15) {
+    draw_case(rng, world, entry).case
+}
+
+/// The same, with how each document was made.
+pub fn draw_case(rng: &mut Rng, world: &World, entry: Entry) -> Drawn {
+    let mut drawn = world.draw_documents(rng, entry);
+    let Drawn { case, made } = &mut drawn;
+    if made.len() > 2 && rng.chance(15) {
         if let Some(changed) = change_path(rng, &world.embedded) {
-            documents[1] = changed.target.to_bytes();
-            documents[2] = changed.embedding.to_bytes();
+            case.documents[1] = changed.target.to_bytes();
+            case.documents[2] = changed.embedding.to_bytes();
+            made[1..=2].fill(Made::Altered);
         }
     }
     for _ in 0..rng.pick(&[0, 0, 0, 0, 0, 1, 1, 1, 1, 2]) {
         // Later documents are damaged more often than tables.
-        let at = rng.weighted(&[20, 20, 35, 30][..documents.len()]);
-        damage(rng, world, entry, &mut documents, at);
+        let at = rng.weighted(&[20, 20, 35, 30][..made.len()]);
+        made[at] = damage(rng, world, case, made[at], at);
     }
     if rng.below(400) == 0 {
-        let at = rng.below(documents.len());
-        make_too_long(rng, &mut documents[at]);
+        let at = rng.below(made.len());
+        make_too_long(rng, &mut case.documents[at]);
+        made[at] = made[at].damaged();
     }
-    let output_length = if entry.writes() { MOST_BYTES } else { 0 };
-    let mut case = Case { entry, documents, output_length };
     if entry.writes() {
-        case.output_length = random_output_length(rng, &case);
+        case.output_length = MOST_BYTES;
+        case.output_length = random_output_length(rng, case);
     }
-    case
+    drawn.settled(world)
 }
 
-/// Damages one document of a case.
-fn damage(rng: &mut Rng, world: &World, entry: Entry, documents: &mut [Vec<u8>], at: usize) {
-    let is_tree = at == 3 || (entry == Entry::JudgeTree && at == 1);
-    let bytes = &mut documents[at];
+/// Damages one document of a case, and says how it is made then.
+fn damage(rng: &mut Rng, world: &World, case: &mut Case, made: Made, at: usize) -> Made {
+    let Embedded { source, target, .. } = &world.embedded;
+    let is_tree = at == 3 || (case.entry == Entry::JudgeTree && at == 1);
+    let bytes = &mut case.documents[at];
     match rng.weighted(&[22, 22, 6, 50]) {
         0 => damage_bytes(rng, bytes),
         1 => damage_commands(rng, bytes),
-        2 => *bytes = soup(rng, if is_tree { 2 } else { at / 2 }),
-        _ if is_tree && entry == Entry::BringBack => {
-            if let Some(image) = world.image() {
-                *bytes = damage_tree(rng, &world.embedded.target, &image);
-            }
+        2 => {
+            *bytes = soup(rng, if is_tree { 2 } else { at / 2 });
+            return Made::Other;
         }
-        _ if is_tree => *bytes = damage_tree(rng, &world.embedded.source, &world.tree),
-        _ if at == 2 => *bytes = damage_embedding(rng, &world.embedded),
-        _ if at == 1 => *bytes = damage_table(rng, &world.embedded.target),
-        _ => *bytes = damage_table(rng, &world.embedded.source),
+        _ => {
+            *bytes = match at {
+                _ if is_tree && case.entry == Entry::BringBack => match world.image() {
+                    Some(image) => damage_tree(rng, target, &image),
+                    None => return made,
+                },
+                _ if is_tree => damage_tree(rng, source, &world.tree),
+                2 => damage_embedding(rng, &world.embedded),
+                1 => damage_table(rng, target),
+                _ => damage_table(rng, source),
+            };
+            return Made::Damaged;
+        }
     }
+    made.damaged()
 }
 
 /// Random commands of one kind of document (0 table, 1 embedding, 2 tree),

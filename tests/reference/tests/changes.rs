@@ -1,0 +1,104 @@
+//! The stored tallies with which the C tests compare their own: what the
+//! reference answers when one byte of one of the patch's documents takes each
+//! other value.
+
+use lafindry_reference::vectors::{Answer, Case, Entry};
+use std::collections::BTreeMap;
+
+/// The length of output that the C tests lend with changed documents.
+const ROOM: usize = 22;
+
+/// The bytes of a file of the repository.
+fn read(name: &str) -> Vec<u8> {
+    let path = format!("{}/../../{name}", env!("CARGO_MANIFEST_DIR"));
+    std::fs::read(&path).expect(&path)
+}
+
+/// The patch as a case of an entry; the tree to bring back is its image.
+fn patch(entry: Entry) -> Case {
+    let [source, target, embedding, tree] =
+        ["s1", "s2", "em", "tr"].map(|name| read(&format!("examples/patch/{name}")));
+    let documents = match entry {
+        Entry::JudgeTable => vec![source],
+        Entry::JudgeEmbedding => vec![source, target, embedding],
+        Entry::JudgeTree => vec![source, tree],
+        Entry::Carry => vec![source, target, embedding, tree],
+        Entry::BringBack => {
+            let Ok(Answer::Ok { output, .. }) = patch(Entry::Carry).run() else {
+                panic!("the patch is carried")
+            };
+            vec![source, target, embedding, output]
+        }
+    };
+    Case { entry, documents, output_length: if entry.writes() { ROOM } else { 0 } }
+}
+
+/// The documents whose bytes change, in the order of the C tests: a name, the
+/// patch as a case, and the place of the document.
+fn places() -> Vec<(&'static str, Case, usize)> {
+    let names: [(Entry, &[&str]); 5] = [
+        (Entry::JudgeTable, &["table, source", "table, target"]),
+        (Entry::JudgeEmbedding, &["embedding, source table", "embedding, target table", "embedding"]),
+        (Entry::JudgeTree, &["tree, table", "tree"]),
+        (Entry::Carry, &["carry, source table", "carry, target table", "carry, embedding", "carry, tree"]),
+        (
+            Entry::BringBack,
+            &[
+                "bring back, source table",
+                "bring back, target table",
+                "bring back, embedding",
+                "bring back, tree",
+            ],
+        ),
+    ];
+    let mut places = Vec::new();
+    for (entry, names) in names {
+        for (at, &name) in names.iter().enumerate() {
+            match (entry, at) {
+                // Either table is judged alone.
+                (Entry::JudgeTable, 1) => {
+                    let documents = vec![read("examples/patch/s2")];
+                    places.push((name, Case { entry, documents, output_length: 0 }, 0));
+                }
+                _ => places.push((name, patch(entry), at)),
+            }
+        }
+    }
+    places
+}
+
+/// The tally of all changes of one byte of a document, as an initializer in C.
+fn tally(name: &str, patch: &Case, at: usize) -> String {
+    let mut counts: BTreeMap<(u64, u64), u64> = BTreeMap::new();
+    let [mut marks, mut values, mut fillers, mut bytes] = [0; 4];
+    let offsets = 0..patch.documents[at].len();
+    for (offset, change) in offsets.flat_map(|offset| (1..=0xFF).map(move |change| (offset, change))) {
+        let mut case = patch.clone();
+        case.documents[at][offset] ^= change;
+        match case.run().expect("the output is kept") {
+            Answer::Ok { value, filler, output } => {
+                *counts.entry((0, 0)).or_default() += 1;
+                values += value;
+                fillers += filler;
+                bytes += (1..).zip(&output).map(|(place, &byte)| place * byte as u64).sum::<u64>();
+            }
+            Answer::Refused(refusal) => {
+                *counts.entry((refusal.number, refusal.document)).or_default() += 1;
+                marks += refusal.mark;
+            }
+        }
+    }
+    let counts = counts.iter().map(|((number, document), count)| format!("[{number}][{document}] = {count}"));
+    let counts = counts.collect::<Vec<String>>().join(", ");
+    format!(
+        "    /* {name} */\n    {{.count = {{{counts}}},\n     \
+         .marks = {marks}, .values = {values}, .fillers = {fillers}, .bytes = {bytes}}},\n"
+    )
+}
+
+#[test]
+fn stored_tallies_are_the_references() {
+    let text: String = places().iter().map(|(name, patch, at)| tally(name, patch, *at)).collect();
+    let stored = String::from_utf8(read("tests/c/changes.inc")).expect("text");
+    assert!(text == stored, "tests/c/changes.inc should be:\n{text}");
+}
