@@ -23,6 +23,6 @@ right-kinds-spec =
     (λ c. search needs)
     (λ c. search needs)
     (λ c. rw (c .before .match .keys3, c .if1 .left))
-    (λ c. search needs)
-    (λ c. search needs)
+    (λ c. rw (c .match .keys4))
+    (λ c. rw (c .match .keys5))
     returns-8)
