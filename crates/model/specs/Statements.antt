@@ -395,12 +395,12 @@ pub trees-exactly : (t d : List ℕ) → AcceptedTree t d ↔ (WrittenBy ValidTa
 trees-exactly = tree-accepted-exactly
 
 -- Reading what was written gives it back.
-pub record ReadBack : Type 0 where
+pub record WrittenIsRead : Type 0 where
   pub table-read : (T : Table) → tableOf (tableBytes T) ≡ T
   pub embedding-read : (M : PathMapping) → mappingOf (embeddingBytes M) ≡ M
   pub tree-read : (t : ℕ) (k : Content) → contentOf (document t k) ≡ k
 
-pub written-is-read : ReadBack
+pub written-is-read : WrittenIsRead
 written-is-read = record { table-read = table-of-bytes; embedding-read = mapping-of-bytes; tree-read = content-of-document }
 
 -- The limit of 60,000 bytes refuses no valid table and no valid embedding: the longest have 2,113 and 25,729 bytes. A valid tree

@@ -48,7 +48,7 @@ pub record EmbeddingMarks (S T : Table) (bs : List ℕ) : Type 0 where
 -- 2 to 4 and 11 of a tree by table S
 pub record TreeMarks (S : Table) (bs : List ℕ) : Type 0 where
   pub form : (at : ℕ) → (treeForm bs ≡ fails at) ↔ MarkOf treeCommands treeStep treeComplete noRoot bs at
-  pub tree-levels : (at : ℕ) → (treeLevels bs ≡ fails at) ↔ MarkOf treeCommands levelStep (λ n. true) 0 bs at
+  pub limits : (at : ℕ) → (treeLevels bs ≡ fails at) ↔ MarkOf treeCommands levelStep (λ n. true) 0 bs at
   pub operands : (at : ℕ) → (treeOperands (length S) bs ≡ fails at) ↔ MarkOf treeCommands (operandStep (length S)) (λ u. true) tt bs at
   pub expected : (at : ℕ) → (treeExpected S bs ≡ fails at) ↔ MarkOf treeCommands (expectStep S) (λ s. true) (sequence (0 ∷ []) ∷ []) bs at
 

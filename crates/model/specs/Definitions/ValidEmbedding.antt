@@ -58,12 +58,12 @@ EndsRight T M (sequence ms) i σ = (m : ℕ) → entry i ms ≡ some m → σ �
 EndsRight T M (choice need ms) i σ = (m : ℕ) → entry i ms ≡ some m → σ ≡ mappedTo M m
 EndsRight T M (list m) i σ = σ ≡ mappedTo M m
 
--- each of the kinds is one of those named; some kind is
+-- each of the kinds is one of those named; at least one is
 unfoldable pub Each : (Kind → Type 0) → List Kind → Type 0
 Each P κs = (κ : Kind) → List·Memᴰ κ κs → P κ
 
-unfoldable pub Some : (Kind → Type 0) → List Kind → Type 0
-Some P κs = (κ : Kind) × List·Memᴰ κ κs × P κ
+unfoldable pub AtLeastOne : (Kind → Type 0) → List Kind → Type 0
+AtLeastOne P κs = (κ : Kind) × List·Memᴰ κ κs × P κ
 
 abbrev pub SequenceOrList : Kind → Type 0
 SequenceOrList κ = (isSequence κ ≡ true) ⊎ (isList κ ≡ true)
@@ -84,9 +84,9 @@ unfoldable pub RightKinds : Kind → List Kind → Type 0
 RightKinds text κs = Each SequenceOrList κs
 RightKinds empty κs = Unit {0}
 RightKinds (sequence ms) κs = (1 ≤ length κs) × Each SequenceOrList κs
-RightKinds (choice needed ms) κs = Each AnyWithSteps κs × Some (λ κ. isChoice κ ≡ true) κs
+RightKinds (choice needed ms) κs = Each AnyWithSteps κs × AtLeastOne (λ κ. isChoice κ ≡ true) κs
 RightKinds (choice optional ms) κs = Each AnyWithSteps κs × FirstChoiceOptional κs
-RightKinds (list m) κs = Each SequenceOrList κs × Some (λ κ. isList κ ≡ true) κs
+RightKinds (list m) κs = Each SequenceOrList κs × AtLeastOne (λ κ. isList κ ≡ true) κs
 
 -- the steps of a path from target type τ are right: those of an optional choice also agree with the type's first path up to the
 -- first choice step

@@ -64,7 +64,7 @@ unfolding treeCommands treeForm treeLevels treeOperands treeExpected levelStep o
 tree-marks S bs =
     record {
       form = mark-exactly tree-spelling treeStep tree-alien-stops treeComplete noRoot bs;
-      tree-levels = mark-exactly tree-spelling levelStep (λ n. refl) (λ n. true) 0 bs;
+      limits = mark-exactly tree-spelling levelStep (λ n. refl) (λ n. true) 0 bs;
       operands = mark-exactly tree-spelling (operandStep (length S)) (λ u. refl) (λ u. true) tt bs;
       expected = mark-exactly tree-spelling (expectStep S) (expect-alien-stops S) (λ s. true) expectedRoot bs;
     }

@@ -15,7 +15,7 @@ use Rattle.model.specs.Definitions.Commands.{needed, optional}
 use Rattle.model.specs.Definitions.Table.{Kind, text, empty, sequence, choice, list, Table, kindOf, stepFrom, isSequence, isChoice, isOptional, isList}
 use Rattle.model.specs.Definitions.Embedding.{next, endOf, leaves, Parting, beginning, apart, parting, beforeChoice, sameSteps}
 use Rattle.model.specs.Definitions.EmbeddingChecks.{leavesOnly, sequenceOrList, optionalFirst, rightSteps, agrees, clashing, clash}
-use Rattle.model.specs.Definitions.ValidEmbedding.{StepsExist, Each, Some, SequenceOrList, AnyWithSteps, FirstChoiceOptional, RightKinds, StepsRight, BeginningOf, Apart, PartAtChoice, NoClash}
+use Rattle.model.specs.Definitions.ValidEmbedding.{StepsExist, Each, AtLeastOne, SequenceOrList, AnyWithSteps, FirstChoiceOptional, RightKinds, StepsRight, BeginningOf, Apart, PartAtChoice, NoClash}
 use Rattle.model.specs.Theorems.Facts.{Walks, arrived, onward}
 use Rattle.model.specs.Theorems.Tools.{true-false, pick-true, pick-false, Decides, either, both, equal, some-passes, none-passes}
 use Rattle.model.specs.Theorems.Placing.{next-is, no-text-step, no-empty-step}
@@ -54,8 +54,8 @@ unfolding sequenceOrList
 only-plain = each-passes sequenceOrList (λ κ. either (isSequence κ) (isList κ) Iff·rfl Iff·rfl)
 
 -- some kind is one of those tested
-some-kind : (test : Kind → Bool) (κs : List Kind) → Decides (some-of test κs) (Some (λ κ. test κ ≡ true) κs)
-unfolding Some
+some-kind : (test : Kind → Bool) (κs : List Kind) → Decides (some-of test κs) (AtLeastOne (λ κ. test κ ≡ true) κs)
+unfolding AtLeastOne
 some-kind test = some-passes test (λ κ. Iff·rfl)
 
 -- there is a kind at all

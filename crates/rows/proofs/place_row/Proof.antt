@@ -1,4 +1,5 @@
 -- `place_row` meets its contract: a store leaves the length.
+use mathlib.Core.Path.{refl}
 use Prim.Native.Nat.{_*_}
 use native.Mathlib.Omega.{arith}
 use lib.ListN.{length-set}
@@ -23,4 +24,4 @@ place-row-spec =
     (λ c. search needs)
     (λ c. search needs)
     (λ c. search needs)
-    (λ c. search needs))
+    (λ c. refl))
