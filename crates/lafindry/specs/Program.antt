@@ -282,14 +282,14 @@ refused-bring-back-keeps-output s t e tr before after a call = kept before after
 
 -- ---- demand 2: a document is accepted exactly when it is valid
 
--- A call of lafindry_judge_table accepts exactly what a valid table writes.
+-- A call of lafindry_judge_table accepts exactly what a valid table writes, in at most 60,000 bytes.
 pub accepts-tables-exactly : (t : List ℕ) (a : Answer) → JudgeTableCall t a → (a .refusal ≡ 0) ↔ WrittenBy ValidTable tableBytes t
 accepts-tables-exactly t a call = (
   λ zero. tables-exactly t .0 (table-is-accepted t (judge-accepts t (call-accepts a (judgeTable t) call zero .2))),
   λ w. accepted-is-zero a (judgeTable t) call (tables-exactly t .1 w .1),
 )
 
--- A call of lafindry_judge_embedding accepts exactly a valid embedding between two valid tables.
+-- A call of lafindry_judge_embedding accepts exactly what a valid embedding between two valid tables writes, and these tables.
 pub accepts-embeddings-exactly : (s t e : List ℕ) (a : Answer) → JudgeEmbeddingCall s t e a
     → (a .refusal ≡ 0) ↔ (WrittenBy ValidTable tableBytes s × WrittenBy ValidTable tableBytes t × WrittenBy (ValidEmbedding (tableOf s) (tableOf t)) embeddingBytes e)
 accepts-embeddings-exactly s t e a call = (
@@ -297,7 +297,7 @@ accepts-embeddings-exactly s t e a call = (
   λ w. accepted-is-zero a (judgeEmbedding s t e) call (embeddings-exactly s t e .1 w .1),
 )
 
--- A call of lafindry_judge_tree accepts exactly a valid tree by a valid table.
+-- A call of lafindry_judge_tree accepts exactly what a valid tree by a valid table writes, in at most 60,000 bytes, and this table.
 pub accepts-trees-exactly : (t tr : List ℕ) (a : Answer) → JudgeTreeCall t tr a
     → (a .refusal ≡ 0) ↔ (WrittenBy ValidTable tableBytes t × WrittenBy (ValidTree (tableOf t)) (document 0) tr)
 accepts-trees-exactly t tr a call = (

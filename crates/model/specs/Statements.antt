@@ -94,7 +94,7 @@ mark-of-unexpected t a =
 
 -- ---- 3. finite instances, heights, filler
 
--- In a table that passes checks 2 to 5, a type passes check 6 exactly when some conforming element of that type exists.
+-- In a table that passes checks 2, 4 and 5, a type passes check 6 exactly when some conforming element of that type exists.
 pub instance-exactly : (t : List ℕ) → tableForm t ≡ passes → tableOperands (length (tableOf t)) t ≡ passes → tableRepeats t ≡ passes
     → (τ : ℕ) → τ < length (tableOf t) → (hasInstance (tableOf t) τ ≡ true) ↔ Instance (tableOf t) τ
 instance-exactly t form operands repeats τ exists =
@@ -381,16 +381,18 @@ one-line = answer-line-unique
 
 -- ---- 16. accepted exactly when valid
 
--- A byte string is accepted as a table exactly when a valid table writes it.
+-- A byte string is accepted as a table exactly when a valid table writes it, in at most 60,000 bytes.
 pub tables-exactly : (bs : List ℕ) → AcceptedTable bs ↔ WrittenBy ValidTable tableBytes bs
 tables-exactly = table-accepted-exactly
 
--- As an embedding between two byte strings, exactly when valid tables write these, and a valid embedding between the two writes it.
+-- As an embedding between two byte strings, exactly when valid tables write these, and a valid embedding between the two writes it,
+-- each in at most 60,000 bytes.
 pub embeddings-exactly : (s t e : List ℕ)
     → AcceptedEmbedding s t e ↔ (WrittenBy ValidTable tableBytes s × WrittenBy ValidTable tableBytes t × WrittenBy (ValidEmbedding (tableOf s) (tableOf t)) embeddingBytes e)
 embeddings-exactly = embedding-accepted-exactly
 
--- As a tree by another, exactly when a valid table writes that, and what a valid tree's root holds writes it.
+-- As a tree by another, exactly when a valid table writes that, and what a valid tree's root holds writes it, each in at most 60,000
+-- bytes.
 pub trees-exactly : (t d : List ℕ) → AcceptedTree t d ↔ (WrittenBy ValidTable tableBytes t × WrittenBy (ValidTree (tableOf t)) (document 0) d)
 trees-exactly = tree-accepted-exactly
 
@@ -403,8 +405,8 @@ pub record WrittenIsRead : Type 0 where
 pub written-is-read : WrittenIsRead
 written-is-read = record { table-read = table-of-bytes; embedding-read = mapping-of-bytes; tree-read = content-of-document }
 
--- The limit of 60,000 bytes refuses no valid table and no valid embedding: the longest have 2,113 and 25,729 bytes. A valid tree
--- may be longer.
+-- The limit of 60,000 bytes refuses no valid table, and no valid embedding of a valid table: they have at most 2,113 and 25,729
+-- bytes. It does refuse trees.
 pub tables-short : (T : Table) → ValidTable T → length (tableBytes T) ≤ 2113
 tables-short = valid-table-short
 
@@ -424,13 +426,14 @@ marks-of-embeddings = embedding-marks
 pub marks-of-trees : (S : Table) (bs : List ℕ) → TreeMarks S bs
 marks-of-trees = tree-marks
 
--- In a table that passes checks 2 to 5, check 6 marks the lowest type of which no conforming element exists.
+-- In a table that passes checks 2, 4 and 5, check 6 marks the lowest type of which no conforming element exists.
 pub mark-of-endless : (t : List ℕ) → tableForm t ≡ passes → tableOperands (length (tableOf t)) t ≡ passes → tableRepeats t ≡ passes
     → (τ : ℕ) → (endlessType (tableOf t) ≡ fails τ) ↔ LowestWithout (tableOf t) τ
 mark-of-endless t form operands repeats = endless-mark (tableOf t) (table-well-formed t form operands repeats)
 
--- In an embedding between accepted tables that passes checks 2 to 4, each of checks 8 to 10 marks the `21` of the first path, in the order
--- of the document, that isn't as `ValidEmbedding` asks: that ends elsewhere, has wrong steps, or clashes with an earlier one.
+-- In an embedding into an accepted table that passes checks 2 and 4, each of checks 8 to 10 fails at an offset exactly where that is the
+-- offset of the first path, by source type and number, that isn't as `ValidEmbedding` asks: that ends elsewhere, has wrong steps, or
+-- clashes with an earlier one. At the offset of each path stand its 21 and its steps, and an earlier path has a lower offset.
 pub marks-of-paths : (s t e : List ℕ) → AcceptedTable t → embeddingForm (tableOf s) e ≡ passes → embeddingOperands (tableOf t) e ≡ passes → PathMarks (tableOf s) (tableOf t) e
 marks-of-paths s t e a form operands =
     let S = tableOf s in

@@ -130,8 +130,9 @@ fn junk(case: &Case) -> Vec<u8> {
     }
 }
 
-/// The answer that a C answer stands for, with the bytes written.
-fn read(case: &Case, given: CAnswer, output: &[u8]) -> Result<Answer, String> {
+/// The answer that a C answer stands for, with the bytes written. The error
+/// says that a field which doesn't apply isn't 0.
+pub fn read(case: &Case, given: CAnswer, output: &[u8]) -> Result<Answer, String> {
     let CAnswer { refusal, document, mark, value, filler } = given;
     let answer = if refusal == 0 {
         let written = if case.entry.writes() { value as usize } else { 0 };
