@@ -1,8 +1,7 @@
 -- 01 "One patch, whole": its tables and its embedding as lists of kinds and of paths, the bytes that these write, and what the bytes are
 -- read to; a table with a type of each kind. By computing.
 use mathlib.Core.Path.{_≡_, refl}
-use mathlib.Core.List.{List, [], _∷_}
-use Prim.Native.Nat.{ℕ}
+use mathlib.Core.List.{[], _∷_}
 use Rattle.model.specs.Definitions.Commands.{needed, optional}
 use Rattle.model.specs.Definitions.Table.{Table, text, empty, sequence, choice, list, tableOf}
 use Rattle.model.specs.Definitions.ValidTable.{tableBytes}

@@ -7,7 +7,7 @@ use mathlib.Core.Option.{some}
 use Prim.Native.Nat.{ℕ, zero, suc, _+_, _*_, _≤_, _<_}
 use native.Mathlib.Omega.{arith}
 use lib.ListN.{length, getD, length-append}
-use lib.Dec.{eqb, leb, ltb}
+use lib.Dec.{eqb, leb}
 use borrow.Author.Tests.{ltb-true, lt-ltb, le-leb, eqb-true}
 use Rattle.model.specs.Definitions.Basics.{passes, Next, goes, stops, goesIf, run, pick, memberOf, entry, followed, reach}
 use Rattle.model.specs.Definitions.Commands.{Need, needed, optional, TableCommand, textType, emptyType, sequenceType, choiceType, listType, member, tableEnd, alien, tableCommands, tableWidth}
