@@ -46,12 +46,6 @@ use Rattle.model.specs.Theorems.Expected.{UnexpectedCommand, unexpected-
 use Rattle.model.specs.Theorems.HeightLaws.{Solves, heights-solve, heights-least, instance-finite}
 use Rattle.model.specs.Theorems.FillerLaws.{filler-conforms, filler-levels, has-instance, instance-of}
 use Rattle.model.specs.Theorems.JudgedTables.{table-sound, table-well-formed}
-use Rattle.model.specs.Theorems.ValidTables.{table-of-bytes, valid-table-short}
-use Rattle.model.specs.Theorems.EmbeddingBytes.{mapping-of-bytes, path-stands, offsets-rise}
-use Rattle.model.specs.Theorems.DocumentMarks.{table-marks, embedding-marks, tree-marks, endless-mark}
-use Rattle.model.specs.Theorems.PathChecks.{ends-mark, steps-mark, clash-mark}
-use Rattle.model.specs.Theorems.ValidEmbeddings.{paths-walked, valid-embedding-short}
-use Rattle.model.specs.Theorems.Accepted.{table-accepted-exactly, embedding-accepted-exactly, tree-accepted-exactly}
 use Rattle.model.specs.Theorems.ReadBack.{first-item}
 use Rattle.model.specs.Theorems.ReadConforms.{nothing-exactly}
 use Rattle.model.specs.Theorems.Measures.{image-levels, image-length, marked, unmarked, countFiller, marked-is-image, marked-filler}
@@ -64,6 +58,12 @@ use Rattle.model.specs.Theorems.OnBytes.{conforming-content, conform, eq
 use Rattle.model.specs.Theorems.JudgedEmbeddings.{judgedWith, form-holds}
 use Rattle.model.specs.Theorems.StepRules.{judgeEmbeddingWith, stepsBy, judgedBy, AnsweredBy, answered-by-rule, answered-too}
 use Rattle.model.specs.Theorems.RulesNeeded.{PrefixRuleTooWeak, prefix-rule-too-weak, FirstMemberEndless, first-member-endless}
+use Rattle.model.specs.Theorems.ValidTables.{table-of-bytes, valid-table-short}
+use Rattle.model.specs.Theorems.EmbeddingBytes.{mapping-of-bytes, path-stands, offsets-rise}
+use Rattle.model.specs.Theorems.DocumentMarks.{table-marks, embedding-marks, tree-marks, endless-mark}
+use Rattle.model.specs.Theorems.PathChecks.{ends-mark, steps-mark, clash-mark}
+use Rattle.model.specs.Theorems.ValidEmbeddings.{paths-walked, valid-embedding-short}
+use Rattle.model.specs.Theorems.Accepted.{table-accepted-exactly, embedding-accepted-exactly, tree-accepted-exactly}
 
 -- ---- 1. conforming and bytes
 

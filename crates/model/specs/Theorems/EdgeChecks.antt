@@ -176,6 +176,6 @@ module _ (T : Table) (κ : Kind) (τ : ℕ) where
   unfolding firstClash
   edges-clash earlier [] = found-none _
   edges-clash earlier (e ∷ es) =
-      subst (Found (Clear earlier (e ∷ es)) (e ∷ es)) (pick-not _ _ (fails (e .at)))
+      subst (Found (Clear earlier (e ∷ es)) (e ∷ es)) (pick-not _ _ _)
       (found-more (Clear earlier (e ∷ es)) e es _ _ (clear-first earlier (e ∷ es) e)
       (found-same _ _ es (firstClash T κ τ (e ∷ earlier) es) (clear-behind earlier e es) (edges-clash (e ∷ earlier) es)))

@@ -245,7 +245,7 @@ module _ (X : Setting) (τ : ℕ) (κ : Kind) where
   member-edges [] n (all-more g later) e = absurd (omega arith)
   member-edges (m ∷ ms) n all-none e = absurd (omega arith)
   member-edges (m ∷ ms) n (all-more {a = d} g later) e =
-      let both = pick-passes (eqb (endOf (X .target) τ (d .steps)) (targetOf (X .embedding) m)) _ (d .at) e in
+      let both = pick-passes _ _ (d .at) e in
       along-both (record { good = g; ends = eqb-true _ _ (both .0) }) (member-edges ms (omega arith) later (both .1))
 
   -- an edge checked clashes with none of the earlier ones
