@@ -1,13 +1,13 @@
 /*
  * Lafindry: judging tables, embeddings and tree documents of paper 01, carrying a source document into its image, and
  * bringing an image back. Tables may have optional choices, for what a document may leave out, the paths of choices
- * may lead through lists, and texts may have accents (paper 02, N3, N6 and N5). One more function writes a number, such
- * as those of an answer, in decimal (N2).
+ * may lead through lists, and texts may have accents (paper 02, N3, N6 and N5). Of an embedding whose paths clash, one
+ * function says which two do and why (N9); another writes a number, such as those of an answer, in decimal (N2).
  *
  * Every function takes any bytes or any number and always answers. A document is lent as a pointer and a length;
  * nothing is read beyond it, nothing is kept, and nothing is allocated. A pointer may be anything where its length is
  * 0. The most stack that was measured, on documents of 128 levels and 60,000 bytes, is 549 KB (lafindry_bring_back),
- * 491 KB (lafindry_carry) and 15 KB (the others), so a thread that calls should have a megabyte.
+ * 491 KB (lafindry_carry) and 16 KB (the others), so a thread that calls should have a megabyte.
  *
  * Characters of a tree are bytes of ISO 8859-1: 09, 0A, 20 to 7E and A0 to FF (hexadecimal); others are refused with
  * LAFINDRY_BAD_OPERAND. Bytes of UTF-8 are not recognised as such: turn names into ISO 8859-1 first.
@@ -32,6 +32,33 @@ struct lafindry_answer {
     uint64_t mark;     /* where: an offset in that document, or for LAFINDRY_NO_FINITE_INSTANCE a type's number */
     uint64_t value;    /* accepted: the number of types, edges or elements, or the number of bytes written */
     uint64_t filler;   /* accepted by lafindry_carry: the number of the image's filler elements */
+};
+
+/*
+ * Why an embedding is refused with LAFINDRY_PATH_CLASH, by value. The first five numbers are those of the answer that
+ * lafindry_judge_embedding gives. The others name two members of a source type, in the order of the table, and compare
+ * their paths; they are 0 where the embedding is accepted or refused for something else.
+ */
+struct lafindry_explanation {
+    uint64_t refusal;     /* as in an answer: LAFINDRY_PATH_CLASH where there is something to explain */
+    uint64_t document;    /* as in an answer */
+    uint64_t mark;        /* as in an answer: of a clash, the offset of the later member's path */
+    uint64_t value;       /* as in an answer: accepted, the number of edges */
+    uint64_t filler;      /* as in an answer: 0 */
+    uint64_t reason;      /* LAFINDRY_NO_CLASH, or why the paths clash: one of the reasons below */
+    uint64_t source_type; /* the source type, counted from 0 */
+    uint64_t earlier;     /* the first of its members, counted from 1, whose path the later one's clashes with */
+    uint64_t later;       /* the member whose path is marked, counted from 1 */
+    uint64_t shared;      /* the number of steps with which both paths begin */
+};
+
+/* Reasons for a clash. Of two paths that clash exactly one holds. */
+enum {
+    LAFINDRY_NO_CLASH = 0,            /* nothing to explain */
+    LAFINDRY_EQUAL_PATHS = 1,         /* the paths are equal */
+    LAFINDRY_EARLIER_BEGINS = 2,      /* the earlier path is a shorter beginning of the later one */
+    LAFINDRY_LATER_BEGINS = 3,        /* the later path is a shorter beginning of the earlier one */
+    LAFINDRY_PARTS_AT_SEQUENCE = 4    /* the first step where the paths differ leaves a sequence; for choices only */
 };
 
 /* Refusals, by paper 01's numbers. For one document they are tried in this order; LAFINDRY_NO_IMAGE is tried before
@@ -78,6 +105,11 @@ struct lafindry_answer lafindry_judge_table(const uint8_t *table, size_t table_l
 struct lafindry_answer lafindry_judge_embedding(const uint8_t *source_table, size_t source_table_length,
                                                 const uint8_t *target_table, size_t target_table_length,
                                                 const uint8_t *embedding, size_t embedding_length);
+
+/* Judges an embedding as lafindry_judge_embedding does, and explains its answer where two paths clash. */
+struct lafindry_explanation lafindry_explain_clash(const uint8_t *source_table, size_t source_table_length,
+                                                   const uint8_t *target_table, size_t target_table_length,
+                                                   const uint8_t *embedding, size_t embedding_length);
 
 /* Judges a tree document by a table, after the table; `value` is its number of elements. */
 struct lafindry_answer lafindry_judge_tree(const uint8_t *table, size_t table_length,

@@ -1,12 +1,19 @@
-// An answer as five numbers, as paper 01 numbers refusals, documents and marks.
+// An answer as five numbers, as paper 01 numbers refusals, documents and marks, and an explanation as ten.
 ghost use mathlib.Core.Path.{_≡_};
 ghost use Rattle.model.specs.Definitions.Entries.{answerOf};
 ghost use Rattle.model.specs.Definitions.Entries as model;
-ghost use Rattle.answers.specs.Answers.{carriedResult, broughtResult};
-ghost use Rattle.answer_numbers.specs.Numbers.{numbers, refusalNumbers, ForFault};
+ghost use Rattle.model.specs.Definitions.Explanation as explanations;
+ghost use Rattle.model.specs.Definitions.Explanation.{reasonNumber, explanationNumbers};
+ghost use Rattle.answers.specs.Answers.{carriedResult, broughtResult, reason, clash};
+ghost use Rattle.answer_numbers.specs.Numbers.{numbers, refusalNumbers, ForFault, judgingNumbers, tenNumbers, unexplainedNumbers, explanationIn};
 use answers::Brought;
 use answers::Carried;
+use answers::Clash;
+use answers::Explanation;
 use answers::Fault;
+use answers::Judging;
+use answers::Reason;
+use codes::EMBEDDING;
 use codes::OUTPUT;
 use codes::TREE;
 
@@ -85,5 +92,89 @@ pub fn brought(b: Brought) -> Answer
         Brought::NoImage => refusing(codes::NO_IMAGE, TREE, 0),
         Brought::NoRoom => refusing(codes::OUTPUT_TOO_SHORT, OUTPUT, 0),
         Brought::Written(length) => accepting(length as u64, 0),
+    }
+}
+
+// An explanation as ten numbers: the judging answer's five, and five that are 0 where nothing is explained.
+#[repr(C)]
+pub struct ExplanationNumbers {
+    pub refusal: u64,
+    pub document: u64,
+    pub mark: u64,
+    pub value: u64,
+    pub filler: u64,
+    pub reason: u64,
+    pub source: u64,
+    pub earlier: u64,
+    pub later: u64,
+    pub shared: u64,
+}
+
+// The number of a reason.
+fn reason_number(why: Reason) -> u64
+    ensures { λ r. ⌜ r ≡ reasonNumber (reason why) ⌝ }
+{
+    match why {
+        Reason::EqualPaths => codes::EQUAL_PATHS,
+        Reason::EarlierBegins => codes::EARLIER_BEGINS,
+        Reason::LaterBegins => codes::LATER_BEGINS,
+        Reason::PartAtSequence => codes::PART_AT_SEQUENCE,
+    }
+}
+
+// The answer for each outcome of judging.
+pub fn judged(j: Judging) -> Answer
+    ensures { λ r. ⌜ numbers r ≡ judgingNumbers j ⌝ }
+{
+    match j {
+        Judging::Accepted(count) => accepting(count as u64, 0),
+        Judging::Refused(f, document) => faulting(f, document),
+    }
+}
+
+// The numbers of an explanation.
+pub fn explained(e: Explanation) -> ExplanationNumbers
+    ensures { λ r. ⌜ tenNumbers r ≡ explanationIn e ⌝ }
+{
+    match e {
+        Explanation::Explained(clash) => clashing(clash),
+        Explanation::Unexplained(answer) => unexplained(judged(answer)),
+    }
+}
+
+// The numbers of a clash.
+fn clashing(c: Clash) -> ExplanationNumbers
+    ensures { λ r. ⌜ tenNumbers r ≡ explanationNumbers (explanations.explained (clash c)) ⌝ }
+{
+    let why = c.reason;
+    ExplanationNumbers {
+        refusal: codes::PATH_CLASH,
+        document: EMBEDDING,
+        mark: c.mark as u64,
+        value: 0,
+        filler: 0,
+        reason: reason_number(why),
+        source: c.source as u64,
+        earlier: c.earlier as u64,
+        later: c.later as u64,
+        shared: c.shared as u64,
+    }
+}
+
+// The numbers where nothing is explained.
+fn unexplained(answer: Answer) -> ExplanationNumbers
+    ensures { λ r. ⌜ tenNumbers r ≡ unexplainedNumbers (numbers answer) ⌝ }
+{
+    ExplanationNumbers {
+        refusal: answer.refusal,
+        document: answer.document,
+        mark: answer.mark,
+        value: answer.value,
+        filler: answer.filler,
+        reason: 0,
+        source: 0,
+        earlier: 0,
+        later: 0,
+        shared: 0,
     }
 }

@@ -9,9 +9,22 @@ use Rattle.answers.specs.declared.Carried.{Carried}
 use Rattle.answers.specs.declared.Carried.the-variants as carried
 use Rattle.answers.specs.declared.Brought.{Brought}
 use Rattle.answers.specs.declared.Brought.the-variants as brought
+use Rattle.answers.specs.declared.Reason.{Reason}
+use Rattle.answers.specs.declared.Reason.the-variants.{EqualPaths, EarlierBegins, LaterBegins, PartAtSequence}
+use Rattle.answers.specs.declared.Clash.{Clash}
+use Rattle.answers.specs.declared.Search.{Search}
+use Rattle.answers.specs.declared.Search.the-variants as found
+use Rattle.answers.specs.declared.Judging.{Judging}
+use Rattle.answers.specs.declared.Judging.the-variants as judging
+use Rattle.answers.specs.declared.Explanation.{Explanation}
+use Rattle.answers.specs.declared.Explanation.the-variants as explaining
+use mathlib.Core.Path.{_≡_}
+use mathlib.Core.Option.{Option, none, some}
 use Rattle.model.specs.Definitions.Basics
 use Rattle.model.specs.Definitions.Refusals
+use Rattle.model.specs.Definitions.EmbeddingChecks
 use Rattle.model.specs.Definitions.Entries
+use Rattle.model.specs.Definitions.Explanation as explanations
 
 abbrev pub verdict : Verdict → Basics.Verdict
 verdict Passes = Basics.passes
@@ -45,3 +58,28 @@ abbrev pub broughtResult : Brought → Entries.Result
 broughtResult brought.NoImage = Entries.refused Refusals.no-image
 broughtResult brought.NoRoom = Entries.refused Refusals.output-too-short
 broughtResult (brought.Written length) = Entries.accepted length 0
+
+-- ---- clashes explained (02, N9)
+
+abbrev pub reason : Reason → EmbeddingChecks.Reason
+reason EqualPaths = EmbeddingChecks.equal-paths
+reason EarlierBegins = EmbeddingChecks.earlier-begins
+reason LaterBegins = EmbeddingChecks.later-begins
+reason PartAtSequence = EmbeddingChecks.part-at-sequence
+
+abbrev pub clash : Clash → explanations.Clash
+clash c = record { source-type = c .source; earlier = c .earlier; later = c .later; shared = c .shared; reason = reason (c .reason); mark = c .mark }
+
+abbrev pub search : Search → Option explanations.Clash
+search found.Nothing = none
+search (found.Found c) = some (clash c)
+
+-- The model's answer for each outcome of judging; a document is named by its number.
+abbrev pub Answered : Judging → Entries.Result → Type 0
+Answered (judging.Accepted count) r = r ≡ Entries.accepted count 0
+Answered (judging.Refused f n) r = (d : Refusals.Document) × (Refusals.documentNumber d ≡ n) × (r ≡ Entries.refused (Refusals.faulty d (fault f)))
+
+-- the model's explanation
+abbrev pub ExplainedAs : Explanation → explanations.Explanation → Type 0
+ExplainedAs (explaining.Explained c) x = x ≡ explanations.explained (clash c)
+ExplainedAs (explaining.Unexplained answer) x = (r : Entries.Result) × Answered answer r × (x ≡ explanations.unexplained r)

@@ -44,3 +44,42 @@ pub enum Brought {
     NoRoom,
     Written(usize),
 }
+
+// Why the paths of two members of a source type clash, an earlier and a later one: they are equal; the earlier is a shorter beginning of
+// the later; the later is one of the earlier; they part at a sequence.
+pub enum Reason {
+    EqualPaths,
+    EarlierBegins,
+    LaterBegins,
+    PartAtSequence,
+}
+
+// Two members whose paths clash: their source type; both counted from 1; how many steps the paths share; why they clash; and the offset
+// of the later path's 21.
+pub struct Clash {
+    pub source: usize,
+    pub earlier: usize,
+    pub later: usize,
+    pub shared: usize,
+    pub reason: Reason,
+    pub mark: usize,
+}
+
+// What a search for paths that clash finds.
+pub enum Search {
+    Nothing,
+    Found(Clash),
+}
+
+// What judging answers: a document is accepted, with a number of types, edges or elements; or the first that is refused has a fault, and a
+// number.
+pub enum Judging {
+    Accepted(usize),
+    Refused(Fault, u64),
+}
+
+// Why an embedding is refused for a clash; or there is none to explain, with the judging answer inside.
+pub enum Explanation {
+    Explained(Clash),
+    Unexplained(Judging),
+}

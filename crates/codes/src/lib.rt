@@ -1,4 +1,4 @@
-// Paper 01's numbers by name: the limits, and the commands of the three kinds of document.
+// Paper 01's numbers by name, the limits, commands, documents and refusals, and those of paper 02's reasons (N9).
 
 // No document is longer, in bytes.
 pub const MAX_BYTES: usize = 60000;
@@ -97,3 +97,12 @@ pub const ELEMENT_BYTES: usize = 3;
 
 // The bytes of a tree document without what its root holds: those of the root, and the end.
 pub const ROOT_BYTES: usize = 4;
+
+// Reasons for which two paths clash.
+pub const EQUAL_PATHS: u64 = 1;
+
+pub const EARLIER_BEGINS: u64 = 2;
+
+pub const LATER_BEGINS: u64 = 3;
+
+pub const PART_AT_SEQUENCE: u64 = 4;

@@ -3,21 +3,20 @@ use mathlib.Core.Path.{_≡_, refl, sym, ap, _∙_}
 use mathlib.Core.Bool.{Bool, true, false, not, _&&_}
 use mathlib.Core.List.{List, [], _∷_, map}
 use Prim.Native.Nat.{ℕ, zero, suc, _+_, _-_, _≤_, _<_}
-use native.Mathlib.Nat.{sub-zero}
-use native.Mathlib.Numerals.{add-one}
 use native.Mathlib.Omega.{arith}
 use lib.ListN.{length, getD}
 use lib.Dec.{eqb}
 use Rattle.model.specs.Definitions.Basics.{Verdict, passes, fails, pick, orElse, some-of}
 use Rattle.model.specs.Definitions.Table.{Kind, text, empty, sequence, choice, list, Table, kindOf, edgesOf}
-use Rattle.model.specs.Definitions.Embedding.{Edge, TypeMap, Embedding, noMap, targetOf, endOf, leaves, firstPath}
+use Rattle.model.specs.Definitions.Embedding.{Edge, TypeMap, Embedding, noMap, targetOf, endOf, leaves, firstPath, noEdge, edgeOf}
 use Rattle.model.specs.Definitions.EmbeddingChecks.{eachType, firstEdge, endsAt, endsAtText, endsOf, rightSteps, agrees, stepsOf, firstClash, clashesOf, clash, wrongEnd, wrongSteps, pathClash}
 use Rattle.model.specs.Theorems.Tools.{pick-true, pick-false, and-left, and-right}
 use Rattle.loaded_table.specs.Loaded.{tableBy, length-of}
 use Rattle.loaded_embedding.specs.Loaded.{targetsOf, startsOf, lengthsOf, embeddingBy}
 use Rattle.embedding_clash.specs.Ready.{Checkable}
 use Rattle.embedding_clash.proofs.Arrays.{in-length, type-at}
-use Rattle.embedding_clash.specs.Edges.{noEdge, edgeOf, passed, clashesBelow, clashesAt}
+use Rattle.embedding_clash.proofs.Turns.{turns-start, turn-passes, turn-decides, turns-end}
+use Rattle.embedding_clash.specs.Edges.{passed, clashesBelow, clashesAt}
 use Rattle.embedding_checks.specs.declared.Check.{Check}
 use Rattle.embedding_checks.specs.declared.Check.the-variants.{Ends, Steps, Clashes, All}
 use Rattle.embedding_ends.specs.Ends.{endRight}
@@ -25,35 +24,26 @@ use Rattle.embedding_checks.specs.Tests.{eachFrom, stepsRight, edgeRight
 
 -- ---- a loop over checks i to n
 
-left-over : (n i : ℕ) → i < n → n - i ≡ suc (n - (i + 1))
-left-over n i h = omega arith
+module _ (check : ℕ → Verdict) where
+  -- a check that passes leaves the verdict to those behind it
+  pub each-passes : (i n : ℕ) → i < n → check i ≡ passes → eachFrom check (i + 1) (n - (i + 1)) ≡ eachFrom check i (n - i)
+  unfolding eachFrom orElse
+  each-passes = turn-passes orElse passes eachFrom (λ at i. refl) (λ at i k. refl) check (λ v. refl)
 
-none-left : (n i : ℕ) → n ≤ i → n - i ≡ 0
-none-left n i h = omega arith
+  -- one that fails is the verdict
+  pub each-fails : (i n at : ℕ) → i < n → check i ≡ fails at → eachFrom check i (n - i) ≡ fails at
+  unfolding eachFrom orElse
+  each-fails i n at = turn-decides orElse passes eachFrom (λ at i. refl) (λ at i k. refl) check i n (λ v. refl)
 
-each-next : (check : ℕ → Verdict) (i n : ℕ) → i < n → eachFrom check i (n - i) ≡ orElse (check i) (eachFrom check (i + 1) (n - (i + 1)))
-unfolding eachFrom
-each-next check i n h =
-    ap (eachFrom check i) (left-over n i h) ∙ ap (λ (k : ℕ). orElse (check i) (eachFrom check k (n - (i + 1)))) (sym (add-one i))
+  -- and after the last all have passed
+  pub each-ends : (i n : ℕ) → n ≤ i → eachFrom check i (n - i) ≡ passes
+  unfolding eachFrom
+  each-ends = turns-end orElse passes eachFrom (λ at i. refl) (λ at i k. refl) check
 
--- a check that passes leaves the verdict to those behind it
-pub each-passes : (check : ℕ → Verdict) (i n : ℕ) → i < n → check i ≡ passes → eachFrom check (i + 1) (n - (i + 1)) ≡ eachFrom check i (n - i)
-unfolding orElse
-each-passes check i n h e = sym (each-next check i n h ∙ ap (λ (v : Verdict). orElse v (eachFrom check (i + 1) (n - (i + 1)))) e)
-
--- one that fails is the verdict
-pub each-fails : (check : ℕ → Verdict) (i n at : ℕ) → i < n → check i ≡ fails at → eachFrom check i (n - i) ≡ fails at
-unfolding orElse
-each-fails check i n at h e = each-next check i n h ∙ ap (λ (v : Verdict). orElse v (eachFrom check (i + 1) (n - (i + 1)))) e
-
--- and after the last all have passed
-pub each-ends : (check : ℕ → Verdict) (i n : ℕ) → n ≤ i → eachFrom check i (n - i) ≡ passes
-unfolding eachFrom
-each-ends check i n h = ap (eachFrom check i) (none-left n i h)
-
--- at the start all are left
-pub each-starts : (check : ℕ → Verdict) {n m : ℕ} → n ≡ m → eachFrom check 0 (n - 0) ≡ eachFrom check 0 m
-each-starts check {n} {m} e = ap (eachFrom check 0) (sub-zero n ∙ e)
+  -- at the start all are left
+  pub each-starts : {n m : ℕ} → n ≡ m → eachFrom check 0 (n - 0) ≡ eachFrom check 0 m
+  unfolding eachFrom
+  each-starts = turns-start orElse passes eachFrom (λ at i. refl) (λ at i k. refl) check
 
 -- the verdict of one edge, by its test
 pub right-passes : {b : Bool} (at : ℕ) → b ≡ true → pick b passes (fails at) ≡ passes

@@ -8,11 +8,12 @@ use native.Mathlib.Omega.{arith}
 use lib.ListN.{getD}
 use borrow.Author.Tests.{not-true, not-false}
 use Rattle.model.specs.Definitions.Basics.{Verdict, passes, fails}
+use Rattle.model.specs.Definitions.Embedding.{edgeOf}
 use Rattle.model.specs.Definitions.Table.{kindOf, edgesOf}
 use Rattle.loaded_table.specs.Loaded.{tableBy, typesIn, length-of}
 use Rattle.loaded_embedding.specs.Loaded.{targetsOf, startsOf, lengthsOf, embeddingBy}
 use Rattle.embedding_clash.specs.Ready.{mapOf}
-use Rattle.embedding_clash.specs.Edges.{edgeOf, clashesAt}
+use Rattle.embedding_clash.specs.Edges.{clashesAt}
 use Rattle.embedding_clash.proofs.Arrays.{TypeAt, EdgeAt, in-length}
 use Rattle.embedding_checks.specs.declared.Check.{Check}
 use Rattle.embedding_checks.specs.declared.Check.the-variants.{Ends, Steps, All}

@@ -6,9 +6,8 @@ use Prim.Native.Nat.{ℕ}
 use lib.ListN.{getD}
 use borrow.Author.Tests.{not-true, not-false}
 use Rattle.model.specs.Definitions.Table.{Kind, Table, isOptional}
-use Rattle.model.specs.Definitions.Embedding.{Edge, TypeMap, leaves, firstPath, beforeChoice, sameSteps}
+use Rattle.model.specs.Definitions.Embedding.{Edge, TypeMap, leaves, firstPath, beforeChoice, sameSteps, noEdge, edgeOf}
 use Rattle.model.specs.Definitions.EmbeddingChecks.{rightSteps, agrees}
-use Rattle.embedding_clash.specs.Edges.{noEdge, edgeOf}
 use Rattle.embedding_checks.specs.Tests.{stepsRight}
 
 -- the type's first path is its first edge's

@@ -4,9 +4,9 @@ use mathlib.Core.List.{map}
 use Prim.Native.Nat.{ℕ, zero, suc}
 use Rattle.model.specs.Definitions.Basics.{Verdict, passes, fails, pick, orElse}
 use Rattle.model.specs.Definitions.Table.{Kind, Table, edgesOf}
-use Rattle.model.specs.Definitions.Embedding.{Edge, TypeMap, Embedding, leaves, firstPath}
+use Rattle.model.specs.Definitions.Embedding.{Edge, TypeMap, Embedding, leaves, firstPath, edgeOf}
 use Rattle.model.specs.Definitions.EmbeddingChecks.{eachType, rightSteps, agrees, endsOf, stepsOf, clashesOf, wrongEnd, wrongSteps, pathClash}
-use Rattle.embedding_clash.specs.Edges.{edgeOf, clashesAt}
+use Rattle.embedding_clash.specs.Edges.{clashesAt}
 use Rattle.embedding_ends.specs.Ends.{endRight}
 use Rattle.embedding_checks.specs.declared.Check.{Check}
 use Rattle.embedding_checks.specs.declared.Check.the-variants.{Ends, Steps, Clashes, All}

@@ -6,13 +6,12 @@ use native.Mathlib.Nat.{add-zero, add-suc, suc-add, zero-add}
 use native.Mathlib.Omega.{arith}
 use lib.ListN.{length, getD}
 use Rattle.model.specs.Definitions.Table.{Kind, Table, kindOf, edgesOf}
-use Rattle.model.specs.Definitions.Embedding.{Edge, TypeMap, noMap, targetOf}
+use Rattle.model.specs.Definitions.Embedding.{Edge, TypeMap, noMap, targetOf, noEdge, edgeOf}
 use Rattle.model.specs.Theorems.Facts.{Walks, All, all-none, all-more}
 use Rattle.loaded_table.specs.Loaded.{tableBy, typesIn, kindsOf, countsOf, membersIn, kindIn, length-of, kind-of}
 use Rattle.loaded_embedding.specs.Loaded.{targetsOf, startsOf, lengthsOf, stepsFrom, edgeIn, edgesFrom, mapsFrom, embeddingIn}
 use Rattle.embedding_clash.specs.Paths.{pathOf, Walkable}
 use Rattle.embedding_clash.specs.Ready.{mapOf, Checkable}
-use Rattle.embedding_clash.specs.Edges.{noEdge, edgeOf}
 use Rattle.loaded_table.specs.Kinds.{few-edges}
 use Rattle.embedding_clash.proofs.Following.{path-steps}
 

@@ -1,4 +1,5 @@
 pub mod Following
 pub mod Arrays
 pub mod ClashLaws
-pub mod Before
+pub mod Turns
+pub mod Searching

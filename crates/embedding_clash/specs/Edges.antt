@@ -2,18 +2,10 @@
 use mathlib.Core.Bool.{Bool}
 use mathlib.Core.List.{List, [], _∷_}
 use Prim.Native.Nat.{ℕ, zero, suc}
-use lib.ListN.{getD}
 use Rattle.model.specs.Definitions.Basics.{some-of}
 use Rattle.model.specs.Definitions.Table.{Kind, Table}
-use Rattle.model.specs.Definitions.Embedding.{Edge, TypeMap}
+use Rattle.model.specs.Definitions.Embedding.{Edge, TypeMap, edgeOf}
 use Rattle.model.specs.Definitions.EmbeddingChecks.{clash}
-
-unfoldable pub noEdge : Edge
-noEdge = record { at = 0; steps = [] }
-
--- edge i of a source type
-unfoldable pub edgeOf : TypeMap → ℕ → Edge
-edgeOf f i = getD (f .edges) i noEdge
 
 -- the first i of a list of edges, the last of them first, before others
 unfoldable pub passed : ℕ → List Edge → List Edge → List Edge

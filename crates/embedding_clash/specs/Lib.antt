@@ -1,3 +1,4 @@
 pub mod Paths
 pub mod Ready
 pub mod Edges
+pub mod Comparing

@@ -8,14 +8,13 @@ use lib.Seq.{getD-take, getD-drop}
 use lib.Dec.{eqb}
 use Rattle.model.specs.Definitions.Commands.{needed, optional}
 use Rattle.model.specs.Definitions.Table.{Kind, sequence, choice, Table, kindOf, membersOf, stepFrom, edgesOf, isText}
-use Rattle.model.specs.Definitions.Embedding.{TypeMap, Embedding, targetOf, next, endOf}
+use Rattle.model.specs.Definitions.Embedding.{TypeMap, Embedding, targetOf, next, endOf, edgeOf}
 use Rattle.model.specs.Theorems.Facts.{WellFormed, Walks, arrived, onward}
 use Rattle.model.specs.Theorems.Tools.{entry-member}
 use Rattle.loaded_table.specs.Kinds.{text-code}
 use Rattle.loaded_table.specs.Loaded.{kindFrom, kindIn, tableBy, typesIn, kindsOf, countsOf, membersIn, length-of, kind-of}
 use Rattle.loaded_embedding.specs.Loaded.{targetsOf, edgeIn, embeddingBy}
 use Rattle.embedding_clash.specs.Ready.{mapOf, Checkable}
-use Rattle.embedding_clash.specs.Edges.{edgeOf}
 use Rattle.embedding_ends.specs.Ends.{endRight}
 use Rattle.embedding_clash.proofs.Arrays.{type-at, edge-at}
 

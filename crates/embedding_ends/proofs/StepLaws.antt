@@ -10,7 +10,7 @@ use lib.Dec.{ltb}
 use borrow.Author.Tests.{lt-ltb, le-ltb}
 use Rattle.model.specs.Definitions.Basics.{pick, some-of}
 use Rattle.model.specs.Definitions.Table.{Kind, text, empty, sequence, choice, list, Table, kindOf, stepFrom, edgesOf, isSequence, isChoice, isOptional, isList}
-use Rattle.model.specs.Definitions.Embedding.{next, leaves}
+use Rattle.model.specs.Definitions.Embedding.{next, leaves, edgeOf}
 use Rattle.loaded_embedding.specs.Loaded.{targetsOf, startsOf, lengthsOf, stepsFrom, edgeIn}
 use Rattle.model.specs.Definitions.EmbeddingChecks.{rightSteps, leavesOnly, sequenceOrList, optionalFirst}
 use Rattle.model.specs.Theorems.Facts.{Walks, arrived, onward}
@@ -19,7 +19,6 @@ use Rattle.loaded_table.specs.Loaded.{kindFrom, kindIn, tableBy, typesIn, kinds
 use Rattle.embedding_ends.specs.declared.steps.Left.{Left}
 use Rattle.embedding_clash.specs.Paths.{pathOf}
 use Rattle.embedding_clash.specs.Ready.{mapOf, Checkable}
-use Rattle.embedding_clash.specs.Edges.{edgeOf}
 use Rattle.embedding_clash.proofs.Arrays.{type-at, edge-at}
 use Rattle.embedding_ends.specs.Kinds.{withKind, rightBy, LeftAll}
 use Rattle.embedding_clash.proofs.Following.{steps-length, path-steps, StepAt, goes-on, none-from-text, none-from}

@@ -5,8 +5,7 @@ use Prim.Native.Nat.{ℕ}
 use lib.ListN.{getD}
 use lib.Dec.{eqb}
 use Rattle.model.specs.Definitions.Table.{Kind, text, empty, sequence, choice, list, Table, kindOf, isText}
-use Rattle.model.specs.Definitions.Embedding.{TypeMap, Embedding, targetOf, endOf}
-use Rattle.embedding_clash.specs.Edges.{edgeOf}
+use Rattle.model.specs.Definitions.Embedding.{TypeMap, Embedding, targetOf, endOf, edgeOf}
 
 -- check 8 for edge i of a source type of a kind: a character path ends at a text type, any other at what the member is mapped to
 unfoldable pub endRight : Embedding → Table → Kind → TypeMap → ℕ → Bool

@@ -7,8 +7,7 @@ ghost use Prim.Native.Nat.{_<_};
 ghost use Rattle.loaded_table.specs.Loaded.{tableBy, typesIn};
 ghost use Rattle.loaded_embedding.specs.Loaded.{embeddingBy};
 ghost use Rattle.model.specs.Definitions.Table.{kindOf, edgesOf};
-ghost use Rattle.model.specs.Definitions.Embedding.{endOf};
-ghost use Rattle.embedding_clash.specs.Edges.{edgeOf};
+ghost use Rattle.model.specs.Definitions.Embedding.{edgeOf, endOf};
 ghost use Rattle.embedding_clash.specs.Ready.{mapOf, Checkable};
 ghost use Rattle.embedding_ends.specs.Ends.{endRight};
 

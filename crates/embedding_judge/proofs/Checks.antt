@@ -2,11 +2,12 @@
 use mathlib.Core.Path.{_≡_, refl, sym, ap, _∙_, subst}
 use mathlib.Core.Bool.{true, false}
 use mathlib.Core.List.{List}
+use mathlib.Core.Logic.{inl, inr}
 use Prim.Native.Nat.{ℕ, _≤_, _<_}
 use native.Mathlib.Omega.{arith}
 use lib.ListN.{length, getD}
 use borrow.Author.Tests.{le-leb, lt-leb}
-use Rattle.embedding_judge.specs.Judging.{edgeChecks, pathChecks, Judgeable, EmbeddingJudged}
+use Rattle.embedding_judge.specs.Judging.{edgeChecks, pathChecks, Judgeable, UpToClashes, EmbeddingJudged}
 use Rattle.answers.specs.Answers.{verdict, fault, judged}
 use Rattle.answers.specs.declared.Verdict.{Verdict}
 use Rattle.answers.specs.declared.Fault.{Fault}
@@ -21,14 +22,18 @@ use Rattle.model.specs.Definitions.Table.{Table}
 use Rattle.model.specs.Definitions.Embedding.{Edge, Embedding, noMap, targetOf, embeddingOf}
 use Rattle.model.specs.Definitions.EmbeddingChecks.{embeddingForm, embeddingLimits, embeddingOperands, rootToRoot, wrongEnd, wrongSteps, pathClash}
 use Rattle.model.specs.Definitions.Refusals as refusals
-use Rattle.model.specs.Definitions.Refusals.{sound, has, faultAt, faultUnless, fits}
+use Rattle.model.specs.Definitions.Refusals.{has, faultAt, faultUnless, fits}
 use Rattle.model.specs.Definitions.Entries.{judgedEmbedding}
 use Rattle.model.specs.Theorems.Facts.{All, Walks}
 use Rattle.model.specs.Theorems.JudgedEmbeddings.{paths-walk}
 
--- a fault is no acceptance
-has-sound : {X : Type 0} {f : refusals.Fault} {j : refusals.Judged} → j ≡ has f → j ≡ sound → X
-has-sound {f = f} {j} p q = let z : _≡_ {A = ℕ} 0 1 = cc in absurd (omega arith)
+-- a fault is no acceptance, and another than a clash is no clash
+other-fault : {X : Type 0} (f : refusals.Fault) {j : refusals.Judged} → ((at : ℕ) → f ≡ refusals.path-clash at → ⊥) → j ≡ has f → UpToClashes j → X
+other-fault f {j} other p (inl q) = let z : _≡_ {A = ℕ} 0 1 = cc in absurd (omega arith)
+other-fault f {j} other p (inr q) = absurd (other (q .0) (same-fault (sym p ∙ q .1)))
+  where
+    same-fault : {g h : refusals.Fault} → has g ≡ has h → g ≡ h
+    same-fault {g} {h} e = cc
 
 -- the model's verdict, where the code's is known
 pub verdict-is : (v : Verdict) {w m : model.Verdict} → verdict v ≡ w → (x : Verdict) → v ≡ x → verdict x ≡ m → w ≡ m
@@ -65,32 +70,32 @@ module _ (S T : Table) (E : Embedding) where
 -- ---- all checks
 
 module _ (S T : Table) (bs map : List ℕ) where
-  refused : (f : Fault) → judgedEmbedding S T bs ≡ has (fault f) → EmbeddingJudged S T bs (Judged.Has f) map
-  refused f g = record { judgement = sym g; loaded = λ accepted. has-sound g accepted }
+  refused : (f : Fault) → ((at : ℕ) → fault f ≡ refusals.path-clash at → ⊥) → judgedEmbedding S T bs ≡ has (fault f) → EmbeddingJudged S T bs (Judged.Has f) map
+  refused f other g = record { judgement = sym g; loaded = other-fault (fault f) other g }
 
   pub length-refused : 60000 < length bs → EmbeddingJudged S T bs (Judged.Has Fault.TooLong) map
   unfolding judgedEmbedding faultUnless fits
-  length-refused long = refused Fault.TooLong (rw (lt-leb (length bs) 60000 long) refl)
+  length-refused long = refused Fault.TooLong (λ at e. let z : _≡_ {A = ℕ} 0 1 = cc in absurd (omega arith)) (rw (lt-leb (length bs) 60000 long) refl)
 
   module _ (short : length bs ≤ 60000) where
     pub form-refused : (at : ℕ) → embeddingForm S bs ≡ fails at → EmbeddingJudged S T bs (Judged.Has (Fault.BadForm at)) map
     unfolding judgedEmbedding faultUnless faultAt fits
-    form-refused at e = refused (Fault.BadForm at) (rw (le-leb (length bs) 60000 short, e) refl)
+    form-refused at e = refused (Fault.BadForm at) (λ m e. let z : _≡_ {A = ℕ} 0 1 = cc in absurd (omega arith)) (rw (le-leb (length bs) 60000 short, e) refl)
 
     module _ (f : embeddingForm S bs ≡ passes) where
       pub limit-refused : (at : ℕ) → embeddingLimits bs ≡ fails at → EmbeddingJudged S T bs (Judged.Has (Fault.OverLimit at)) map
       unfolding judgedEmbedding faultUnless faultAt fits
-      limit-refused at e = refused (Fault.OverLimit at) (rw (le-leb (length bs) 60000 short, f, e) refl)
+      limit-refused at e = refused (Fault.OverLimit at) (λ m e. let z : _≡_ {A = ℕ} 0 1 = cc in absurd (omega arith)) (rw (le-leb (length bs) 60000 short, f, e) refl)
 
       module _ (l : embeddingLimits bs ≡ passes) where
         pub operand-refused : (at : ℕ) → embeddingOperands T bs ≡ fails at → EmbeddingJudged S T bs (Judged.Has (Fault.BadOperand at)) map
         unfolding judgedEmbedding faultUnless faultAt fits
-        operand-refused at e = refused (Fault.BadOperand at) (rw (le-leb (length bs) 60000 short, f, l, e) refl)
+        operand-refused at e = refused (Fault.BadOperand at) (λ m e. let z : _≡_ {A = ℕ} 0 1 = cc in absurd (omega arith)) (rw (le-leb (length bs) 60000 short, f, l, e) refl)
 
         -- after the first four checks those of the paths decide
         pub paths-decide : (r : Judged) → embeddingOperands T bs ≡ passes → EmbeddingLoaded bs S map → judged r ≡ pathChecks S T (embeddingBy bs S map) → EmbeddingJudged S T bs r map
         paths-decide r o loaded e =
-            record { judgement = e ∙ ap (pathChecks S T) (loaded .same-embedding) ∙ sym same; loaded = λ accepted. loaded }
+            record { judgement = e ∙ ap (pathChecks S T) (loaded .same-embedding) ∙ sym same; loaded = λ reached. loaded }
           where
             same : judgedEmbedding S T bs ≡ pathChecks S T (embeddingOf bs)
             same = unfold judgedEmbedding pathChecks edgeChecks faultUnless faultAt fits in rw (le-leb (length bs) 60000 short, f, l, o) refl

@@ -1,6 +1,7 @@
 -- What judging an embedding answers.
 use mathlib.Core.Path.{_≡_}
 use mathlib.Core.List.{List}
+use mathlib.Core.Logic.{_⊎_}
 use Prim.Native.Nat.{ℕ}
 use Rattle.answers.specs.Answers.{judged}
 use Rattle.answers.specs.declared.Judged as answers
@@ -10,7 +11,7 @@ use Rattle.embedding_load.specs.Loading.{EmbeddingLoaded}
 use Rattle.model.specs.Definitions.Table.{Table}
 use Rattle.model.specs.Definitions.Embedding.{Embedding}
 use Rattle.model.specs.Definitions.EmbeddingChecks.{rootToRoot, wrongEnd, wrongSteps, pathClash}
-use Rattle.model.specs.Definitions.Refusals.{Judged, sound, root-moved, wrong-end, wrong-steps, path-clash, faultAt, faultUnless}
+use Rattle.model.specs.Definitions.Refusals.{Judged, sound, has, root-moved, wrong-end, wrong-steps, path-clash, faultAt, faultUnless}
 use Rattle.model.specs.Definitions.Entries.{judgedEmbedding}
 use Rattle.model.specs.Theorems.Facts.{SoundTable}
 
@@ -35,7 +36,11 @@ pub record Judgeable (source target : List ℕ) : Type 0 where
   pub source-sound : SoundTable (tableBy source)
   pub target-sound : SoundTable (tableBy target)
 
--- the model's judgement, and where it accepts, the embedding loaded into the array
+-- accepted, or refused for a clash, which is the last check: by then an embedding is loaded
+abbrev pub UpToClashes : Judged → Type 0
+UpToClashes j = (j ≡ sound) ⊎ ((at : ℕ) × (j ≡ has (path-clash at)))
+
+-- the model's judgement, and where it accepts or finds a clash, the embedding loaded into the array
 pub record EmbeddingJudged (S T : Table) (bs : List ℕ) (r : answers.Judged) (map : List ℕ) : Type 0 where
   pub judgement : judged r ≡ judgedEmbedding S T bs
-  pub loaded : judgedEmbedding S T bs ≡ sound → EmbeddingLoaded bs S map
+  pub loaded : UpToClashes (judgedEmbedding S T bs) → EmbeddingLoaded bs S map

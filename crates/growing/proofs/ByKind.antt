@@ -79,7 +79,7 @@ module _ {target : List ℕ} (bounded : Bounded target) (wf : WellFormed (tableB
   -- an entry of the members exists, and stands at its place
   entry-here : (p m : ℕ) → entry p (take count row) ≡ some m → (1 ≤ p) × (p ≤ count) × (memberAt target t p ≡ m)
   entry-here p m e =
-      let found = entry-at p (take count row) m e in
+      let found = entry-at 0 p (take count row) m e in
       let within : p ≤ count = omega (arith, found .1, length-take count row) in
       (found .0, within, sym (row-at p) ∙ sym (getD-take count row (p - 1) 0 (omega (arith, found .0))) ∙ found .2)
 

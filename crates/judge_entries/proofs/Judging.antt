@@ -9,15 +9,14 @@ use Rattle.judge_entries.specs.Judging.{treeResult, TreeAnswer}
 use Rattle.answers.specs.declared.Fault.{Fault}
 use Rattle.answers.specs.declared.Judged.{Judged}
 use Rattle.answers.specs.Answers.{judged, fault}
-use Rattle.setting_judge.specs.Judging.{Refusing, by-source, by-target, by-embedding, Standing}
 use Rattle.table_judge.specs.Judging.{TableJudged}
 use Rattle.tree_judge.specs.declared.judge.JudgedTree.{JudgedTree}
 use Rattle.tree_judge.specs.Judging.{TreeJudged}
 use Rattle.loaded_table.specs.Loaded as loaded_table
 use Rattle.loaded_table.specs.Loaded.{typesIn, Bounded, length-of}
 use Rattle.model.specs.Definitions.Table.{Table, tableOf}
-use Rattle.model.specs.Definitions.Refusals.{sound, has, source-table, target-table, embedding, tree, documentNumber}
-use Rattle.model.specs.Definitions.Entries.{answerOf, accepted, unlessFaulty, judgedTable, judgedTree, judgeTable, judgeTree, judgeEmbedding, edgeCount}
+use Rattle.model.specs.Definitions.Refusals.{sound, has, source-table, tree, documentNumber}
+use Rattle.model.specs.Definitions.Entries.{answerOf, accepted, unlessFaulty, judgedTable, judgedTree, judgeTable, judgeTree}
 
 -- ---- tables
 
@@ -71,19 +70,3 @@ module _ {S : Table} {bs : List ℕ} {r : JudgedTree} (h : TreeJudged S bs r) wh
   tree-counted a e answer =
       let found : judgedTree S bs ≡ sound = sym (h .same-judgement) ∙ ap judged e in
       record { same-answer = answer ∙ rw (found, h .counted found) refl }
-
--- ---- embeddings
-
--- one of the three documents is refused
-pub embedding-refused : (s t e : List ℕ) {f : Fault} {n : ℕ} (a : Answer) → Refusing s t e f n → ForFault f n a → numbers a ≡ answerOf (judgeEmbedding s t e)
-unfolding judgeEmbedding unlessFaulty documentNumber
-embedding-refused s t e {f} a (by-source h) answer = fault-answer source-table f a answer ∙ rw h refl
-embedding-refused s t e {f} a (by-target g h) answer = fault-answer target-table f a answer ∙ rw (g, h) refl
-embedding-refused s t e {f} a (by-embedding g h i) answer = fault-answer embedding f a answer ∙ rw (g, h, i) refl
-
--- none is: the number of edges of the source table
-pub embedding-counted : {s t e from to map : List ℕ} (n : ℕ) (a : Answer) → Standing s t e from to map → n ≡ edgeCount (loaded_table.tableBy from) → numbers a ≡ answerOf (accepted n 0)
-    → numbers a ≡ answerOf (judgeEmbedding s t e)
-unfolding judgeEmbedding unlessFaulty
-embedding-counted n a h count answer =
-    answer ∙ rw (h .judges .source-sound, h .judges .target-sound, h .judges .embedding-sound, ← h .source-stands .same-table, count) refl

@@ -4,8 +4,10 @@ use mathlib.Core.Path.{_≡_}
 use mathlib.Core.List.{List}
 use Prim.Native.Nat.{ℕ}
 use Rattle.answer_numbers.specs.declared.Answer.{Answer}
-use Rattle.answer_numbers.specs.Numbers.{numbers}
+use Rattle.answer_numbers.specs.declared.ExplanationNumbers.{ExplanationNumbers}
+use Rattle.answer_numbers.specs.Numbers.{numbers, tenNumbers}
 use Rattle.outcomes.specs.Outcomes.{Answers}
+use Rattle.model.specs.Definitions.Explanation.{explain, explanationNumbers}
 use Rattle.model.specs.Definitions.Entries.{answerOf, judgeTable, judgeEmbedding, judgeTree, carry, bringBack}
 
 abbrev pub JudgeTableCall : List ℕ → Answer → Type 0
@@ -13,6 +15,9 @@ JudgeTableCall t a = numbers a ≡ answerOf (judgeTable t)
 
 abbrev pub JudgeEmbeddingCall : List ℕ → List ℕ → List ℕ → Answer → Type 0
 JudgeEmbeddingCall s t e a = numbers a ≡ answerOf (judgeEmbedding s t e)
+
+abbrev pub ExplainClashCall : List ℕ → List ℕ → List ℕ → ExplanationNumbers → Type 0
+ExplainClashCall s t e n = tenNumbers n ≡ explanationNumbers (explain s t e)
 
 abbrev pub JudgeTreeCall : List ℕ → List ℕ → Answer → Type 0
 JudgeTreeCall t tr a = numbers a ≡ answerOf (judgeTree t tr)

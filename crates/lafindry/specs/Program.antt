@@ -12,9 +12,10 @@ use native.Mathlib.Nat.{lt-of-not-le}
 use native.Mathlib.Omega.{arith}
 use lib.ListN.{length, take, drop}
 use Rattle.answer_numbers.specs.declared.Answer.{Answer}
-use Rattle.answer_numbers.specs.Numbers.{numbers}
+use Rattle.answer_numbers.specs.declared.ExplanationNumbers.{ExplanationNumbers}
+use Rattle.answer_numbers.specs.Numbers.{numbers, tenNumbers}
 use Rattle.outcomes.specs.Outcomes.{Answers}
-use Rattle.lafindry.specs.Calls.{JudgeTableCall, JudgeEmbeddingCall, JudgeTreeCall, CarryCall, BringBackCall}
+use Rattle.lafindry.specs.Calls.{JudgeTableCall, JudgeEmbeddingCall, ExplainClashCall, JudgeTreeCall, CarryCall, BringBackCall}
 use Rattle.model.specs.Definitions.Basics.{fails}
 use Rattle.model.specs.Definitions.Table.{tableOf}
 use Rattle.model.specs.Definitions.Content.{Content, document}
@@ -25,12 +26,16 @@ use Rattle.model.specs.Definitions.Refusals.{Judged, sound, has, Document, tree
 use Rattle.model.specs.Definitions.ValidTable.{ValidTable, tableBytes}
 use Rattle.model.specs.Definitions.ValidEmbedding.{ValidEmbedding, embeddingBytes}
 use Rattle.model.specs.Definitions.Valid.{WrittenBy, ValidTree}
+use Rattle.model.specs.Definitions.Embedding.{embeddingOf}
+use Rattle.model.specs.Definitions.EmbeddingChecks.{Reason, equal-paths, earlier-begins, later-begins, part-at-sequence}
+use Rattle.model.specs.Definitions.Explanation as explanations
+use Rattle.model.specs.Definitions.Explanation.{Clash, explained, unexplained, reasonNumber, explanationNumbers, Explains}
 use Rattle.model.specs.Definitions.Decimal.{DecimalText, DecimalWritten, with-room, without-room}
 use Rattle.model.specs.Definitions.Entries as model
 use Rattle.model.specs.Definitions.Entries.{Result, refused, accepted, Outcome, answerOf, unlessFaulty, judgeTable, judgeEmbedding, judgeTree, untouched, written, carryWithin, carryContent, carry, bringWithin, bringContent, bringBack}
 use Rattle.model.specs.Theorems.Terms.{AcceptedEmbedding, AcceptedTree, imageOf, fillerOf, levelsIn, NoSource}
 use Rattle.model.specs.Theorems.EntryLaws.{judges-accept, judge-accepts, judges-are-all, table-is-accepted, tree-judged, tree-is-accepted}
-use Rattle.model.specs.Statements.{DemandThree, demand-three, refused-15-exactly, decimal-text-unique, tables-exactly, embeddings-exactly, trees-exactly}
+use Rattle.model.specs.Statements.{DemandThree, demand-three, refused-15-exactly, decimal-text-unique, tables-exactly, embeddings-exactly, trees-exactly, explained-exactly, explains-exactly, answer-is-inside, numbers-begin-as-judged}
 
 -- ---- answers
 
@@ -367,3 +372,73 @@ module _ (n : ℕ) (text : List ℕ) (form : DecimalText n text) where
 
 pub decimal-written-exactly : (n : ℕ) (text : List ℕ) → DecimalText n text → DecimalDemand n text
 decimal-written-exactly n text form = record { writes = writes-decimal n text form; needs-room = keeps-decimal n text form }
+
+-- ---- clashes explained (02, N9)
+
+-- the numbers of a call name a clash
+pub record Names (n : ExplanationNumbers) (c : Clash) : Type 0 where
+  pub is-mark : n .mark ≡ c .mark
+  pub is-reason : n .reason ≡ reasonNumber (c .reason)
+  pub is-type : n .source ≡ c .source-type
+  pub is-earlier : n .earlier ≡ c .earlier
+  pub is-later : n .later ≡ c .later
+  pub is-shared : n .shared ≡ c .shared
+
+-- A call of lafindry_explain_clash answers as a call of lafindry_judge_embedding on the same documents does. Where that is 10 it names
+-- the clash of which `Explains` says what holds, with a reason from 1 to 4. Where it is not, the five numbers behind the answer are 0.
+pub record ExplainDemand (s t e : List ℕ) (n : ExplanationNumbers) : Type 0 where
+  pub as-judged : (a : Answer) → JudgeEmbeddingCall s t e a → tenNumbers n .answer ≡ numbers a
+  pub names : n .refusal ≡ 10 → (c : Clash) × Explains (tableOf s) (tableOf t) (embeddingOf e) c × Names n c
+  pub says-why : n .refusal ≡ 10 → (1 ≤ n .reason) × (n .reason ≤ 4)
+  pub nothing-else : (n .refusal ≡ 10 → ⊥) → (n .reason ≡ 0) × (n .source ≡ 0) × (n .earlier ≡ 0) × (n .later ≡ 0) × (n .shared ≡ 0)
+
+reason-number : (r : Reason) → (1 ≤ reasonNumber r) × (reasonNumber r ≤ 4)
+unfolding reasonNumber
+reason-number equal-paths = (omega arith, omega arith)
+reason-number earlier-begins = (omega arith, omega arith)
+reason-number later-begins = (omega arith, omega arith)
+reason-number part-at-sequence = (omega arith, omega arith)
+
+module _ (s t e : List ℕ) (n : ExplanationNumbers) (call : ExplainClashCall s t e n) where
+  -- the refusal is that of judging
+  judged-number : n .refusal ≡ answerOf (judgeEmbedding s t e) .refusal
+  judged-number = ap (λ (m : explanations.ExplanationNumbers). m .answer .refusal) call ∙ ap (λ (a : model.Answer). a .refusal) (numbers-begin-as-judged s t e)
+
+  -- a clash is named
+  named : n .refusal ≡ 10 → (c : Clash) × Explains (tableOf s) (tableOf t) (embeddingOf e) c × Names n c
+  unfolding explanationNumbers answerOf numbersOf faultMark
+  named ten =
+      let x = explained-exactly s t e .1 (sym judged-number ∙ ten) in
+      let same : tenNumbers n ≡ explanationNumbers (explained (x .0)) = call ∙ ap explanationNumbers (x .1) in (
+        x .0,
+        explains-exactly s t e (x .0) .0 (x .1) .1,
+        record {
+          is-mark = ap (λ (m : explanations.ExplanationNumbers). m .answer .mark) same;
+          is-reason = ap (λ (m : explanations.ExplanationNumbers). m .reason) same;
+          is-type = ap (λ (m : explanations.ExplanationNumbers). m .source-type) same;
+          is-earlier = ap (λ (m : explanations.ExplanationNumbers). m .earlier) same;
+          is-later = ap (λ (m : explanations.ExplanationNumbers). m .later) same;
+          is-shared = ap (λ (m : explanations.ExplanationNumbers). m .shared) same;
+        },
+      )
+
+  -- or nothing is
+  none-named : (n .refusal ≡ 10 → ⊥) → (n .reason ≡ 0) × (n .source ≡ 0) × (n .earlier ≡ 0) × (n .later ≡ 0) × (n .shared ≡ 0)
+  unfolding explanationNumbers
+  none-named other =
+      let same : tenNumbers n ≡ explanationNumbers (unexplained (judgeEmbedding s t e)) = call ∙ ap explanationNumbers (answer-is-inside s t e (λ ten. other (judged-number ∙ ten))) in (
+        ap (λ (m : explanations.ExplanationNumbers). m .reason) same,
+        ap (λ (m : explanations.ExplanationNumbers). m .source-type) same,
+        ap (λ (m : explanations.ExplanationNumbers). m .earlier) same,
+        ap (λ (m : explanations.ExplanationNumbers). m .later) same,
+        ap (λ (m : explanations.ExplanationNumbers). m .shared) same,
+      )
+
+  pub clashes-explained : ExplainDemand s t e n
+  clashes-explained =
+      record {
+        as-judged = λ a judged. ap (λ (m : explanations.ExplanationNumbers). m .answer) call ∙ numbers-begin-as-judged s t e ∙ sym judged;
+        names = named;
+        says-why = λ ten. let c = named ten in rw (c .2 .is-reason) (reason-number (c .0 .reason));
+        nothing-else = none-named;
+      }

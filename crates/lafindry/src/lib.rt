@@ -1,7 +1,9 @@
 // The entries that a C program calls, each on any bytes. include/lafindry.h declares them.
 ghost use Rattle.model.specs.Definitions.Decimal.{DecimalWritten};
-ghost use Rattle.lafindry.specs.Calls.{JudgeTableCall, JudgeEmbeddingCall, JudgeTreeCall, CarryCall, BringBackCall};
+ghost use Rattle.lafindry.specs.Calls.{JudgeTableCall, JudgeEmbeddingCall, ExplainClashCall, JudgeTreeCall, CarryCall, BringBackCall};
 use answer_numbers::Answer;
+use answer_numbers::ExplanationNumbers;
+use answer_numbers::explained;
 
 // Judges a table: number of types.
 #[no_mangle]
@@ -17,6 +19,18 @@ pub extern "C" fn lafindry_judge_embedding(source: &[u8], target: &[u8], embeddi
     ensures { λ r. ⌜ JudgeEmbeddingCall (now (source .entry)) (now (target .entry)) (now (embedding .entry)) r ⌝ }
 {
     judge_entries::judge_embedding(source, target, embedding)
+}
+
+// Judges an embedding, after both tables, and explains the answer where two paths clash.
+#[no_mangle]
+pub extern "C" fn lafindry_explain_clash(
+    source: &[u8],
+    target: &[u8],
+    embedding: &[u8],
+) -> ExplanationNumbers
+    ensures { λ r. ⌜ ExplainClashCall (now (source .entry)) (now (target .entry)) (now (embedding .entry)) r ⌝ }
+{
+    explained(explaining::explain(source, target, embedding))
 }
 
 // Judges a tree, after its table: number of elements.

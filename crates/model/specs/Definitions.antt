@@ -22,5 +22,6 @@ pub mod SingleItems
 pub mod Refusals
 pub mod Valid
 pub mod Entries
+pub mod Explanation
 pub mod Decimal
 pub mod Lines

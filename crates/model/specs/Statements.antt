@@ -24,17 +24,18 @@ use Rattle.model.specs.Definitions.Filler.{content, known, fillers}
 use Rattle.model.specs.Definitions.Image.{Setting, image, imageBy, imageLevels, imageLength, imageFiller}
 use Rattle.model.specs.Definitions.Templates.{Hole, template, fillerRow, fillerBytes, filledRow, writes, firstIn, heldBy, ownLength, ownFiller, ownLevels, sumLength, sumFiller, deepest}
 use Rattle.model.specs.Definitions.Embedding.{embeddingOf, targetOf, pathsOf, firstPath, next, beforeChoice}
-use Rattle.model.specs.Definitions.EmbeddingChecks.{embeddingForm, embeddingOperands, leavesOnly, sequenceOrList, optionalFirst, rightSteps}
+use Rattle.model.specs.Definitions.EmbeddingChecks.{embeddingForm, embeddingOperands, leavesOnly, sequenceOrList, optionalFirst, rightSteps, Reason}
 use Rattle.model.specs.Definitions.ValidTable.{ValidTable, tableBytes}
-use Rattle.model.specs.Definitions.ValidEmbedding.{PathMapping, mappingOf, ValidEmbedding, embeddingBytes}
+use Rattle.model.specs.Definitions.ValidEmbedding.{PathMapping, mappingOf, StepsExist, NoClash, ValidEmbedding, embeddingBytes}
 use Rattle.model.specs.Definitions.Marks.{TableMarks, EmbeddingMarks, TreeMarks, LowestWithout, PathMarks}
 use Rattle.model.specs.Definitions.Valid.{WrittenBy, ValidTree}
 use Rattle.model.specs.Definitions.Inverse.{follow, readTo, readBack}
 use Rattle.model.specs.Definitions.SingleItems.{singleItems}
-use Rattle.model.specs.Definitions.Refusals.{wrong-steps, too-long, over-limit, embedding, tree, faulty, output-too-short, no-image, image-too-deep, image-too-long, maxLength}
+use Rattle.model.specs.Definitions.Refusals.{wrong-steps, path-clash, too-long, over-limit, embedding, tree, faulty, output-too-short, no-image, image-too-deep, image-too-long, maxLength}
 use Rattle.model.specs.Definitions.Decimal.{DecimalForm, DecimalText}
 use Rattle.model.specs.Definitions.Lines.{AnswerLine}
-use Rattle.model.specs.Definitions.Entries.{Answer, accepted, refused, judgeEmbedding, settingOf, untouched, carry, bringWithin, bringBack}
+use Rattle.model.specs.Definitions.Entries.{Answer, answerOf, accepted, refused, judgeEmbedding, settingOf, untouched, carry, bringWithin, bringBack}
+use Rattle.model.specs.Definitions.Explanation.{Clash, explained, unexplained, explain, explanationNumbers, ReasonHolds, Explains}
 use Rattle.model.specs.Computing.{definitions}
 use Rattle.model.specs.Examples.{choiceOfEmpty, listedTable, listedEmbedding, listedImage, memberTable, memberListsTable, memberListsEmbedding, memberContent, memberImage}
 use Rattle.model.specs.Theorems.Tools.{and-right}
@@ -64,6 +65,8 @@ use Rattle.model.specs.Theorems.DocumentMarks.{table-marks, embedding-ma
 use Rattle.model.specs.Theorems.PathChecks.{ends-mark, steps-mark, clash-mark}
 use Rattle.model.specs.Theorems.ValidEmbeddings.{paths-walked, valid-embedding-short}
 use Rattle.model.specs.Theorems.Accepted.{table-accepted-exactly, embedding-accepted-exactly, tree-accepted-exactly}
+use Rattle.model.specs.Theorems.Reasons.{one-holds}
+use Rattle.model.specs.Theorems.Explanations.{explained-10, explanation-holds, explained-so, explain-other, numbers-as-judged}
 
 -- ---- 1. conforming and bytes
 
@@ -447,3 +450,33 @@ marks-of-paths s t e a form operands =
       stands-there = path-stands S e form;
       in-order = offsets-rise S e form;
     }
+
+-- ---- 18. clashes explained (02, N9)
+
+-- An embedding is explained exactly when judging it answers 10.
+pub explained-exactly : (s t e : List ℕ) → ((c : Clash) × (explain s t e ≡ explained c)) ↔ (answerOf (judgeEmbedding s t e) .refusal ≡ 10)
+explained-exactly = explained-10
+
+-- A clash is the explanation exactly when judging answers 10 and `Explains` holds of it: the later member is the first in the document
+-- whose path clashes with an earlier one of its type, the earlier is the first that it clashes with, the paths share that number of
+-- steps, and the reason holds of them, while no other of the four does.
+pub explains-exactly : (s t e : List ℕ) (c : Clash)
+    → (explain s t e ≡ explained c) ↔ ((answerOf (judgeEmbedding s t e) .refusal ≡ 10) × Explains (tableOf s) (tableOf t) (embeddingOf e) c)
+explains-exactly = explained-so
+
+-- What refusal 10 marks is the 21 of the later member.
+pub later-is-marked : (s t e : List ℕ) (c : Clash) → explain s t e ≡ explained c → judgeEmbedding s t e ≡ refused (faulty embedding (path-clash (c .mark)))
+later-is-marked s t e c x = explanation-holds s t e c x .1
+
+-- For any other embedding there is no clash to explain, and the judging answer is inside.
+pub answer-is-inside : (s t e : List ℕ) → (answerOf (judgeEmbedding s t e) .refusal ≡ 10 → ⊥) → explain s t e ≡ unexplained (judgeEmbedding s t e)
+answer-is-inside = explain-other
+
+-- The four reasons cover every clash: of two paths whose steps exist and that clash, one of them holds, and no other does.
+pub reasons-cover : (T : Table) (κ : Kind) (τ : ℕ) (ps qs : List ℕ) → StepsExist T τ ps → StepsExist T τ qs → (NoClash T κ τ ps qs → ⊥)
+    → (why : Reason) × ReasonHolds T τ ps qs why × ((r : Reason) → ReasonHolds T τ ps qs r → r ≡ why)
+reasons-cover = one-holds
+
+-- The numbers of an explanation begin with those of the judging answer.
+pub numbers-begin-as-judged : (s t e : List ℕ) → explanationNumbers (explain s t e) .answer ≡ answerOf (judgeEmbedding s t e)
+numbers-begin-as-judged = numbers-as-judged

@@ -19,11 +19,14 @@ pub mod ValidTables
 pub mod JudgedEmbeddings
 pub mod EmbeddingBytes
 pub mod DocumentMarks
+pub mod Partings
 pub mod Placing
 pub mod StepTests
 pub mod EdgeChecks
 pub mod PathChecks
 pub mod ValidEmbeddings
+pub mod Reasons
+pub mod Explanations
 pub mod ByElements
 pub mod ImageConforms
 pub mod ReadBack

@@ -1,3 +1,4 @@
 pub mod Starred
 pub mod Decimal
 pub mod Written
+pub mod Clashes

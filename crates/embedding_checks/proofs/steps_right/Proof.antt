@@ -3,10 +3,9 @@ use mathlib.Core.Path.{_≡_, sym, _∙_}
 use native.Mathlib.Omega.{arith}
 use borrow.Author.Tests.{eq-eqb, ne-eqb}
 use Rattle.model.specs.Definitions.Table.{kindOf}
-use Rattle.model.specs.Definitions.Embedding.{leaves}
+use Rattle.model.specs.Definitions.Embedding.{leaves, edgeOf}
 use Rattle.model.specs.Definitions.EmbeddingChecks.{rightSteps}
 use Rattle.loaded_table.specs.Loaded.{tableBy}
-use Rattle.embedding_clash.specs.Edges.{edgeOf}
 use Rattle.embedding_clash.specs.Ready.{mapOf}
 use Rattle.embedding_clash.proofs.ClashLaws.{same-steps}
 use Rattle.embedding_checks.proofs.Here.{type-here, edge-here, few-before, path-here, walkable-here, first-here, count-first, optional-here}

@@ -80,3 +80,18 @@ some-of test (x ∷ xs) = test x || some-of test xs
 unfoldable pub andThen : {A B : Type 0} → Option A → (A → Option B) → Option B
 andThen none f = none
 andThen (some a) f = f a
+
+-- what is there, else something else
+unfoldable pub orNext : {A : Type 0} → Option A → Option A → Option A
+orNext none other = other
+orNext (some a) other = some a
+
+-- whether there is something
+unfoldable pub isThere : {A : Type 0} → Option A → Bool
+isThere none = false
+isThere (some a) = true
+
+-- the first that is there of those with the k numbers from i on
+unfoldable pub firstFound : {A : Type 0} → (ℕ → Option A) → ℕ → ℕ → Option A
+firstFound found i zero = none
+firstFound found i (suc k) = orNext (found i) (firstFound found (suc i) k)

@@ -3,7 +3,7 @@
 use mathlib.Core.Bool.{Bool, true, false, _&&_}
 use mathlib.Core.List.{List, [], _∷_, map}
 use mathlib.Core.Option.{Option, none, some}
-use Prim.Native.Nat.{ℕ, _+_}
+use Prim.Native.Nat.{ℕ, suc, _+_}
 use lib.ListN.{getD}
 use lib.Dec.{eqb}
 use Rattle.model.specs.Definitions.Basics.{pick}
@@ -25,6 +25,13 @@ Embedding = List TypeMap
 
 unfoldable pub noMap : TypeMap
 noMap = record { target = 0; edges = [] }
+
+unfoldable pub noEdge : Edge
+noEdge = record { at = 0; steps = [] }
+
+-- edge i of a source type, counted from 0
+unfoldable pub edgeOf : TypeMap → ℕ → Edge
+edgeOf f i = getD (f .edges) i noEdge
 
 -- the target type that source type s is mapped to
 unfoldable pub targetOf : Embedding → ℕ → ℕ
@@ -84,16 +91,29 @@ unfoldable pub leaves : Table → ℕ → List ℕ → List Kind
 leaves T τ [] = []
 leaves T τ (p ∷ ps) = kindOf T τ ∷ leaves T (next T τ p) ps
 
--- how two paths from one type compare: one is a beginning of the other, or they are equal; or they part, at a step
--- that leaves an element of this kind
-pub data Parting : Type 0 where
-  beginning : Parting
-  apart : Kind → Parting
+-- What stands behind the steps with which two paths from one type both begin: both end there, so that they are equal; the first ends and
+-- the second goes on; the second ends and the first goes on; or they part, at a step that leaves an element of this kind.
+pub data Behind : Type 0 where
+  both-end : Behind
+  first-ends : Behind
+  second-ends : Behind
+  apart : Kind → Behind
+
+-- how two paths from one type compare: the number of steps that they share, those of their longest common beginning, and what stands
+-- behind them
+pub record Parting : Type 0 where
+  pub shared : ℕ
+  pub behind : Behind
+
+unfoldable pub oneStepMore : Parting → Parting
+oneStepMore v = record { shared = suc (v .shared); behind = v .behind }
 
 unfoldable pub parting : Table → ℕ → List ℕ → List ℕ → Parting
-parting T τ [] qs = beginning
-parting T τ (p ∷ ps) [] = beginning
-parting T τ (p ∷ ps) (q ∷ qs) = pick (eqb p q) (parting T (next T τ p) ps qs) (apart (kindOf T τ))
+parting T τ [] [] = record { shared = 0; behind = both-end }
+parting T τ [] (q ∷ qs) = record { shared = 0; behind = first-ends }
+parting T τ (p ∷ ps) [] = record { shared = 0; behind = second-ends }
+parting T τ (p ∷ ps) (q ∷ qs) =
+    pick (eqb p q) (oneStepMore (parting T (next T τ p) ps qs)) (record { shared = 0; behind = apart (kindOf T τ) })
 
 -- a path divided at the first step that leaves a list: the steps before it, the list's item type, the steps after it
 pub record Divided : Type 0 where

@@ -6,10 +6,10 @@ use mathlib.Core.Option.{Option, none, some}
 use Prim.Native.Nat.{ℕ, zero, suc}
 use lib.ListN.{length}
 use lib.Dec.{ltb, eqb}
-use Rattle.model.specs.Definitions.Basics.{Verdict, passes, fails, Next, goes, stops, goesIf, run, pick, orElse, some-of}
+use Rattle.model.specs.Definitions.Basics.{Verdict, passes, fails, Next, goes, stops, goesIf, run, pick, orElse, some-of, isThere}
 use Rattle.model.specs.Definitions.Commands.{needed, optional, EmbeddingCommand, mapsTo, path, step, embeddingEnd, alienE, embeddingCommands, embeddingWidth}
 use Rattle.model.specs.Definitions.Table.{Kind, text, empty, sequence, choice, list, Table, kindOf, edgesOf, stepFrom, isText, isSequence, isChoice, isOptional, isList}
-use Rattle.model.specs.Definitions.Embedding.{Edge, TypeMap, Embedding, targetOf, endOf, leaves, Parting, beginning, apart, parting, beforeChoice, sameSteps, firstPath}
+use Rattle.model.specs.Definitions.Embedding.{Edge, TypeMap, Embedding, targetOf, endOf, leaves, Behind, both-end, first-ends, second-ends, apart, parting, beforeChoice, sameSteps, firstPath}
 
 -- ---- 2, form, with the count of types and of each type's edges
 
@@ -159,20 +159,41 @@ wrongSteps S T E = eachType (stepsOf T) S E
 
 -- ---- 10, clashes
 
--- Two members of a sequence: neither path is a beginning of the other, and they differ. Two members of a choice of
--- either kind: the same, and the first step where the paths differ leaves a choice of either kind.
-unfoldable pub clashing : Kind → Parting → Bool
-clashing text v = false
-clashing empty v = false
-clashing (sequence ms) beginning = true
-clashing (sequence ms) (apart κ) = false
-clashing (choice need ms) beginning = true
-clashing (choice need ms) (apart κ) = not (isChoice κ)
-clashing (list m) v = false
+-- why two paths clash, that of an earlier and that of a later member (02, N9): they are equal; the earlier is a shorter beginning of the
+-- later; the later is one of the earlier; they part at a sequence
+pub data Reason : Type 0 where
+  equal-paths : Reason
+  earlier-begins : Reason
+  later-begins : Reason
+  part-at-sequence : Reason
 
--- whether two paths from target type τ, of members of a source type of kind κ, clash
+-- Two members of a sequence, or of a choice of either kind: neither path is a beginning of the other, and they differ.
+unfoldable pub whereOneEnds : Kind → Reason → Option Reason
+whereOneEnds text why = none
+whereOneEnds empty why = none
+whereOneEnds (sequence ms) why = some why
+whereOneEnds (choice need ms) why = some why
+whereOneEnds (list m) why = none
+
+-- Two members of a choice of either kind: the first step where the paths differ leaves a choice of either kind. If not, it leaves a
+-- sequence, as from a list there is one step only.
+unfoldable pub wherePathsPart : Kind → Kind → Option Reason
+wherePathsPart text left = none
+wherePathsPart empty left = none
+wherePathsPart (sequence ms) left = none
+wherePathsPart (choice need ms) left = pick (isChoice left) none (some part-at-sequence)
+wherePathsPart (list m) left = none
+
+-- why two paths of members of a source type of a kind clash, if they do, by what stands behind the steps that they share
+unfoldable pub clashReason : Kind → Behind → Option Reason
+clashReason κ both-end = whereOneEnds κ equal-paths
+clashReason κ first-ends = whereOneEnds κ earlier-begins
+clashReason κ second-ends = whereOneEnds κ later-begins
+clashReason κ (apart left) = wherePathsPart κ left
+
+-- whether two paths from target type τ, of an earlier and a later member of a source type of kind κ, clash
 unfoldable pub clash : Table → Kind → ℕ → List ℕ → List ℕ → Bool
-clash T κ τ ps qs = clashing κ (parting T τ ps qs)
+clash T κ τ ps qs = isThere (clashReason κ (parting T τ ps qs .behind))
 
 -- the first edge that clashes with an earlier one
 unfoldable pub firstClash : Table → Kind → ℕ → List Edge → List Edge → Verdict

@@ -3,7 +3,7 @@
 -- write one. `EmbeddingChecks` has the checks; that a byte string passes them exactly where it is `embeddingBytes` of a valid
 -- embedding is a theorem. The limit is 01's number, not the name that the check uses.
 use mathlib.Core.Path.{_≡_}
-use mathlib.Core.Bool.{true}
+use mathlib.Core.Bool.{Bool, true}
 use mathlib.Core.List.{List, [], _∷_, _++_, map, List·Memᴰ}
 use mathlib.Core.Logic.{_⊎_}
 use mathlib.Core.Option.{some}
@@ -106,8 +106,8 @@ pub record Apart (ps qs : List ℕ) : Type 0 where
   pub not-continuation : BeginningOf qs ps → ⊥
   pub differ : ps ≡ qs → ⊥
 
--- the first step where two paths from target type τ differ leaves a choice of either kind
-pub record PartAtChoice (T : Table) (τ : ℕ) (ps qs : List ℕ) : Type 0 where
+-- the first step where two paths from target type τ differ leaves an element of a kind for which a test holds
+pub record PartAt (test : Kind → Bool) (T : Table) (τ : ℕ) (ps qs : List ℕ) : Type 0 where
   pub shared : List ℕ
   pub p : ℕ
   pub q : ℕ
@@ -116,14 +116,14 @@ pub record PartAtChoice (T : Table) (τ : ℕ) (ps qs : List ℕ) : Type 0 where
   pub one : ps ≡ shared ++ p ∷ behind-p
   pub other : qs ≡ shared ++ q ∷ behind-q
   pub differ-here : p ≡ q → ⊥
-  pub leaves-choice : isChoice (kindOf T (endOf T τ shared)) ≡ true
+  pub leaves-such : test (kindOf T (endOf T τ shared)) ≡ true
 
--- the paths of two members of a source type of kind κ
+-- the paths of two members of a source type of kind κ; those of a choice of either kind part where such a choice is left
 unfoldable pub NoClash : Table → Kind → ℕ → List ℕ → List ℕ → Type 0
 NoClash T text τ ps qs = Unit {0}
 NoClash T empty τ ps qs = Unit {0}
 NoClash T (sequence ms) τ ps qs = Apart ps qs
-NoClash T (choice need ms) τ ps qs = Apart ps qs × PartAtChoice T τ ps qs
+NoClash T (choice need ms) τ ps qs = Apart ps qs × PartAt isChoice T τ ps qs
 NoClash T (list m) τ ps qs = Unit {0}
 
 -- ---- valid embeddings

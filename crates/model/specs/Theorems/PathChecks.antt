@@ -50,7 +50,7 @@ never-earlier (inl less) = absurd (omega arith)
 never-earlier (inr same) = absurd (omega (arith, same .0))
 
 -- two numbers of which neither is less are equal
-neither-less : (m n : ℕ) → (m < n → ⊥) → (n < m → ⊥) → m ≡ n
+pub neither-less : (m n : ℕ) → (m < n → ⊥) → (n < m → ⊥) → m ≡ n
 neither-less m n p q = omega (arith, p, q)
 
 module _ (right : PathFact) where
@@ -111,8 +111,9 @@ module _ (right : PathFact) where
       finds-more κ f S E (check κ f) (eachType check S E) (each 0 (omega arith)) (finds check S E (λ s exists. each (suc s) (omega arith)))
 
   -- two first wrong paths are one path: neither is earlier than the other
-  first-once : (S : Table) (E : Embedding) (at at′ : ℕ) → FirstWrong right S E at → FirstWrong right S E at′ → at ≡ at′
-  first-once S E at at′ r r′ = r .marked ∙ ap (λ (e : Edge). e .at) same-edge ∙ sym (r′ .marked)
+  pub first-same : {S : Table} {E : Embedding} {at at′ : ℕ} (r : FirstWrong right S E at) (r′ : FirstWrong right S E at′)
+      → (r .source-type ≡ r′ .source-type) × (r .number ≡ r′ .number) × (r .edge ≡ r′ .edge)
+  first-same {S} {E} r r′ = (same-type, same-number, let one = r .stands in let other = stands′ in cc)
     where
       not-earlier : {at at′ : ℕ} (r : FirstWrong right S E at) (r′ : FirstWrong right S E at′)
           → Earlier (r .source-type) (r .number) (r′ .source-type) (r′ .number) → ⊥
@@ -127,8 +128,8 @@ module _ (right : PathFact) where
       stands′ : entry (r .number) (getD E (r .source-type) noMap .edges) ≡ some (r′ .edge)
       stands′ = rw (same-type, same-number) (r′ .stands)
 
-      same-edge : r .edge ≡ r′ .edge
-      same-edge = let one = r .stands in let other = stands′ in cc
+  first-once : (S : Table) (E : Embedding) (at at′ : ℕ) → FirstWrong right S E at → FirstWrong right S E at′ → at ≡ at′
+  first-once S E at at′ r r′ = r .marked ∙ ap (λ (e : Edge). e .at) (first-same r r′ .2) ∙ sym (r′ .marked)
 
   -- so a verdict says that all paths are right, or which is the first wrong one, exactly where that is so
   finds-exactly : (S : Table) (E : Embedding) (v : Verdict) → Finds right S E v → (v ≡ passes) ↔ AllRight right S E

@@ -11,14 +11,15 @@ use native.Mathlib.Omega.{arith}
 use lib.ListN.{length}
 use lib.Dec.{eqb}
 use borrow.Author.Tests.{eqb-true, eq-eqb, eqb-false}
-use Rattle.model.specs.Definitions.Basics.{pick, entry, some-of}
+use Rattle.model.specs.Definitions.Basics.{pick, entry, some-of, isThere}
 use Rattle.model.specs.Definitions.Table.{Kind, text, empty, sequence, choice, list, Table, kindOf, membersOf, stepFrom, isSequence, isChoice, isList}
-use Rattle.model.specs.Definitions.Embedding.{firstPath, next, orRoot, endOf, leaves, Parting, beginning, apart, parting, Divided, divide, divideAt, beforeChoice}
-use Rattle.model.specs.Definitions.EmbeddingChecks.{maxSteps, leavesOnly, sequenceOrList, rightSteps, clash, clashing}
+use Rattle.model.specs.Definitions.Embedding.{firstPath, next, orRoot, endOf, leaves, Behind, both-end, first-ends, second-ends, apart, parting, Divided, divide, divideAt, beforeChoice}
+use Rattle.model.specs.Definitions.EmbeddingChecks.{maxSteps, leavesOnly, sequenceOrList, rightSteps, whereOneEnds, clashReason, clash}
 use Rattle.model.specs.Definitions.Filler.{Builder}
 use Rattle.model.specs.Definitions.Image.{Setting, Placement, placed, under, beyond, Child, letter, element, alongPaths, alongChoice, pathOfMember, alongList, placements}
 use Rattle.model.specs.Theorems.Facts.{Walks, arrived, onward, GoodPath, MemberPath, Along, along-none, along-both, All, all-none, all-more, Pairs, pairs-none, pairs-more, Compatible, ValidEdges, text-edge, no-edge, sequence-edges, choice-edges, list-edge, Starts, starts-none, starts-more, Leads, Fits, nothing-placed, right-here, below-sequence, below-choice, below-list}
 use Rattle.model.specs.Theorems.Tools.{pick-true, pick-false, true-false, some-none, and-left}
+use Rattle.model.specs.Theorems.Partings.{behind-shared}
 
 -- ---- steps
 
@@ -244,22 +245,25 @@ many-fit T (suc n) τ (placed (q ∷ path) a ∷ ps) al pr = many-step T n τ q 
 -- ---- the placements of a source element
 
 -- two paths of a sequence that don't clash diverge
-apart-diverge : (T : Table) (τ : ℕ) (ps qs : List ℕ) (κ : Kind) → parting T τ ps qs ≡ apart κ → Diverge ps qs
+apart-diverge : (T : Table) (τ : ℕ) (ps qs : List ℕ) (κ : Kind) → parting T τ ps qs .behind ≡ apart κ → Diverge ps qs
 unfolding parting
-apart-diverge T τ [] qs κ e = let z : _≡_ {A = ℕ} 0 1 = cc in absurd (omega arith)
+apart-diverge T τ [] [] κ e = let z : _≡_ {A = ℕ} 0 1 = cc in absurd (omega arith)
+apart-diverge T τ [] (q ∷ qs) κ e = let z : _≡_ {A = ℕ} 0 1 = cc in absurd (omega arith)
 apart-diverge T τ (p ∷ ps) [] κ e = let z : _≡_ {A = ℕ} 0 1 = cc in absurd (omega arith)
 apart-diverge T τ (p ∷ ps) (q ∷ qs) κ e = go (eqb p q) refl (apart-diverge T (next T τ p) ps qs κ)
   where
-    go : (b : Bool) → eqb p q ≡ b → (parting T (next T τ p) ps qs ≡ apart κ → Diverge ps qs) → Diverge (p ∷ ps) (q ∷ qs)
-    go true f rec = later (eqb-true p q f) (rec (sym (pick-true (eqb p q) _ _ f) ∙ e))
+    go : (b : Bool) → eqb p q ≡ b → (parting T (next T τ p) ps qs .behind ≡ apart κ → Diverge ps qs) → Diverge (p ∷ ps) (q ∷ qs)
+    go true f rec = later (eqb-true p q f) (rec (sym (behind-shared T τ p q ps qs f) ∙ e))
     go false f rec = at-once f
 
 sequence-diverge : (T : Table) (τ : ℕ) (ms ps qs : List ℕ) → clash T (sequence ms) τ ps qs ≡ false → Diverge ps qs
-unfolding clash clashing
-sequence-diverge T τ ms ps qs e = go (parting T τ ps qs) refl
+unfolding clash clashReason whereOneEnds isThere
+sequence-diverge T τ ms ps qs e = go (parting T τ ps qs .behind) refl
   where
-    go : (v : Parting) → parting T τ ps qs ≡ v → Diverge ps qs
-    go beginning f = true-false refl (rw f at e)
+    go : (b : Behind) → parting T τ ps qs .behind ≡ b → Diverge ps qs
+    go both-end f = true-false refl (rw f at e)
+    go first-ends f = true-false refl (rw f at e)
+    go second-ends f = true-false refl (rw f at e)
     go (apart κ) f = apart-diverge T τ ps qs κ f
 
 module _ {A : Type 0} (X : Setting) (τ : ℕ) (ms : List ℕ) where

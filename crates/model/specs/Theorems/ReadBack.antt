@@ -1,7 +1,7 @@
 -- Reading an image gives back the source: following the paths in an image finds what was placed there, the path of a
 -- choice's member that was not taken is not there, and so every element is read as it was.
 use mathlib.Core.Path.{_≡_, refl, sym, ap, _∙_, subst}
-use mathlib.Core.Bool.{Bool, true, false, not}
+use mathlib.Core.Bool.{Bool, true, false}
 use mathlib.Core.List.{List, [], _∷_, List·Memᴰ, List·Memᴰ·head, List·Memᴰ·tail, List·Memᴰ·not-nil, List·Memᴰ·cases-cons}
 use mathlib.Core.Logic.{_⊎_, inl, inr}
 use mathlib.Core.Option.{Option, none, some}
@@ -11,18 +11,19 @@ use native.Mathlib.Omega.{arith}
 use lib.ListN.{length}
 use lib.Dec.{eqb}
 use borrow.Author.Tests.{eqb-true, eqb-false, eq-eqb, ne-eqb}
-use Rattle.model.specs.Definitions.Basics.{entry, pick, andThen}
+use Rattle.model.specs.Definitions.Basics.{entry, pick, andThen, isThere}
 use Rattle.model.specs.Definitions.Commands.{Need, needed, optional}
 use Rattle.model.specs.Definitions.Table.{Kind, text, empty, sequence, choice, list, Table, kindOf, membersOf, stepFrom, isChoice}
 use Rattle.model.specs.Definitions.Content.{Content, end, char, elem, levels}
 use Rattle.model.specs.Definitions.Conformance.{Holds, nothing, no-member, one-member, chosen, left-out, no-item, one-item}
-use Rattle.model.specs.Definitions.Embedding.{targetOf, firstPath, next, leaves, divide, Divided, parting, Parting, beginning, apart, beforeChoice}
-use Rattle.model.specs.Definitions.EmbeddingChecks.{maxSteps, optionalFirst, rightSteps, clash, clashing}
+use Rattle.model.specs.Definitions.Embedding.{targetOf, firstPath, next, leaves, divide, Divided, Behind, both-end, first-ends, second-ends, apart, parting, beforeChoice}
+use Rattle.model.specs.Definitions.EmbeddingChecks.{maxSteps, optionalFirst, rightSteps, whereOneEnds, wherePathsPart, clashReason, clash}
 use Rattle.model.specs.Definitions.Filler.{content}
 use Rattle.model.specs.Definitions.Image.{Setting, Placement, placed, under, beyond, growMembers, growKind, grow, place, Child, children, imageOfElement, placements, alongPaths, alongChoice, pathOfMember, itemsOf, alongList}
 use Rattle.model.specs.Definitions.Inverse.{childAt, childOfType, enter, follow, readOne, readMembers, readIfThere, readChoice, unlessEmpty, readItems, readList, readKind, readTo}
 use Rattle.model.specs.Theorems.Facts.{WellFormed, Walks, MemberPath, Along, along-none, along-both, All, all-none, all-more, Pairs, pairs-none, pairs-more, Compatible, ValidEdges, text-edge, no-edge, sequence-edges, choice-edges, list-edge, Valid, Starts, starts-none, starts-more, Fits, nothing-placed, right-here, below-sequence, below-choice, below-list}
 use Rattle.model.specs.Theorems.Tools.{true-false, some-none, pick-true, pick-false, one-plus}
+use Rattle.model.specs.Theorems.Partings.{behind-shared, behind-differs, apart-kind}
 use Rattle.model.specs.Theorems.Placing.{entry-next, item-next, under-same, single-fits, placements-fit, GoodParts, divide-good, walks-step, walks-rest, member-walks, path-of-member, shared-walks}
 use Rattle.model.specs.Theorems.ByElements.{Each, each-end, each-char, each-elem, by-elements}
 use Rattle.model.specs.Theorems.ImageConforms.{letters-back}
@@ -232,9 +233,10 @@ module _ (T : Table) (fs : List Content) where
 
   -- a path that parts at a choice from the only one placed isn't there
   pub not-there : WellFormed T → (n τ : ℕ) (ps qs : List ℕ) (a : Content) (κ : Kind) → Walks T τ ps → Walks T τ qs → length ps ≤ n
-      → parting T τ qs ps ≡ apart κ → isChoice κ ≡ true → follow T τ qs (grow content T fs (suc n) τ (placed ps a ∷ [])) ≡ none
+      → parting T τ qs ps .behind ≡ apart κ → isChoice κ ≡ true → follow T τ qs (grow content T fs (suc n) τ (placed ps a ∷ [])) ≡ none
   unfolding parting
-  not-there wf n τ ps [] a κ wp wq h e c = let z : _≡_ {A = ℕ} 0 1 = cc in absurd (omega arith)
+  not-there wf n τ [] [] a κ wp wq h e c = let z : _≡_ {A = ℕ} 0 1 = cc in absurd (omega arith)
+  not-there wf n τ (p ∷ ps) [] a κ wp wq h e c = let z : _≡_ {A = ℕ} 0 1 = cc in absurd (omega arith)
   not-there wf n τ [] (q ∷ qs) a κ wp wq h e c = let z : _≡_ {A = ℕ} 0 1 = cc in absurd (omega arith)
   not-there wf zero τ (p ∷ ps) (q ∷ qs) a κ wp wq h e c = absurd (omega arith)
   not-there wf (suc n) τ (p ∷ ps) (q ∷ qs) a κ wp wq h e c =
@@ -244,18 +246,17 @@ module _ (T : Table) (fs : List Content) where
       K = grow content T fs (suc (suc n)) τ (placed (p ∷ ps) a ∷ [])
 
       go : (b : Bool) → eqb q p ≡ b
-          → (Walks T (next T τ p) qs → parting T (next T τ p) qs ps ≡ apart κ → isChoice κ ≡ true
+          → (Walks T (next T τ p) qs → parting T (next T τ p) qs ps .behind ≡ apart κ → isChoice κ ≡ true
           → follow T (next T τ p) qs (grow content T fs (suc n) (next T τ p) (placed ps a ∷ [])) ≡ none)
           → follow T τ (q ∷ qs) K ≡ none
       go true d rec =
           let same : q ≡ p = eqb-true q p d in
-          let parts : parting T (next T τ q) qs ps ≡ apart κ = sym (pick-true (eqb q p) _ _ d) ∙ e in
+          let parts : parting T (next T τ q) qs ps .behind ≡ apart κ = sym (behind-shared T τ q p qs ps d) ∙ e in
           subst (λ (i : ℕ). follow T τ (i ∷ qs) K ≡ none) (sym same)
           (follow-single n τ p ps qs a wp h
-          ∙ rec (subst (λ (i : ℕ). Walks T (next T τ i) qs) same (walks-rest wq)) (subst (λ (i : ℕ). parting T (next T τ i) qs ps ≡ apart κ) same parts) c)
+          ∙ rec (subst (λ (i : ℕ). Walks T (next T τ i) qs) same (walks-rest wq)) (subst (λ (i : ℕ). parting T (next T τ i) qs ps .behind ≡ apart κ) same parts) c)
       go false d rec =
-          let parts : apart (kindOf T τ) ≡ apart κ = sym (pick-false (eqb q p) (parting T (next T τ q) qs ps) (apart (kindOf T τ)) d) ∙ e in
-          let here : kindOf T τ ≡ κ = cc in
+          let here : kindOf T τ ≡ κ = apart-kind (sym (behind-differs T τ q p qs ps d) ∙ e) in
           let choosing : isChoice (kindOf T τ) ≡ true = rw here c in
           let ms : List ℕ = membersOf (kindOf T τ) in
           let is : (need : Need) × (kindOf T τ ≡ choice need ms) = is-choice (kindOf T τ) choosing in
@@ -339,34 +340,41 @@ all-member {P = P} {x = x} (all-more {a = y} {xs = xs} p al) h = go (List·Mem�
     go (inl e) rec = subst P (sym e) p
     go (inr there) rec = rec there
 
--- two paths of a choice that don't clash part at a choice
-choice-apart : (T : Table) (τ : ℕ) (need : Need) (ms ps qs : List ℕ) → clash T (choice need ms) τ ps qs ≡ false → (κ : Kind) × (parting T τ ps qs ≡ apart κ) × (isChoice κ ≡ true)
-unfolding clash clashing
-choice-apart T τ need ms ps qs e = go (parting T τ ps qs) refl
+-- where two paths of a choice part without a clash, a choice is left
+leaves-choice : (need : Need) (ms : List ℕ) (left : Kind) → isThere (wherePathsPart (choice need ms) left) ≡ false → isChoice left ≡ true
+unfolding wherePathsPart isThere pick
+leaves-choice need ms left e = go (isChoice left) refl
   where
-    go : (v : Parting) → parting T τ ps qs ≡ v → (κ : Kind) × (parting T τ ps qs ≡ apart κ) × (isChoice κ ≡ true)
-    go beginning f = true-false refl (rw f at e)
-    go (apart κ) f = (κ, f, twice (isChoice κ) (rw f at e))
-      where
-        twice : (b : Bool) → not b ≡ false → b ≡ true
-        twice true g = refl
-        twice false g = true-false refl g
+    go : (b : Bool) → isChoice left ≡ b → isChoice left ≡ true
+    go true q = q
+    go false q = true-false refl (rw q at e)
+
+-- two paths of a choice that don't clash part at a choice
+choice-apart : (T : Table) (τ : ℕ) (need : Need) (ms ps qs : List ℕ) → clash T (choice need ms) τ ps qs ≡ false → (κ : Kind) × (parting T τ ps qs .behind ≡ apart κ) × (isChoice κ ≡ true)
+unfolding clash clashReason whereOneEnds isThere
+choice-apart T τ need ms ps qs e = go (parting T τ ps qs .behind) refl
+  where
+    go : (b : Behind) → parting T τ ps qs .behind ≡ b → (κ : Kind) × (parting T τ ps qs .behind ≡ apart κ) × (isChoice κ ≡ true)
+    go both-end f = true-false refl (rw f at e)
+    go first-ends f = true-false refl (rw f at e)
+    go second-ends f = true-false refl (rw f at e)
+    go (apart κ) f = (κ, f, leaves-choice need ms κ (rw f at e))
 
 -- so they take the same steps before their first choice step
-part-agree : (T : Table) (τ : ℕ) (ps qs : List ℕ) (κ : Kind) → parting T τ ps qs ≡ apart κ → isChoice κ ≡ true → beforeChoice T τ ps ≡ beforeChoice T τ qs
+part-agree : (T : Table) (τ : ℕ) (ps qs : List ℕ) (κ : Kind) → parting T τ ps qs .behind ≡ apart κ → isChoice κ ≡ true → beforeChoice T τ ps ≡ beforeChoice T τ qs
 unfolding parting beforeChoice
-part-agree T τ [] qs κ e c = let z : _≡_ {A = ℕ} 0 1 = cc in absurd (omega arith)
+part-agree T τ [] [] κ e c = refl
+part-agree T τ [] (q ∷ qs) κ e c = let z : _≡_ {A = ℕ} 0 1 = cc in absurd (omega arith)
 part-agree T τ (p ∷ ps) [] κ e c = let z : _≡_ {A = ℕ} 0 1 = cc in absurd (omega arith)
 part-agree T τ (p ∷ ps) (q ∷ qs) κ e c = go (eqb p q) refl (part-agree T (next T τ p) ps qs κ)
   where
-    go : (b : Bool) → eqb p q ≡ b → (parting T (next T τ p) ps qs ≡ apart κ → isChoice κ ≡ true → beforeChoice T (next T τ p) ps ≡ beforeChoice T (next T τ p) qs)
+    go : (b : Bool) → eqb p q ≡ b → (parting T (next T τ p) ps qs .behind ≡ apart κ → isChoice κ ≡ true → beforeChoice T (next T τ p) ps ≡ beforeChoice T (next T τ p) qs)
         → pick (isChoice (kindOf T τ)) [] (p ∷ beforeChoice T (next T τ p) ps) ≡ pick (isChoice (kindOf T τ)) [] (q ∷ beforeChoice T (next T τ q) qs)
     go true d rec =
-        ap (λ (later : List ℕ). pick (isChoice (kindOf T τ)) [] (p ∷ later)) (rec (sym (pick-true (eqb p q) _ _ d) ∙ e) c)
+        ap (λ (later : List ℕ). pick (isChoice (kindOf T τ)) [] (p ∷ later)) (rec (sym (behind-shared T τ p q ps qs d) ∙ e) c)
         ∙ ap (λ (i : ℕ). pick (isChoice (kindOf T τ)) [] (i ∷ beforeChoice T (next T τ i) qs)) (eqb-true p q d)
     go false d rec =
-        let parts : apart (kindOf T τ) ≡ apart κ = sym (pick-false (eqb p q) (parting T (next T τ p) ps qs) (apart (kindOf T τ)) d) ∙ e in
-        let here : kindOf T τ ≡ κ = cc in
+        let here : kindOf T τ ≡ κ = apart-kind (sym (behind-differs T τ p q ps qs d) ∙ e) in
         let choosing : isChoice (kindOf T τ) ≡ true = rw here c in
         pick-true (isChoice (kindOf T τ)) [] _ choosing ∙ sym (pick-true (isChoice (kindOf T τ)) [] _ choosing)
 
@@ -494,7 +502,7 @@ module _ (X : Setting) (wf : WellFormed (X .target)) (fs : List Content) (read :
       (λ same empty-there. not-empty (X .target) τ path _ image (optional-left same) found (rw agrees-with-first at empty-there))
       (choice-back X fs read τ m (choice need ms) _ image k p al pr there found
       (λ qs w f.
-      let apart-at : (κ : Kind) × (parting (X .target) τ qs path ≡ apart κ) × (isChoice κ ≡ true) = choice-apart (X .target) τ need ms qs path f in
+      let apart-at : (κ : Kind) × (parting (X .target) τ qs path .behind ≡ apart κ) × (isChoice κ ≡ true) = choice-apart (X .target) τ need ms qs path f in
       absent qs (apart-at .0) w (apart-at .1) (apart-at .2)))
     where
       image : Content
@@ -509,7 +517,7 @@ module _ (X : Setting) (wf : WellFormed (X .target)) (fs : List Content) (read :
       found : follow (X .target) τ path (place content (X .target) fs τ (placed path image ∷ [])) ≡ some image
       found = one-found τ path image (walks .0) (walks .1)
 
-      absent : (qs : List ℕ) (κ : Kind) → Walks (X .target) τ qs → parting (X .target) τ qs path ≡ apart κ → isChoice κ ≡ true
+      absent : (qs : List ℕ) (κ : Kind) → Walks (X .target) τ qs → parting (X .target) τ qs path .behind ≡ apart κ → isChoice κ ≡ true
           → follow (X .target) τ qs (place content (X .target) fs τ (placed path image ∷ [])) ≡ none
       absent qs κ w parts choosing = unfold place in not-there (X .target) fs wf maxSteps τ path qs image κ (walks .0) w (walks .1) parts choosing
 

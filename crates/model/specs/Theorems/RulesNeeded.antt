@@ -38,7 +38,7 @@ pub record PrefixRuleTooWeak : Type 0 where
   pub operands : embeddingOperands (tableOf twoChoicesTable) partingEmbedding ≡ passes
   pub ends : wrongEnd (tableOf choiceTable) (tableOf twoChoicesTable) (embeddingOf partingEmbedding) ≡ passes
   pub steps : wrongSteps (tableOf choiceTable) (tableOf twoChoicesTable) (embeddingOf partingEmbedding) ≡ passes
-  pub no-beginning : parting (tableOf twoChoicesTable) 0 (1 ∷ 1 ∷ []) (2 ∷ 1 ∷ []) ≡ apart (sequence (1 ∷ 1 ∷ []))
+  pub no-beginning : parting (tableOf twoChoicesTable) 0 (1 ∷ 1 ∷ []) (2 ∷ 1 ∷ []) .behind ≡ apart (sequence (1 ∷ 1 ∷ []))
   pub first-accepted : judgeTree choiceTable (document 0 (chosenDocument 1)) ≡ accepted 2 0
   pub second-accepted : judgeTree choiceTable (document 0 (chosenDocument 2)) ≡ accepted 2 0
   pub different : chosenDocument 1 ≡ chosenDocument 2 → ⊥

@@ -2,22 +2,22 @@
 -- be walked exactly where `ValidEmbedding` says that its steps exist.
 use mathlib.Core.Path.{_≡_, refl, sym, ap, ap₂, _∙_, subst}
 use mathlib.Core.Bool.{Bool, true, false, not, _&&_, _||_}
-use mathlib.Core.List.{List, [], _∷_, _++_, append-nil, List·Memᴰ, List·Memᴰ·head, List·Memᴰ·tail, List·Memᴰ·not-nil, List·Memᴰ·cases-cons}
+use mathlib.Core.List.{List, [], _∷_, _++_, List·Memᴰ, List·Memᴰ·head, List·Memᴰ·tail, List·Memᴰ·not-nil, List·Memᴰ·cases-cons}
 use mathlib.Core.Logic.{_↔_, Iff·rfl, _⊎_, inl, inr}
-use mathlib.Core.Option.{some}
+use mathlib.Core.Option.{none, some}
 use Prim.Native.Nat.{ℕ, _≤_}
 use native.Mathlib.Omega.{arith}
 use lib.ListN.{length}
 use lib.Dec.{eqb}
-use borrow.Author.Tests.{eqb-true, eq-eqb, eqb-false, ne-eqb, not-true, not-false}
-use Rattle.model.specs.Definitions.Basics.{some-of}
+use Rattle.model.specs.Definitions.Basics.{pick, some-of, isThere}
 use Rattle.model.specs.Definitions.Commands.{needed, optional}
 use Rattle.model.specs.Definitions.Table.{Kind, text, empty, sequence, choice, list, Table, kindOf, stepFrom, isSequence, isChoice, isOptional, isList}
-use Rattle.model.specs.Definitions.Embedding.{next, endOf, leaves, Parting, beginning, apart, parting, beforeChoice, sameSteps}
-use Rattle.model.specs.Definitions.EmbeddingChecks.{leavesOnly, sequenceOrList, optionalFirst, rightSteps, agrees, clashing, clash}
-use Rattle.model.specs.Definitions.ValidEmbedding.{StepsExist, Each, AtLeastOne, SequenceOrList, AnyWithSteps, FirstChoiceOptional, RightKinds, StepsRight, BeginningOf, Apart, PartAtChoice, NoClash}
+use Rattle.model.specs.Definitions.Embedding.{next, leaves, Behind, both-end, first-ends, second-ends, apart, parting, beforeChoice, sameSteps}
+use Rattle.model.specs.Definitions.EmbeddingChecks.{leavesOnly, sequenceOrList, optionalFirst, rightSteps, agrees, Reason, part-at-sequence, whereOneEnds, wherePathsPart, clashReason, clash}
+use Rattle.model.specs.Definitions.ValidEmbedding.{StepsExist, Each, AtLeastOne, SequenceOrList, AnyWithSteps, FirstChoiceOptional, RightKinds, StepsRight, Apart, PartAt, NoClash}
 use Rattle.model.specs.Theorems.Facts.{Walks, arrived, onward}
 use Rattle.model.specs.Theorems.Tools.{true-false, pick-true, pick-false, Decides, either, both, equal, some-passes, none-passes}
+use Rattle.model.specs.Theorems.Partings.{lies, part-behind, apart-kind, parted-apart, apart-goes-on}
 use Rattle.model.specs.Theorems.Placing.{next-is, no-text-step, no-empty-step}
 
 -- ---- steps that exist
@@ -172,129 +172,46 @@ steps-right T κ τ first ps walks =
     let d = both _ _ (right-kinds κ (leaves T τ ps) (walks-leave walks)) (path-agrees T κ τ first ps) in
     (λ h. record { right-kinds = d .0 h .0; agree = d .0 h .1 }, λ r. d .1 (r .right-kinds, r .agree))
 
--- ---- where two paths part
+-- ---- two paths
 
--- paths that part don't begin each other
-beginning-apart {ℓ} : {X : Type ℓ} {κ : Kind} {v : Parting} → v ≡ beginning → v ≡ apart κ → X
-beginning-apart {κ = κ} {v} p q = let z : _≡_ {A = ℕ} 0 1 = cc in absurd (omega arith)
+-- the test of check 10, by what stands behind the shared steps
+module _ (T : Table) (τ : ℕ) (ps qs : List ℕ) where
+  -- one path ends there
+  one-ends : (κ : Kind) (why : Reason) → (Apart ps qs → ⊥) → Decides (not (isThere (whereOneEnds κ why))) (NoClash T κ τ ps qs)
+  unfolding whereOneEnds NoClash isThere
+  one-ends text why joined = (λ h. tt, λ h. refl)
+  one-ends empty why joined = (λ h. tt, λ h. refl)
+  one-ends (sequence ms) why joined = (λ h. true-false h refl, λ a. absurd (joined a))
+  one-ends (choice need ms) why joined = (λ h. true-false h refl, λ a. absurd (joined (a .0)))
+  one-ends (list m) why joined = (λ h. tt, λ h. refl)
 
--- a path doesn't part from one that it begins, nor from one that it goes on from
-begins-other : (T : Table) (τ : ℕ) (ps rest : List ℕ) → parting T τ ps (ps ++ rest) ≡ beginning
-unfolding parting
-begins-other T τ [] rest = refl
-begins-other T τ (p ∷ ps) rest = pick-true (eqb p p) _ _ (eq-eqb p p refl) ∙ begins-other T (next T τ p) ps rest
+  -- they part
+  they-part : (κ left : Kind) → parting T τ ps qs .behind ≡ apart left → Decides (not (isThere (wherePathsPart κ left))) (NoClash T κ τ ps qs)
+  unfolding wherePathsPart NoClash isThere pick
+  they-part text left e = (λ h. tt, λ h. refl)
+  they-part empty left e = (λ h. tt, λ h. refl)
+  they-part (sequence ms) left e = (λ h. parted-apart T τ ps qs e, λ a. refl)
+  they-part (choice need ms) left e = go (isChoice left) refl
+    where
+      go : (b : Bool) → isChoice left ≡ b → Decides (not (isThere (pick b none (some part-at-sequence)))) (Apart ps qs × PartAt isChoice T τ ps qs)
+      go true q = (λ h. (parted-apart T τ ps qs e, lies T τ ps qs e isChoice q), λ h. refl)
+      go false q = (
+        λ h. true-false h refl,
+        λ h.
+            let same = apart-kind (sym (part-behind T τ (h .1)) ∙ e) in
+            true-false (rw same at (h .1 .leaves-such)) q,
+      )
+  they-part (list m) left e = (λ h. tt, λ h. refl)
 
-goes-on : (T : Table) (τ : ℕ) (qs rest : List ℕ) → parting T τ (qs ++ rest) qs ≡ beginning
-unfolding parting
-goes-on T τ [] [] = refl
-goes-on T τ [] (r ∷ rest) = refl
-goes-on T τ (q ∷ qs) rest = pick-true (eqb q q) _ _ (eq-eqb q q refl) ∙ goes-on T (next T τ q) qs rest
-
--- of two paths that don't part one begins the other
-one-begins : (T : Table) (τ : ℕ) (ps qs : List ℕ) → parting T τ ps qs ≡ beginning → BeginningOf ps qs ⊎ BeginningOf qs ps
-unfolding parting BeginningOf
-one-begins T τ [] qs e = inl (qs, refl)
-one-begins T τ (p ∷ ps) [] e = inr (p ∷ ps, refl)
-one-begins T τ (p ∷ ps) (q ∷ qs) e = go (eqb p q) refl (one-begins T (next T τ p) ps qs)
-  where
-    further : p ≡ q → BeginningOf ps qs ⊎ BeginningOf qs ps → BeginningOf (p ∷ ps) (q ∷ qs) ⊎ BeginningOf (q ∷ qs) (p ∷ ps)
-    further same (inl b) = inl (b .0, cc)
-    further same (inr b) = inr (b .0, cc)
-
-    go : (b : Bool) → eqb p q ≡ b → (parting T (next T τ p) ps qs ≡ beginning → BeginningOf ps qs ⊎ BeginningOf qs ps)
-        → BeginningOf (p ∷ ps) (q ∷ qs) ⊎ BeginningOf (q ∷ qs) (p ∷ ps)
-    go true d later = further (eqb-true p q d) (later (sym (pick-true (eqb p q) _ _ d) ∙ e))
-    go false d later = beginning-apart e (pick-false (eqb p q) (parting T (next T τ p) ps qs) (apart (kindOf T τ)) d)
-
--- so two paths that part are apart
-parted-apart : (T : Table) (τ : ℕ) (ps qs : List ℕ) {κ : Kind} → parting T τ ps qs ≡ apart κ → Apart ps qs
-unfolding BeginningOf
-parted-apart T τ ps qs parts =
-    record {
-      not-beginning = begun;
-      not-continuation = λ b. beginning-apart (rw (b .1) (goes-on T τ qs (b .0))) parts;
-      differ = λ same. begun ([], sym same ∙ sym (append-nil ps));
-    }
-  where
-    begun : BeginningOf ps qs → ⊥
-    begun b = beginning-apart (rw (b .1) (begins-other T τ ps (b .0))) parts
-
--- and two that are apart part
-apart-parted {ℓ} : {X : Type ℓ} (T : Table) (τ : ℕ) (ps qs : List ℕ) → Apart ps qs → parting T τ ps qs ≡ beginning → X
-apart-parted {X = X} T τ ps qs a e = go (one-begins T τ ps qs e)
-  where
-    go : BeginningOf ps qs ⊎ BeginningOf qs ps → X
-    go (inl b) = absurd (a .not-beginning b)
-    go (inr b) = absurd (a .not-continuation b)
-
--- two paths that part where a choice is left have that as the first step where they differ
-parted-at-choice : (T : Table) (τ : ℕ) (ps qs : List ℕ) (κ : Kind) → parting T τ ps qs ≡ apart κ → isChoice κ ≡ true → PartAtChoice T τ ps qs
-unfolding parting endOf
-parted-at-choice T τ [] qs κ e chooses = beginning-apart refl e
-parted-at-choice T τ (p ∷ ps) [] κ e chooses = beginning-apart refl e
-parted-at-choice T τ (p ∷ ps) (q ∷ qs) κ e chooses = go (eqb p q) refl (λ parts. parted-at-choice T (next T τ p) ps qs κ parts chooses)
-  where
-    go : (b : Bool) → eqb p q ≡ b → (parting T (next T τ p) ps qs ≡ apart κ → PartAtChoice T (next T τ p) ps qs) → PartAtChoice T τ (p ∷ ps) (q ∷ qs)
-    go true d later =
-        let r = later (sym (pick-true (eqb p q) _ _ d) ∙ e) in
-        let same = eqb-true p q d in
-        record {
-          shared = p ∷ r .shared;
-          p = r .p;
-          q = r .q;
-          behind-p = r .behind-p;
-          behind-q = r .behind-q;
-          one = ap (λ (l : List ℕ). p ∷ l) (r .one);
-          other = ap₂ (λ (n : ℕ) (l : List ℕ). n ∷ l) (sym same) (r .other);
-          differ-here = r .differ-here;
-          leaves-choice = r .leaves-choice;
-        }
-    go false d later =
-        let parts : apart (kindOf T τ) ≡ apart κ = sym (pick-false (eqb p q) (parting T (next T τ p) ps qs) (apart (kindOf T τ)) d) ∙ e in
-        let same : κ ≡ kindOf T τ = cc in
-        record {
-          shared = [];
-          p = p;
-          q = q;
-          behind-p = ps;
-          behind-q = qs;
-          one = refl;
-          other = refl;
-          differ-here = eqb-false p q d;
-          leaves-choice = rw same at chooses;
-        }
-
--- and two paths part at the first step where they differ
-differ-part : (T : Table) (τ : ℕ) (shared : List ℕ) (p q : ℕ) (ps qs : List ℕ) → (p ≡ q → ⊥)
-    → parting T τ (shared ++ p ∷ ps) (shared ++ q ∷ qs) ≡ apart (kindOf T (endOf T τ shared))
-unfolding parting endOf
-differ-part T τ [] p q ps qs differ = pick-false (eqb p q) _ _ (ne-eqb p q differ)
-differ-part T τ (s ∷ shared) p q ps qs differ = pick-true (eqb s s) _ _ (eq-eqb s s refl) ∙ differ-part T (next T τ s) shared p q ps qs differ
-
--- which leaves a choice, if that is where they should part
-choice-parted : (T : Table) (τ : ℕ) (ps qs : List ℕ) (κ : Kind) → PartAtChoice T τ ps qs → parting T τ ps qs ≡ apart κ → isChoice κ ≡ true
-choice-parted T τ ps qs κ r e =
-    let here = differ-part T τ (r .shared) (r .p) (r .q) (r .behind-p) (r .behind-q) (r .differ-here) in
-    let parts : parting T τ ps qs ≡ apart (kindOf T (endOf T τ (r .shared))) = rw (r .one, r .other) here in
-    let same : κ ≡ kindOf T (endOf T τ (r .shared)) = cc in
-    rw same (r .leaves-choice)
-
--- the test of check 10
 pub no-clash : (T : Table) (κ : Kind) (τ : ℕ) (ps qs : List ℕ) → Decides (not (clash T κ τ ps qs)) (NoClash T κ τ ps qs)
-unfolding clash clashing NoClash
-no-clash T text τ ps qs = (λ h. tt, λ h. refl)
-no-clash T empty τ ps qs = (λ h. tt, λ h. refl)
-no-clash T (sequence ms) τ ps qs = go (parting T τ ps qs) refl
+unfolding clash clashReason
+no-clash T κ τ ps qs = go (parting T τ ps qs .behind) refl
   where
-    go : (v : Parting) → parting T τ ps qs ≡ v → Decides (not (clashing (sequence ms) v)) (Apart ps qs)
-    go beginning e = (λ h. true-false h refl, λ a. apart-parted T τ ps qs a e)
-    go (apart κ) e = (λ h. parted-apart T τ ps qs e, λ a. refl)
-no-clash T (choice need ms) τ ps qs = go (parting T τ ps qs) refl
-  where
-    go : (v : Parting) → parting T τ ps qs ≡ v → Decides (not (clashing (choice need ms) v)) (Apart ps qs × PartAtChoice T τ ps qs)
-    go beginning e = (λ h. true-false h refl, λ h. apart-parted T τ ps qs (h .0) e)
-    go (apart κ) e = (
-      λ h. (parted-apart T τ ps qs e, parted-at-choice T τ ps qs κ e (not-false _ (not-true _ h))),
-      λ h. rw (choice-parted T τ ps qs κ (h .1) e),
-    )
-no-clash T (list m) τ ps qs = (λ h. tt, λ h. refl)
+    joined : Apart ps qs → ((parting T τ ps qs .behind ≡ both-end → ⊥) × (parting T τ ps qs .behind ≡ first-ends → ⊥) × (parting T τ ps qs .behind ≡ second-ends → ⊥))
+    joined a = apart-goes-on T τ ps qs a
+
+    go : (b : Behind) → parting T τ ps qs .behind ≡ b → Decides (not (isThere (clashReason κ b))) (NoClash T κ τ ps qs)
+    go both-end e = one-ends T τ ps qs κ _ (λ a. joined a .0 e)
+    go first-ends e = one-ends T τ ps qs κ _ (λ a. joined a .1 e)
+    go second-ends e = one-ends T τ ps qs κ _ (λ a. joined a .2 e)
+    go (apart left) e = they-part T τ ps qs κ left e

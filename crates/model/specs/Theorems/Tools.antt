@@ -1,15 +1,15 @@
 -- Laws of the tools of `Basics` and of tests, used by all theorems.
-use mathlib.Core.Path.{_≡_, refl, ap}
+use mathlib.Core.Path.{_≡_, refl, ap, _∙_}
 use mathlib.Core.Bool.{Bool, true, false, not, _&&_, _||_}
 use mathlib.Core.List.{List, [], _∷_, List·Memᴰ, List·Memᴰ·head, List·Memᴰ·tail}
 use mathlib.Core.Logic.{_↔_, Iff·rfl, _⊎_, inl, inr}
 use mathlib.Core.Option.{Option, none, some}
-use Prim.Native.Nat.{ℕ, zero, suc, _+_, _-_, _≤_}
+use Prim.Native.Nat.{ℕ, zero, suc, _+_, _-_, _≤_, _<_}
 use native.Mathlib.Omega.{arith}
 use lib.ListN.{length, getD}
 use lib.Dec.{eqb}
-use borrow.Author.Tests.{eqb-true, eq-eqb, not-true}
-use Rattle.model.specs.Definitions.Basics.{pick, entry, memberOf, some-of}
+use borrow.Author.Tests.{eqb-true, eqb-false, eq-eqb, not-true}
+use Rattle.model.specs.Definitions.Basics.{pick, entry, memberOf, some-of, orNext, firstFound}
 
 -- a choice by a test whose answer is known
 pub pick-true {ℓ} : {X : Type ℓ} (b : Bool) (x y : X) → b ≡ true → pick b x y ≡ x
@@ -64,18 +64,25 @@ entry-member (suc p) [] {x} e = some-none e refl
 entry-member (suc zero) (y ∷ xs) {x} e = let same : x ≡ y = cc in List·Memᴰ·head same
 entry-member (suc (suc p)) (y ∷ xs) {x} e = List·Memᴰ·tail (entry-member (suc p) xs e)
 
--- an entry of a list of numbers stands at its position
-pub entry-at : (p : ℕ) (xs : List ℕ) (m : ℕ) → entry p xs ≡ some m → (1 ≤ p) × (p ≤ length xs) × (getD xs (p - 1) 0 ≡ m)
+-- an entry stands at its position
+pub entry-at : {A : Type 0} (d : A) (p : ℕ) (xs : List A) (m : A) → entry p xs ≡ some m → (1 ≤ p) × (p ≤ length xs) × (getD xs (p - 1) d ≡ m)
 unfolding entry
-entry-at zero xs m e = some-none e refl
-entry-at (suc p) [] m e = some-none e refl
-entry-at (suc zero) (x ∷ xs) m e = (omega arith, omega arith, cc)
-entry-at (suc (suc p)) (x ∷ xs) m e =
-    let later = entry-at (suc p) xs m e in
+entry-at d zero xs m e = some-none e refl
+entry-at d (suc p) [] m e = some-none e refl
+entry-at d (suc zero) (x ∷ xs) m e = (omega arith, omega arith, cc)
+entry-at d (suc (suc p)) (x ∷ xs) m e =
+    let later = entry-at d (suc p) xs m e in
     let less : suc (suc p) - 1 ≡ suc p = omega arith in
     let less′ : suc p - 1 ≡ p = omega arith in
-    let same : getD xs p 0 ≡ m = rw less′ at (later .2) in
+    let same : getD xs p d ≡ m = rw less′ at (later .2) in
     (omega arith, omega (arith, later .1), rw less same)
+
+-- and what stands at a position is an entry
+pub at-entry : {A : Type 0} (d : A) (i : ℕ) (xs : List A) → i < length xs → entry (suc i) xs ≡ some (getD xs i d)
+unfolding entry
+at-entry d i [] h = absurd (omega arith)
+at-entry d zero (x ∷ xs) h = refl
+at-entry d (suc i) (x ∷ xs) h = at-entry d i xs (omega arith)
 
 pub one-plus : (j : ℕ) → 1 + j ≡ suc j
 one-plus j = omega arith
@@ -151,3 +158,50 @@ none-passes {A} {P} test d xs = (each, none-does)
 
     none-does : ((x : A) → List·Memᴰ x xs → P x) → not (some-of test xs) ≡ true
     none-does all = ap not (refuted _ some-does (λ s. true-false (s .2) (not-true _ (d (s .0) .1 (all (s .0) (s .1))))))
+
+-- ---- the first that is there
+
+module _ {A : Type 0} (found : ℕ → Option A) where
+  -- it is there, and nothing is at the numbers before
+  pub record FirstAt (i k : ℕ) (x : A) : Type 0 where
+    pub number : ℕ
+    pub from : i ≤ number
+    pub below : number < i + k
+    pub there : found number ≡ some x
+    pub none-before : (m : ℕ) → i ≤ m → m < number → found m ≡ none
+
+  -- nothing at a number, nor at some behind it
+  none-more : {i n : ℕ} → found i ≡ none → ((m : ℕ) → suc i ≤ m → m < n → found m ≡ none) → (m : ℕ) → i ≤ m → m < n → found m ≡ none
+  none-more {i} {n} here later m from less = go (eqb m i) refl
+    where
+      go : (b : Bool) → eqb m i ≡ b → found m ≡ none
+      go true e = rw (eqb-true m i e) here
+      go false e = later m (omega (arith, eqb-false m i e)) less
+
+  pub first-there : (i k : ℕ) {x : A} → firstFound found i k ≡ some x → FirstAt i k x
+  unfolding firstFound orNext
+  first-there i zero e = some-none e refl
+  first-there i (suc k) {x} e = go (found i) refl (first-there (suc i) k)
+    where
+      go : (o : Option A) → found i ≡ o → (firstFound found (suc i) k ≡ some x → FirstAt (suc i) k x) → FirstAt i (suc k) x
+      go (some y) q later =
+          let here : some y ≡ some x = rw q at e in
+          record { number = i; from = omega arith; below = omega arith; there = q ∙ here; none-before = λ m from less. absurd (omega arith) }
+      go none q later =
+          let r = later (rw q at e) in
+          record {
+            number = r .number;
+            from = omega (arith, r .from);
+            below = omega (arith, r .below);
+            there = r .there;
+            none-before = none-more q (r .none-before);
+          }
+
+  pub first-nowhere : (i k : ℕ) → firstFound found i k ≡ none → (m : ℕ) → i ≤ m → m < i + k → found m ≡ none
+  unfolding firstFound orNext
+  first-nowhere i zero e m from less = absurd (omega arith)
+  first-nowhere i (suc k) e m from less = go (found i) refl (first-nowhere (suc i) k)
+    where
+      go : (o : Option A) → found i ≡ o → (firstFound found (suc i) k ≡ none → (m : ℕ) → suc i ≤ m → m < suc i + k → found m ≡ none) → found m ≡ none
+      go (some y) q later = some-none refl (rw q at e)
+      go none q later = none-more q (λ m from less. later (rw q at e) m from (omega arith)) m from less

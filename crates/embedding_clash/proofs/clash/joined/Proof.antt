@@ -7,6 +7,6 @@ pub joined-spec : {M : Type 1} → statement M
 joined-spec =
     tie.close
     (tie.spec
-    (λ c. joined-row _ (c .before .if1 .left) (c .if2 .taken))
-    (λ c. joined-below _ (c .if1 .taken))
-    (λ c. joined-list _ (c .if2 .left)))
+    (λ c. joined-row _ _ (c .before .if1 .left) (c .if2 .taken))
+    (λ c. joined-below _ _ (c .if1 .taken))
+    (λ c. joined-list _ _ (c .if2 .left)))
