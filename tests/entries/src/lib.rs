@@ -2,18 +2,20 @@
 //! compared with the cases and answers of the reference.
 //!
 //! A [`Tally`] runs cases through both, compares, and counts the answers of each;
-//! every test of an entry is built on it. [`decimal`] is no entry: it writes a
-//! number.
+//! every test of an entry is built on it. [`Explanations`] does the same for the
+//! explanations of clashes. [`decimal`] is no entry: it writes a number.
 
 mod decimal;
+mod explanation;
 mod setting;
 mod sides;
 mod tally;
 
 pub use decimal::{decimal, MOST_DIGITS};
+pub use explanation::{call_explain, explain, read_explanation, CExplanation, Explained, Explanations};
 pub use setting::Setting;
 pub use sides::{Pair, Side, Sides};
-pub use tally::{refused_by, Histogram, Kind, Refused, Tally, DAMAGED};
+pub use tally::{answers_of, refused_by, Histogram, Kind, Refused, Tally, DAMAGED};
 
 use lafindry_reference::generate::Rng;
 use lafindry_reference::vectors::{Answer, Case, Entry, JUNK};

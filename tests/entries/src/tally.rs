@@ -243,7 +243,7 @@ impl Histogram {
 }
 
 /// The answers that an entry can give.
-fn answers_of(entry: Entry) -> Vec<Refused> {
+pub fn answers_of(entry: Entry) -> Vec<Refused> {
     let refusals = (1..=LAST_REFUSAL).flat_map(|number| DOCUMENTS.map(|document| (number, document)));
     let all = std::iter::once((0, 0)).chain(refusals);
     all.filter(|&refused| can_answer(entry, refused)).collect()

@@ -4,11 +4,12 @@
 
 mod page;
 
-use lafindry_entries::{ensure, report, Failure, Tally};
+use lafindry_entries::{ensure, report, Explained, Explanations, Failure, Tally};
+use lafindry_reference::explanation::Reason;
 use lafindry_reference::table::accept;
 use lafindry_reference::vectors::{Answer, Case, Entry};
 use lafindry_reference::{MOST_BYTES, TARGET};
-use page::examples::{Example, Examples};
+use page::examples::{Asked, Example, Examples};
 use page::terms::byte_of;
 use page::{drawings, spans, Page, PAGE};
 
@@ -24,11 +25,12 @@ fn page_text() -> Result<String, Failure> {
 }
 
 /// What a page has: its cases, the images among their answers brought back,
-/// drawings, and rows of bytes elsewhere.
+/// explanations of clashes, drawings, and rows of bytes elsewhere.
 #[derive(Default)]
 struct Seen {
     cases: Tally,
     returns: Tally,
+    explanations: Explanations,
     drawings: usize,
     spans: usize,
 }
@@ -49,7 +51,10 @@ fn check_page(text: &str) -> Result<Seen, Failure> {
 /// Compares the page's answer with the reference's and with the library's. A
 /// document that was carried has to come back.
 fn check_example(example: &Example, seen: &mut Seen) -> Result<(), Failure> {
-    let Example { case, answer, heights, .. } = example;
+    let (case, answer, heights) = match &example.asked {
+        Asked::Entry { case, answer, heights } => (case, answer, heights),
+        Asked::Explanation { question, stated } => return seen.explanations.compare_with(question, stated),
+    };
     seen.cases.compare_with(case, answer)?;
     if let Some(heights) = heights {
         check_heights(case, heights)?;
@@ -81,17 +86,20 @@ fn comes_back(case: &Case, image: &[u8], tally: &mut Tally) -> Result<(), Failur
 #[test]
 fn examples_of_the_page_agree() -> Result<(), Failure> {
     let text = page_text()?;
-    let Seen { cases, returns, drawings, spans } = check_page(&text)?;
+    let Seen { cases, returns, explanations, drawings, spans } = check_page(&text)?;
     let histogram = cases.finish(PAGE)?;
     returns.finish(&format!("{PAGE}, images brought back"))?;
+    let explained = explanations.finish(&format!("{PAGE}, explanations"))?;
     report(&format!("{PAGE}: {drawings} drawings and {spans} rows of bytes stand in their documents"));
     let blocks = text.lines().filter(|line| line.trim_start().starts_with("```case")).count();
-    ensure(histogram.total() == blocks, format!("{} cases in {blocks} code blocks", histogram.total()))?;
-    ensure(blocks >= 108 && drawings >= 13 && spans >= 9, "fewer examples than the page had")?;
+    let total = histogram.total() + explained.values().sum::<usize>();
+    ensure(total == blocks, format!("{total} cases in {blocks} code blocks"))?;
+    ensure(blocks >= 117 && drawings >= 13 && spans >= 9, "fewer examples than the page had")?;
     for number in 0..=15 {
         ensure(histogram.of_any(number) > 0, format!("no example of refusal {number} (0: accepted)"))?;
     }
-    Ok(())
+    let missing = Reason::ALL.into_iter().find(|&reason| !explained.contains_key(&Explained::Clash(reason)));
+    ensure(missing.is_none(), format!("no example of a clash explained by {missing:?}"))
 }
 
 /// The files of examples, and the documents of the page that they hold.
@@ -119,10 +127,21 @@ fn files_are_those_of_the_page() -> Result<(), Failure> {
     Ok(())
 }
 
-/// The line with its last number increased by one.
+/// The line with its last number increased by one; the reason for a clash may
+/// stand behind it.
 fn other_number(line: &str) -> Option<String> {
-    let (before, number) = line.rsplit_once(' ')?;
-    Some(format!("{before} {}", number.parse::<u64>().ok()? + 1))
+    let (before, last) = line.rsplit_once(' ')?;
+    match last.parse::<u64>() {
+        Ok(number) => Some(format!("{before} {}", number + 1)),
+        Err(_) => Some(format!("{} {last}", other_number(before)?)),
+    }
+}
+
+/// The line with another reason for the one that stands last.
+fn other_reason(line: &str) -> Option<String> {
+    let (before, last) = line.rsplit_once(' ')?;
+    let at = Reason::ALL.iter().position(|reason| reason.name() == last)?;
+    Some(format!("{before} {}", Reason::ALL[(at + 1) % 4].name()))
 }
 
 /// The line with another byte for the first of at least so many in a row, from
@@ -138,11 +157,14 @@ fn other_byte(line: &str, from: usize, least: usize) -> Option<String> {
     Some(format!("{}8E{}", &line[..found], &line[found + 2..]))
 }
 
-/// A line of the page with one change that has to be noticed, if it is of a
+/// A line of the page with each change that has to be noticed, if it is of a
 /// kind that has one; `inside` is the kind of code block around it.
-fn changed(line: &str, inside: Option<&str>) -> Option<String> {
-    match inside {
-        Some("case") if line.starts_with("answer: ") || line.starts_with("heights: ") => other_number(line),
+fn changed(line: &str, inside: Option<&str>) -> Vec<String> {
+    let other = match inside {
+        Some("case") if line.starts_with("answer: ") => {
+            return other_number(line).into_iter().chain(other_reason(line)).collect();
+        }
+        Some("case") if line.starts_with("heights: ") => other_number(line),
         Some("case") if line.starts_with("output: ") => other_byte(line, "output: ".len(), 1),
         Some("bytes") => {
             let offset = line.len() - line.trim_start().len() + line.trim_start().find(' ').unwrap_or(0);
@@ -150,14 +172,15 @@ fn changed(line: &str, inside: Option<&str>) -> Option<String> {
         }
         Some("characters") => Some(line.replacen(' ', " x ", 1)),
         Some("text") => other_byte(line, 0, 3),
-        None => other_byte(line, line.find('`')?, 3),
+        None => line.find('`').and_then(|first| other_byte(line, first, 3)),
         _ => None,
-    }
+    };
+    other.into_iter().collect()
 }
 
-#[test]
-fn a_changed_page_fails() -> Result<(), Failure> {
-    let text = page_text()?;
+/// Tries every change of a line of a page; each has to be noticed. Gives how many
+/// there are.
+fn try_changes(text: &str) -> Result<usize, Failure> {
     let lines: Vec<&str> = text.lines().collect();
     let (mut inside, mut tried) = (None, 0);
     for (at, line) in lines.iter().enumerate() {
@@ -165,13 +188,71 @@ fn a_changed_page_fails() -> Result<(), Failure> {
             inside = inside.is_none().then_some(kind);
             continue;
         }
-        if let Some(other) = changed(line, inside) {
+        for other in changed(line, inside) {
             let whole = [&lines[..at], &[other.as_str()], &lines[at + 1..]].concat().join("\n");
             let noticed = check_page(&whole).is_err();
             ensure(noticed, format!("{PAGE}:{}: '{other}' in its place is not noticed", at + 1))?;
             tried += 1;
         }
     }
+    Ok(tried)
+}
+
+#[test]
+fn a_changed_page_fails() -> Result<(), Failure> {
+    let tried = try_changes(&page_text()?)?;
     report(&format!("{PAGE}: {tried} changes of a line are noticed"));
     ensure(tried >= 300, format!("only {tried} changes tried"))
+}
+
+/// A page with explanations in each form.
+const EXPLAINING: &str = "\
+```case
+name: equal
+entry: explain clash
+source: 17 15 01 15 02 11 11 1F
+target: 17 15 01 11 1F
+embedding: 20 00 21 22 01 21 22 01 20 01 20 01 2F
+answer: clash 0 1 2 1 equal
+```
+
+```case
+like: equal
+entry: explain clash
+embedding: equal.embedding[0..5] 21 22 02
+  equal.embedding[8..]
+answer: none refused 4 3 6
+```
+
+```case
+like: equal
+entry: explain clash
+target: equal.source
+embedding: equal.embedding[0..7] 02 20 01 20 02 2F
+answer: none accepted 2
+```
+";
+
+#[test]
+fn explanations_on_a_page_are_read() -> Result<(), Failure> {
+    let seen = check_page(EXPLAINING)?;
+    let explained: usize = seen.explanations.finish("a page with explanations")?.values().sum();
+    ensure(explained == 3, format!("{explained} explanations"))?;
+    let tried = try_changes(EXPLAINING)?;
+    ensure(tried == 4, format!("{tried} changes tried"))?;
+    let wrong = [
+        ("none accepted 2", "none ok 2"),
+        ("none accepted 2", "accepted 2"),
+        ("none refused 4 3 6", "refused 4 3 6"),
+        ("1 equal", "1 alike"),
+        ("clash 0 1 2 1 equal", "refused 10 3 5"),
+        ("explain clash", "explain"),
+        ("answer: none accepted 2", "heights: 1 1 1\nanswer: none accepted 2"),
+        ("answer: none accepted 2", "room: 3\nanswer: none accepted 2"),
+        ("answer: none accepted 2", "tree: 3F\nanswer: none accepted 2"),
+    ];
+    let unnoticed = wrong.into_iter().find(|(right, other)| {
+        !EXPLAINING.contains(right) || check_page(&EXPLAINING.replacen(right, other, 1)).is_ok()
+    });
+    ensure(unnoticed.is_none(), format!("{unnoticed:?} is not noticed"))
 }

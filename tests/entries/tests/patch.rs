@@ -1,11 +1,13 @@
 //! The C entries agree with the reference on the worked patch and on every
 //! document that differs from it in one place.
 
+mod changes;
+
+use changes::changes;
 use lafindry_entries::{ensure, Failure, Kind, Tally};
 use lafindry_reference::generate::cases::Made;
 use lafindry_reference::vectors::{Answer, Case, Entry};
 use lafindry_reference::MOST_BYTES;
-use std::collections::BTreeSet;
 
 /// The source table, target table, embedding and tree of the patch.
 fn patch() -> [Vec<u8>; 4] {
@@ -34,23 +36,6 @@ fn patch_case(entry: Entry) -> Case {
         }
     };
     Case { entry, documents, output_length: if entry.writes() { 30 } else { 0 } }
-}
-
-/// All documents that differ from one in one place: cut off there, a byte
-/// changed, left out or put in.
-fn changes(document: &[u8]) -> BTreeSet<Vec<u8>> {
-    let mut all = BTreeSet::new();
-    for at in 0..=document.len() {
-        let (before, after) = document.split_at(at);
-        all.insert(before.to_vec());
-        all.extend((0..=0xFF).map(|byte| [before, &[byte], after].concat()));
-        if let Some((_, rest)) = after.split_first() {
-            all.insert([before, rest].concat());
-            all.extend((0..=0xFF).map(|byte| [before, &[byte], rest].concat()));
-        }
-    }
-    all.remove(document);
-    all
 }
 
 #[test]

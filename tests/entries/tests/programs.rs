@@ -12,6 +12,7 @@ mod writes;
 use counts::Counts;
 use lafindry_entries::{ensure, report, Failure, Setting};
 use lafindry_reference::generate::{Rng, TableSize, World};
+use lafindry_reference::vectors::explanations::is_question;
 use lafindry_reference::vectors::{is_skipped, parse_line, Answer, Case, Entry};
 use lafindry_reference::{Refusal, MOST_BYTES};
 use lines::{answer_to, at, case_of, place, program, Folder, Run, ENTRIES, FILES};
@@ -27,12 +28,12 @@ const MOST_OF_EACH: usize = 4;
 
 /// The cases of carrying and bringing back of a file of vectors with their
 /// answers, at most [`MOST_OF_EACH`] of an entry with the same refusal of the
-/// same document.
+/// same document. No program explains clashes.
 fn some_vectors(path: &Path) -> Result<Vec<(Case, Answer)>, Failure> {
     let text = fs::read_to_string(path).map_err(at(path))?;
     let mut taken: BTreeMap<_, usize> = BTreeMap::new();
     let mut vectors = Vec::new();
-    for line in text.lines().filter(|line| !is_skipped(line)) {
+    for line in text.lines().filter(|line| !is_skipped(line) && !is_question(line)) {
         let (case, answer) = parse_line(line).map_err(|message| Failure(format!("{line}: {message}")))?;
         let refusal = match answer {
             Answer::Ok { .. } => (0, 0),

@@ -1,7 +1,8 @@
 //! Threads call the entries at once, with the same documents, each with an
 //! output and a stack of its own: every answer is the one that is stated.
 
-use lafindry_entries::{call, ensure, read, report, Failure};
+use lafindry_entries::{call, call_explain, ensure, read, read_explanation, report, Failure};
+use lafindry_reference::vectors::explanations::{self, Question, Stated};
 use lafindry_reference::vectors::{is_skipped, parse_line, Answer, Case, JUNK};
 use std::thread;
 
@@ -11,36 +12,49 @@ const THREADS: usize = 4;
 /// The stack of a thread, which is enough for every entry.
 const STACK: usize = 1 << 20;
 
-/// The cases of a file under tests/data, with their answers.
-fn cases(name: &str) -> Result<Vec<(Case, Answer)>, Failure> {
+/// The lines of a file under tests/data as they are read.
+fn lines<T>(name: &str, parse: fn(&str) -> Result<T, String>) -> Result<Vec<T>, Failure> {
     let path = format!("{}/../data/{name}", env!("CARGO_MANIFEST_DIR"));
     let text = std::fs::read_to_string(&path).map_err(|error| Failure(format!("{path}: {error}")))?;
     let lines = text.lines().filter(|line| !is_skipped(line));
-    lines.map(|line| parse_line(line).map_err(|message| Failure(format!("{name}: {message}")))).collect()
+    lines.map(|line| parse(line).map_err(|message| Failure(format!("{name}: {message}")))).collect()
 }
 
-/// Runs all cases, from the one with a number on and then those before it.
-fn run_from(cases: &[(Case, Answer)], first: usize) -> Result<(), Failure> {
-    let (before, behind) = cases.split_at(first);
-    for (case, stated) in behind.iter().chain(before) {
-        let mut output = vec![JUNK; case.output_length];
-        let given = call(case.entry, &case.documents, &mut output);
-        let answer = read(case, given, &output).map_err(|message| Failure(format!("{case}: {message}")))?;
-        ensure(answer == *stated, format!("{case} -> {answer}\nstated: {stated}"))?;
-        let kept = stated.final_output(&vec![JUNK; case.output_length]) == output;
-        ensure(kept, format!("{case}: another byte of the output changed"))?;
-    }
-    Ok(())
+/// Runs a case.
+fn run_case((case, stated): &(Case, Answer)) -> Result<(), Failure> {
+    let mut output = vec![JUNK; case.output_length];
+    let given = call(case.entry, &case.documents, &mut output);
+    let answer = read(case, given, &output).map_err(|message| Failure(format!("{case}: {message}")))?;
+    ensure(answer == *stated, format!("{case} -> {answer}\nstated: {stated}"))?;
+    let kept = stated.final_output(&vec![JUNK; case.output_length]) == output;
+    ensure(kept, format!("{case}: another byte of the output changed"))
+}
+
+/// Asks a question.
+fn ask((question, stated): &(Question, Stated)) -> Result<(), Failure> {
+    let explanation = read_explanation(question, call_explain(&question.documents));
+    let explanation = explanation.map_err(|message| Failure(format!("{question}: {message}")))?;
+    ensure(Stated::of(&explanation) == *stated, format!("{question} -> {explanation}\nstated: {stated}"))
+}
+
+/// Runs all lines of a kind, beginning in each thread with another one.
+fn run_from<T>(lines: &[T], thread: usize, run: fn(&T) -> Result<(), Failure>) -> Result<(), Failure> {
+    let (before, behind) = lines.split_at(thread * lines.len() / THREADS);
+    behind.iter().chain(before).try_for_each(run)
 }
 
 #[test]
 fn threads_at_once_agree() -> Result<(), Failure> {
-    let cases = cases("base.txt")?;
+    let cases = lines("base.txt", parse_line)?;
+    let questions = lines("n9.txt", explanations::parse_line)?;
     let ended: Vec<Result<(), Failure>> = thread::scope(|scope| {
         let begin = |number: usize| {
-            let (cases, first) = (&cases, number * cases.len() / THREADS);
+            let (cases, questions) = (&cases, &questions);
             let thread = thread::Builder::new().stack_size(STACK);
-            thread.spawn_scoped(scope, move || run_from(cases, first))
+            thread.spawn_scoped(scope, move || {
+                run_from(cases, number, run_case)?;
+                run_from(questions, number, ask)
+            })
         };
         let begun: Vec<_> = (0..THREADS).map(begin).collect();
         let end = |thread: std::io::Result<thread::ScopedJoinHandle<_>>| match thread {
@@ -50,6 +64,7 @@ fn threads_at_once_agree() -> Result<(), Failure> {
         begun.into_iter().map(end).collect()
     });
     let count = ended.into_iter().collect::<Result<Vec<()>, Failure>>()?.len();
-    report(&format!("{} cases in each of {count} threads at once", cases.len()));
-    ensure(count == THREADS && cases.len() >= 3851, "too few threads or cases")
+    let (cases, questions) = (cases.len(), questions.len());
+    report(&format!("{cases} cases and {questions} questions in each of {count} threads at once"));
+    ensure(count == THREADS && cases >= 3851 && questions >= 1013, "too few threads, cases or questions")
 }

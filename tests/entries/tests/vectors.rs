@@ -1,20 +1,28 @@
 //! The vector files agree with the C entries. Where they come from, a program
 //! written independently for most, is said at `lafindry_reference::vectors`.
 
-use lafindry_entries::{ensure, Failure, Tally};
-use lafindry_reference::vectors::{is_skipped, parse_line, Entry};
+use lafindry_entries::{ensure, Explained, Explanations, Failure, Tally};
+use lafindry_reference::explanation::Reason;
+use lafindry_reference::vectors::{explanations, is_skipped, parse_line, Entry};
 
-/// Runs every line of a file under tests/data; there must be at least so many,
-/// and of some entries lines that they accept.
-fn run_file(name: &str, least: usize, entries: &[Entry]) -> Result<(), Failure> {
+/// Runs every line of a file under tests/data by a check.
+fn run_lines(name: &str, mut check: impl FnMut(&str) -> Result<(), Failure>) -> Result<(), Failure> {
     let path = format!("{}/../data/{name}", env!("CARGO_MANIFEST_DIR"));
     let text = std::fs::read_to_string(&path).map_err(|error| Failure(format!("{path}: {error}")))?;
-    let mut tally = Tally::default();
     for (number, line) in text.lines().enumerate().filter(|(_, line)| !is_skipped(line)) {
-        let at_line = |message| Failure(format!("{name}:{}: {message}", number + 1));
-        let (case, expected) = parse_line(line).map_err(at_line)?;
-        tally.compare_with(&case, &expected).map_err(|failure| at_line(failure.0))?;
+        check(line).map_err(|failure| Failure(format!("{name}:{}: {}", number + 1, failure.0)))?;
     }
+    Ok(())
+}
+
+/// Runs every line of a file of cases; there must be at least so many, and of
+/// some entries lines that they accept.
+fn run_file(name: &str, least: usize, entries: &[Entry]) -> Result<(), Failure> {
+    let mut tally = Tally::default();
+    run_lines(name, |line| {
+        let (case, expected) = parse_line(line).map_err(Failure)?;
+        tally.compare_with(&case, &expected)
+    })?;
     let histogram = tally.finish(name)?;
     ensure(histogram.total() >= least, format!("{name}: only {} lines", histogram.total()))?;
     let idle = entries.iter().find(|&&entry| histogram.of(entry, 0) == 0);
@@ -59,4 +67,17 @@ fn accent_vectors_agree() -> Result<(), Failure> {
 #[test]
 fn accent_cases_agree() -> Result<(), Failure> {
     run_file("cases-n5.txt", 278, &Entry::WITH_TREE)
+}
+
+#[test]
+fn explanation_vectors_agree() -> Result<(), Failure> {
+    let mut explained = Explanations::default();
+    run_lines("n9.txt", |line| {
+        let (question, stated) = explanations::parse_line(line).map_err(Failure)?;
+        explained.compare_with(&question, &stated)
+    })?;
+    let counts = explained.finish("n9.txt")?;
+    ensure(counts.values().sum::<usize>() == 1013, "n9.txt: not 1013 lines")?;
+    let rare = Reason::ALL.into_iter().find(|&reason| !counts.contains_key(&Explained::Clash(reason)));
+    ensure(rare.is_none(), format!("n9.txt: no clash because of {rare:?}"))
 }

@@ -1,11 +1,13 @@
 //! Which clause about optional choices decides the answer to a case; in
 //! [`lists`], which clause about lists on the paths of choices; in
-//! [`characters`], which clause about characters.
+//! [`characters`], which clause about characters; in [`clashes`], what the
+//! explanation of a clash shows.
 //!
 //! A refusal is given a clause where the other clauses of the same check hold
 //! at the place that it marks, so that the clause is seen apart.
 
 pub mod characters;
+pub mod clashes;
 mod embeddings;
 mod images;
 pub mod lists;
@@ -136,7 +138,12 @@ fn judging_table(case: &Case) -> Table {
 /// The tables and the embedding of a case, if it has accepted tables and an
 /// embedding of the right form.
 fn embedded_of(case: &Case) -> Option<Embedded> {
-    let [source, target, bytes, ..] = &case.documents[..] else {
+    embedded_in(&case.documents)
+}
+
+/// The same of some documents in the order in which they are given.
+fn embedded_in(documents: &[Vec<u8>]) -> Option<Embedded> {
+    let [source, target, bytes, ..] = documents else {
         return None;
     };
     let (source, target) = (table::accept(source, SOURCE).ok()?, table::accept(target, TARGET).ok()?);

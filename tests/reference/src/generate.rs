@@ -17,9 +17,13 @@
 //! | [`trees`] | conforming trees of bounded length and levels |
 //! | [`damage`] | documents with errors, and altered images |
 //! | [`detours`] | paths changed together with the target table |
+//! | [`bunches`] | paths of one source type with what they go through, some clashing |
+//! | [`clashes`] | clashing embeddings, and questions why they clash |
 //! | [`cases`] | an entry with all its documents |
 
+pub mod bunches;
 pub mod cases;
+pub mod clashes;
 pub mod damage;
 pub mod detours;
 pub mod embeddings;
@@ -30,6 +34,7 @@ pub use cases::{
     random_case, random_small_accented_case, random_small_case, random_small_listed_case,
     random_small_optional_case, World,
 };
+pub use clashes::{random_question, random_small_question};
 pub use embeddings::{random_embedded, Embedded};
 pub use tables::{random_table, TableSize};
 pub use trees::{random_tree, Shape};

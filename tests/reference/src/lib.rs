@@ -1,6 +1,7 @@
 //! A reference for the five entries of paper 01, with the optional choices of
 //! paper 02 (N3), its lists on the paths of choices (N6) and its accents (N5),
-//! written from these papers and the lists of readings alone, in plain Rust.
+//! and for its explanation of clashing paths (N9), written from these papers and
+//! the lists of readings alone, in plain Rust.
 //!
 //! | Entry | Function |
 //! |---|---|
@@ -9,12 +10,14 @@
 //! | judge a tree | [`judge_tree`] |
 //! | carry | [`carry`] |
 //! | bring back | [`bring_back`] |
+//! | explain a clash | [`explain_clash`] |
 //!
 //! Every function answers on arbitrary bytes. A refusal changes no byte of the
 //! output; an answer changes none after those it writes.
 
 pub mod clauses;
 pub mod embedding;
+pub mod explanation;
 pub mod generate;
 pub mod image;
 pub mod inverse;
@@ -23,6 +26,8 @@ pub mod reader;
 pub mod table;
 pub mod tree;
 pub mod vectors;
+
+pub use explanation::explain_clash;
 
 use image::Mapping;
 

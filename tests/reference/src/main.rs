@@ -8,23 +8,31 @@
 //!   path of a choice, spread over the answers and the clauses about such lists.
 //! - `reference generate SEED COUNT accents` prints small ones with a character
 //!   from A0 to FF, spread over the answers and the clauses about characters.
+//! - `reference generate SEED COUNT clashes` prints small questions why paths
+//!   clash, spread over the reasons, the kinds of types and the other answers.
 //! - `reference ENTRY FILE.. [OUTLEN]` runs one entry on documents in files.
+//! - `reference explain SOURCE TARGET EMBEDDING` says why paths clash, for
+//!   documents in files.
 
 use lafindry_reference::clauses::characters::{self, CharacterClause};
+use lafindry_reference::clauses::clashes::{self, ClashClause};
 use lafindry_reference::clauses::lists::{self, ListClause};
 use lafindry_reference::clauses::{self, Clause};
+use lafindry_reference::explanation::Explanation;
 use lafindry_reference::generate::{
     random_case, random_small_accented_case, random_small_case, random_small_listed_case,
-    random_small_optional_case, Rng,
+    random_small_optional_case, random_small_question, Rng,
 };
+use lafindry_reference::vectors::explanations::{self, is_question, Question, EXPLAIN};
 use lafindry_reference::vectors::{check_line, is_skipped, Answer, Case, Entry};
 use std::collections::BTreeMap;
 use std::io::Write;
 use std::process::ExitCode;
 
 const USAGE: &str = "usage: reference vectors FILE..
-       reference generate SEED COUNT [small|optional|lists|accents]
-       reference ENTRY FILE.. [OUTLEN]";
+       reference generate SEED COUNT [small|optional|lists|accents|clashes]
+       reference ENTRY FILE.. [OUTLEN]
+       reference explain SOURCE TARGET EMBEDDING";
 
 fn main() -> ExitCode {
     let arguments: Vec<String> = std::env::args().skip(1).collect();
@@ -36,6 +44,8 @@ fn main() -> ExitCode {
         ["generate", seed, count, "optional"] => generate_spread(seed, count, OPTIONAL),
         ["generate", seed, count, "lists"] => generate_spread(seed, count, LISTS),
         ["generate", seed, count, "accents"] => generate_spread(seed, count, ACCENTS),
+        ["generate", seed, count, "clashes"] => generate_spread(seed, count, CLASHES),
+        [EXPLAIN, source, target, embedding] => explain([source, target, embedding]),
         [entry, ref files @ ..] => run_entry(entry, files),
         [] => Err(USAGE.to_string()),
     };
@@ -49,8 +59,11 @@ fn main() -> ExitCode {
     }
 }
 
-/// Counts of answers: the order and the text of each kind, and its number.
-type Histogram = BTreeMap<(u64, u64, String), u64>;
+/// A kind of answer: two numbers by which kinds are put in order, and a text.
+type Kind = (u64, u64, String);
+
+/// Counts of answers by their kind.
+type Histogram = BTreeMap<Kind, u64>;
 
 /// Runs all lines of some files; true if all agree.
 fn run_vectors(files: &[&str]) -> Result<bool, String> {
@@ -59,10 +72,10 @@ fn run_vectors(files: &[&str]) -> Result<bool, String> {
     for file in files {
         let text = std::fs::read_to_string(file).map_err(|error| format!("{file}: {error}"))?;
         for (number, line) in text.lines().enumerate().filter(|(_, line)| !is_skipped(line)) {
-            match check_line(line) {
-                Ok((case, answer)) => {
+            match kind_of_line(line) {
+                Ok(kind) => {
                     passed += 1;
-                    *histogram.entry(kind(&case, &answer)).or_default() += 1;
+                    *histogram.entry(kind).or_default() += 1;
                 }
                 Err(message) => {
                     failed += 1;
@@ -78,8 +91,31 @@ fn run_vectors(files: &[&str]) -> Result<bool, String> {
     Ok(failed == 0)
 }
 
-/// The kind of an answer in the histogram.
-fn kind(case: &Case, answer: &Answer) -> (u64, u64, String) {
+/// Runs a line of either form and gives the kind of its answer. The error says
+/// how they disagree.
+fn kind_of_line(line: &str) -> Result<Kind, String> {
+    match is_question(line) {
+        true => explanations::check_line(line).map(|(_, explanation)| explained_kind(&explanation)),
+        false => check_line(line).map(|(case, answer)| kind(&case, &answer)),
+    }
+}
+
+/// The kind of an explanation, after all answers of entries.
+fn explained_kind(explanation: &Explanation) -> Kind {
+    match explanation {
+        Explanation::Clash { clash, .. } => {
+            (100, clash.reason as u64, format!("clash {}", clash.reason.name()))
+        }
+        Explanation::Nothing(Ok(_)) => (101, 0, "none ok".to_string()),
+        Explanation::Nothing(Err(refusal)) => {
+            let (number, document) = (refusal.number, refusal.document);
+            (101 + number, document, format!("none refused {number} {document}"))
+        }
+    }
+}
+
+/// The kind of an entry's answer.
+fn kind(case: &Case, answer: &Answer) -> Kind {
     match answer {
         Answer::Ok { .. } => (0, case.entry as u64, format!("ok {}", case.entry.name())),
         Answer::Refused(refusal) => {
@@ -112,9 +148,30 @@ const DRAWN_FOR_ONE: usize = 200;
 struct Spread<C: 'static> {
     word: &'static str,
     text: &'static str,
-    random: fn(&mut Rng) -> Case,
-    shown: fn(&Case, &Answer) -> Vec<C>,
+    draw: fn(&mut Rng) -> Result<Drawn<C>, String>,
     clauses: &'static [(C, &'static str)],
+}
+
+/// A random case as a line, and the kind of its answer and the clause by which
+/// it is grouped.
+struct Drawn<C> {
+    line: String,
+    kind: Kind,
+    clause: Option<C>,
+}
+
+/// A case of an entry, grouped by the last clause that it shows.
+fn drawn<C: Copy>(case: Case, shown: fn(&Case, &Answer) -> Vec<C>) -> Result<Drawn<C>, String> {
+    let answer = case.run()?;
+    let clause = shown(&case, &answer).last().copied();
+    Ok(Drawn { line: format!("{case} -> {answer}"), kind: kind(&case, &answer), clause })
+}
+
+/// A question, grouped by its reason with the kind of source type.
+fn drawn_question(question: Question) -> Result<Drawn<ClashClause>, String> {
+    let explanation = question.run();
+    let clause = clashes::shown(&question, &explanation).first().copied();
+    Ok(Drawn { line: format!("{question} -> {explanation}"), kind: explained_kind(&explanation), clause })
 }
 
 /// Those with an optional choice.
@@ -123,8 +180,7 @@ const OPTIONAL: Spread<Clause> = Spread {
     text: "random cases with an optional choice in a
 # table, spread over the answers and the clauses about optional choices; the answers are the
 # reference's.",
-    random: random_small_optional_case,
-    shown: clauses::shown,
+    draw: |rng| drawn(random_small_optional_case(rng), clauses::shown),
     clauses: &Clause::ALL,
 };
 
@@ -134,8 +190,7 @@ const LISTS: Spread<ListClause> = Spread {
     text: "random cases with a list on the path of a
 # choice, spread over the answers and the clauses about such lists; the answers are the
 # reference's.",
-    random: random_small_listed_case,
-    shown: lists::shown,
+    draw: |rng| drawn(random_small_listed_case(rng), lists::shown),
     clauses: &ListClause::ALL,
 };
 
@@ -145,13 +200,22 @@ const ACCENTS: Spread<CharacterClause> = Spread {
     text: "random cases with a character from A0 to
 # FF in the tree, spread over the answers and the clauses about characters; the answers are the
 # reference's.",
-    random: random_small_accented_case,
-    shown: characters::shown,
+    draw: |rng| drawn(random_small_accented_case(rng), characters::shown),
     clauses: &CharacterClause::ALL,
 };
 
-/// Cases by the kind of their answer and by the last clause that they show.
-type Groups<C> = BTreeMap<((u64, u64, String), Option<C>), Vec<String>>;
+/// Those that ask why paths clash.
+const CLASHES: Spread<ClashClause> = Spread {
+    word: "clashes",
+    text: "random questions why paths clash,
+# spread over the reasons, the kinds of source types and the other answers; the answers are the
+# reference's.",
+    draw: |rng| drawn_question(random_small_question(rng)),
+    clauses: &ClashClause::ALL,
+};
+
+/// Cases by the kind of their answer and by a clause that they show.
+type Groups<C> = BTreeMap<(Kind, Option<C>), Vec<String>>;
 
 /// Prints small cases in groups as equal as may be.
 fn generate_spread<C: Ord + Copy>(seed: &str, count: &str, cases: Spread<C>) -> Result<bool, String> {
@@ -159,11 +223,8 @@ fn generate_spread<C: Ord + Copy>(seed: &str, count: &str, cases: Spread<C>) -> 
     let count: usize = count.parse().map_err(|_| USAGE)?;
     let mut groups = Groups::new();
     for _ in 0..count * DRAWN_FOR_ONE {
-        let case = (cases.random)(&mut rng);
-        let answer = case.run()?;
-        let line = format!("{case} -> {answer}");
-        let clause = (cases.shown)(&case, &answer).last().copied();
-        let group = groups.entry((kind(&case, &answer), clause)).or_default();
+        let Drawn { line, kind, clause } = (cases.draw)(&mut rng)?;
+        let group = groups.entry((kind, clause)).or_default();
         if group.len() < count && !group.contains(&line) {
             group.push(line);
         }
@@ -194,9 +255,20 @@ fn run_entry(name: &str, words: &[&str]) -> Result<bool, String> {
         Some(1) if entry.writes() => (&words[..words.len() - 1], words[words.len() - 1]),
         _ => return Err(USAGE.to_string()),
     };
-    let read = |file: &&str| std::fs::read(file).map_err(|error| format!("{file}: {error}"));
-    let documents = files.iter().map(read).collect::<Result<_, _>>()?;
+    let documents = files.iter().map(|file| read(file)).collect::<Result<_, _>>()?;
     let case = Case { entry, documents, output_length: length.parse().map_err(|_| USAGE)? };
     println!("{}", case.run()?);
     Ok(true)
+}
+
+/// Says why paths clash, for documents in files.
+fn explain(files: [&str; 3]) -> Result<bool, String> {
+    let [source, target, embedding] = files.map(read);
+    println!("{}", Question { documents: [source?, target?, embedding?] }.run());
+    Ok(true)
+}
+
+/// The content of a file.
+fn read(file: &str) -> Result<Vec<u8>, String> {
+    std::fs::read(file).map_err(|error| format!("{file}: {error}"))
 }

@@ -5,12 +5,16 @@
 //! entry DOC.. [OUTLEN] -> refused NUMBER DOCUMENT MARK
 //! ```
 //!
-//! Documents and OUTPUT are in hexadecimal, `-` for no bytes.
+//! Documents and OUTPUT are in hexadecimal, `-` for no bytes. Lines that ask why
+//! paths clash have a form of their own, in [`explanations`].
 //!
-//! The vectors of `tests/data`, `base.txt`, `n3.txt`, `n6.txt` and `n5.txt`, were
-//! computed by another program, written independently, from the papers alone. 10
-//! of `base.txt` and 30 of `n3.txt` have the reference's answers since N6. The
-//! files `cases-*.txt` are worked cases, and cases that the reference made.
+//! The vectors of `tests/data`, `base.txt`, `n3.txt`, `n6.txt`, `n5.txt` and
+//! `n9.txt`, were computed by another program, written independently, from the
+//! papers alone. 10 of `base.txt` and 30 of `n3.txt` have the reference's answers
+//! since N6. The files `cases-*.txt` are worked cases, and cases that the
+//! reference made.
+
+pub mod explanations;
 
 use crate::{bring_back, carry, judge_embedding, judge_table, judge_tree, Refusal};
 use std::fmt;

@@ -1,11 +1,14 @@
 //! The clauses about optional choices, those about lists on the paths of
-//! choices and those about characters are told apart as they should be: cases
-//! worked by hand, each with its answer and what it shows.
+//! choices, those about characters and what explanations of clashes show are
+//! told apart as they should be: cases worked by hand, each with its answer and
+//! what it shows.
 
 use lafindry_reference::clauses::characters::{self, has_accent, is_tree_judged, CharacterClause};
+use lafindry_reference::clauses::clashes::{self, ClashClause};
 use lafindry_reference::clauses::lists::{self, has_list_on_choice, ListClause};
 use lafindry_reference::clauses::{has_optional, shown, Clause};
 use lafindry_reference::vectors::check_line;
+use lafindry_reference::vectors::explanations;
 
 /// An optional choice of a text and an empty type, and a needed one.
 const OPTIONAL: &str = "171501150210111f";
@@ -435,4 +438,85 @@ fn cases_whose_tree_is_judged() {
     assert!(!judged("carry 101f 10 2000212f 300031e9323f 0 -> refused 2 2 1"));
     assert!(!judged("carry 101f 101f 20002f 300031e9323f 0 -> refused 2 3 2"));
     assert!(!judged("judge_embedding 101f 101f 2000212f -> ok 1 0 -"));
+}
+
+/// Asserts an explanation and what it shows.
+fn assert_explains(documents: [&str; 3], stated: &str, clauses: &[ClashClause]) {
+    let line = format!("explain {} -> {stated}", documents.join(" "));
+    let (question, explanation) =
+        explanations::check_line(&line).unwrap_or_else(|message| panic!("{line}: {message}"));
+    assert_eq!(clashes::shown(&question, &explanation), clauses, "{line}");
+}
+
+/// A sequence, a choice and an optional choice of two empty types.
+const SOURCES: [&str; 3] = ["121501150211111f", "131501150211111f", "171501150211111f"];
+
+#[test]
+fn equal_paths_of_each_kind() {
+    let [sequence, choice, optional] = SOURCES;
+    let (stated, paths) = ("clash 0 1 2 1 equal", "2000212201212201200120012f");
+    assert_explains([sequence, "121501111f", paths], stated, &[ClashClause::SequenceEqual]);
+    assert_explains([choice, "171501111f", paths], stated, &[ClashClause::ChoiceEqual]);
+    assert_explains([optional, "171501111f", paths], stated, &[ClashClause::OptionalEqual]);
+    assert_explains([sequence, "1215011501111f", "2000212201212202200120012f"], "none ok 2", &[]);
+}
+
+#[test]
+fn beginnings_of_each_kind() {
+    let [sequence, choice, optional] = SOURCES;
+    let longer = "20002122012122012201200120022f";
+    let shorter = "20002122012201212201200220012f";
+    let stated = "clash 0 1 2 1 earlier-begins-later";
+    assert_explains([sequence, "121501121502111f", longer], stated, &[ClashClause::SequenceEarlierBegins]);
+    assert_explains([choice, "171501121502111f", longer], stated, &[ClashClause::ChoiceEarlierBegins]);
+    assert_explains([optional, "171501121502111f", longer], stated, &[ClashClause::OptionalEarlierBegins]);
+    let stated = "clash 0 1 2 1 later-begins-earlier";
+    assert_explains([sequence, "121501121502111f", shorter], stated, &[ClashClause::SequenceLaterBegins]);
+    assert_explains([choice, "171501121502111f", shorter], stated, &[ClashClause::ChoiceLaterBegins]);
+    assert_explains([optional, "171501121502111f", shorter], stated, &[ClashClause::OptionalLaterBegins]);
+}
+
+#[test]
+fn partings_of_each_kind() {
+    let [sequence, choice, optional] = SOURCES;
+    let target = "1715011215021502111f";
+    let paths = "200021220122012122012202200220022f";
+    let stated = "clash 0 1 2 1 parts-at-sequence";
+    assert_explains([choice, target, paths], stated, &[ClashClause::ChoiceParts]);
+    assert_explains([optional, target, paths], stated, &[ClashClause::OptionalParts]);
+    assert_explains([sequence, "1215011215021502111f", paths], "none ok 2", &[]);
+}
+
+#[test]
+fn several_clashes() {
+    // The types 0 and 1 have two equal paths each.
+    let types = ["12150115011215021502111f", "121501121502111f", "2000212201212201200121220121220120022f"];
+    let shows = [ClashClause::SequenceEqual, ClashClause::SeveralTypes];
+    assert_explains(types, "clash 0 1 2 1 equal", &shows);
+    // Three paths are equal.
+    let three = ["12150115011501111f", "121501111f", "200021220121220121220120012f"];
+    let shows = [ClashClause::SequenceEqual, ClashClause::SeveralLater];
+    assert_explains(three, "clash 0 1 2 1 equal", &shows);
+    // The third path begins the first and the second one.
+    let paths = "200021220122012122012202212201200220012f";
+    let shows = [ClashClause::SequenceLaterBegins, ClashClause::SeveralEarlier];
+    let both = ["1215011501150211111f", "1215011215021502111f", paths];
+    assert_explains(both, "clash 0 1 3 1 later-begins-earlier", &shows);
+}
+
+#[test]
+fn lists_on_clashing_paths() {
+    let [sequence, _, optional] = SOURCES;
+    let equal = [sequence, "14011215021502111f", "200021220122012122012201200220022f"];
+    let shows = [ClashClause::SequenceEqual, ClashClause::ListShared];
+    assert_explains(equal, "clash 0 1 2 2 equal", &shows);
+    let longer = [sequence, "1215011402111f", "20002122012122012201200120022f"];
+    let shows = [ClashClause::SequenceEarlierBegins, ClashClause::ListBehind];
+    assert_explains(longer, "clash 0 1 2 1 earlier-begins-later", &shows);
+    let shorter = [sequence, "1215011402111f", "20002122012201212201200220012f"];
+    let shows = [ClashClause::SequenceLaterBegins, ClashClause::ListBehind];
+    assert_explains(shorter, "clash 0 1 2 1 later-begins-earlier", &shows);
+    let both = [optional, "14011715021403111f", "2000212201220121220122012201200220032f"];
+    let shows = [ClashClause::OptionalEarlierBegins, ClashClause::ListShared, ClashClause::ListBehind];
+    assert_explains(both, "clash 0 1 2 2 earlier-begins-later", &shows);
 }

@@ -1,21 +1,29 @@
 //! The vector files agree with the reference, and lines are read as written.
 //! Where they come from is said at `lafindry_reference::vectors`.
 
-use lafindry_reference::generate::{random_small_case, Rng};
+use lafindry_reference::generate::{random_small_case, random_small_question, Rng};
+use lafindry_reference::vectors::explanations::{self, is_question, Stated};
 use lafindry_reference::vectors::{check_line, from_hex, is_skipped, parse_line, to_hex};
 
 /// Runs every line of a file under tests/data.
 fn run_file(name: &str) {
+    let checked = |line: &str| check_line(line).map(|_| ());
+    assert!(run_lines(name, checked) > 100, "{name}: few lines");
+}
+
+/// Runs every line of a file under tests/data by a check; gives how many there
+/// are.
+fn run_lines(name: &str, check: impl Fn(&str) -> Result<(), String>) -> usize {
     let path = format!("{}/../data/{name}", env!("CARGO_MANIFEST_DIR"));
     let text = std::fs::read_to_string(&path).expect(&path);
     let mut passed = 0;
     for (number, line) in text.lines().enumerate().filter(|(_, line)| !is_skipped(line)) {
-        if let Err(message) = check_line(line) {
+        if let Err(message) = check(line) {
             panic!("{name}:{}: {message}", number + 1);
         }
         passed += 1;
     }
-    assert!(passed > 100, "{name}: only {passed} lines");
+    passed
 }
 
 #[test]
@@ -56,6 +64,52 @@ fn accent_vectors_agree() {
 #[test]
 fn accent_cases_agree() {
     run_file("cases-n5.txt");
+}
+
+#[test]
+fn explanation_vectors_agree() {
+    let lines = run_lines("n9.txt", |line| {
+        assert!(is_question(line));
+        explanations::check_line(line).map(|_| ())
+    });
+    assert_eq!(lines, 1013);
+}
+
+#[test]
+fn a_printed_explanation_is_read_back() {
+    let mut rng = Rng::new(12);
+    for _ in 0..500 {
+        let question = random_small_question(&mut rng);
+        let explanation = question.run();
+        let line = format!("{question} -> {explanation}");
+        assert!(is_question(&line));
+        assert_eq!(explanations::parse_line(&line), Ok((question, Stated::of(&explanation))));
+    }
+}
+
+#[test]
+fn wrong_explanations_are_errors() {
+    let [equal, other] = ["equal", "parts-at-sequence"].map(|reason| format!("clash 0 1 2 1 {reason}"));
+    let question = "explain 171501150211111f 171501111f 2000212201212201200120012f";
+    assert!(explanations::check_line(&format!("{question} -> {equal}")).is_ok());
+    for answer in [&other, "clash 0 1 2 0 equal", "clash 1 1 2 1 equal", "none ok 2", "none refused 10 3 5"] {
+        assert!(explanations::check_line(&format!("{question} -> {answer}")).is_err(), "{answer}");
+    }
+    let lines = [
+        String::new(),
+        question.to_string(),
+        format!("explain 101f 101f -> {equal}"),
+        format!("{question} 20 -> {equal}"),
+        format!("{question} -> clash 0 1 2 1 alike"),
+        format!("{question} -> clash 0 1 2 equal"),
+        format!("{question} -> none"),
+        format!("{question} -> none ok"),
+        format!("{question} -> ok 2 0 -"),
+        format!("judge_embedding 101f 101f 2000212f -> {equal}"),
+    ];
+    for line in lines {
+        assert!(explanations::parse_line(&line).is_err(), "{line}");
+    }
 }
 
 #[test]

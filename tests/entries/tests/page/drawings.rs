@@ -10,7 +10,6 @@ use super::examples::Examples;
 use super::terms::byte_of;
 use super::{Block, Line, Page};
 use lafindry_entries::Failure;
-use lafindry_reference::vectors::Answer;
 
 /// Compares all drawings with the documents of cases; gives how many there are.
 pub fn check(page: &Page, examples: &Examples) -> Result<usize, Failure> {
@@ -114,10 +113,7 @@ fn check_levels(rows: &[Row], document: &[u8]) -> Result<(), Failure> {
 fn check_filler(title: &Line, name: &str, rows: &[Row], examples: &Examples) -> Result<(), Failure> {
     let said = rows.iter().filter(|row| row.text.starts_with("filler")).count() as u64;
     let case = name.strip_suffix(".output").and_then(|case| examples.of_name(case));
-    let filler = match case.map(|example| &example.answer) {
-        Some(Answer::Ok { filler, .. }) => *filler,
-        _ => 0,
-    };
+    let filler = case.and_then(|example| example.accepted()).map_or(0, |(_, filler)| filler);
     match said == filler {
         true => Ok(()),
         false => Err(title.fault(format!("{said} rows say filler, the answer says {filler}"))),

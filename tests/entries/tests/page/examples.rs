@@ -7,16 +7,21 @@
 //! |---|---|
 //! | `name` | the case's name; its documents are then `name.source` and so on |
 //! | `like` | an earlier case, which the documents not stated are taken from |
-//! | `entry` | `judge table`, `judge embedding`, `judge tree`, `carry` or `bring back` |
+//! | `entry` | `judge table`, `judge embedding`, `judge tree`, `carry`, `bring back` or `explain clash` |
 //! | `table`, `source`, `target`, `embedding`, `tree` | a document, see [`terms`](super::terms) |
 //! | `room` | length of the lent output; 60,000 where it is not stated |
 //! | `answer` | `accepted N`, `carried LENGTH FILLER`, `brought LENGTH` or `refused NUMBER DOCUMENT MARK` |
 //! | `output` | the document written; stated where one is written |
 //! | `heights` | heights of the target table's types, in order |
+//!
+//! The answer of `explain clash` is `clash TYPE EARLIER LATER SHARED REASON`, with
+//! a reason as vector lines have it, `none accepted N` or `none refused NUMBER
+//! DOCUMENT MARK`.
 
 use super::terms::{bytes_of, Named};
 use super::{Block, Line, Page};
 use lafindry_entries::Failure;
+use lafindry_reference::vectors::explanations::{parse_stated, Question, Stated};
 use lafindry_reference::vectors::{Answer, Case, Entry};
 use lafindry_reference::{Refusal, MOST_BYTES};
 use std::collections::BTreeMap;
@@ -31,9 +36,32 @@ pub struct Example<'a> {
     /// The line that opens its code block.
     pub line: Line<'a>,
     pub name: Option<&'a str>,
-    pub case: Case,
-    pub answer: Answer,
-    pub heights: Option<Vec<u64>>,
+    pub asked: Asked,
+}
+
+/// What a case asks, and what the page answers.
+pub enum Asked {
+    Entry { case: Case, answer: Answer, heights: Option<Vec<u64>> },
+    Explanation { question: Question, stated: Stated },
+}
+
+impl Example<'_> {
+    /// The documents that are given.
+    pub fn documents(&self) -> &[Vec<u8>] {
+        match &self.asked {
+            Asked::Entry { case, .. } => &case.documents,
+            Asked::Explanation { question, .. } => &question.documents,
+        }
+    }
+
+    /// The answer of an entry that accepts: the document written, empty where none
+    /// is, and the number of filler elements.
+    pub fn accepted(&self) -> Option<(&Vec<u8>, u64)> {
+        match &self.asked {
+            Asked::Entry { answer: Answer::Ok { output, filler, .. }, .. } => Some((output, *filler)),
+            _ => None,
+        }
+    }
 }
 
 /// All cases, and their documents by name.
@@ -62,9 +90,9 @@ impl<'a> Examples<'a> {
     /// row.
     pub fn have(&self, bytes: &[u8]) -> bool {
         let has = |document: &Vec<u8>| document.windows(bytes.len()).any(|part| part == bytes);
-        self.all.iter().any(|example| match &example.answer {
-            Answer::Ok { output, .. } if has(output) => true,
-            _ => example.case.documents.iter().any(has),
+        self.all.iter().any(|example| {
+            let written = example.accepted().is_some_and(|(output, _)| has(output));
+            written || example.documents().iter().any(has)
         })
     }
 
@@ -78,44 +106,69 @@ impl<'a> Examples<'a> {
                 return Err(block.opening.fault(format!("'{name}' is no name, or not a new one")));
             }
         }
-        let entry = fields.entry()?;
-        let keys = keys_of(entry);
-        fields.only(&keys, entry)?;
+        let called = fields.called()?;
+        let keys = called.keys();
+        fields.only(&keys, called)?;
         let like = fields.like(self)?;
         let documents = keys.iter().map(|key| fields.document(key, like, &self.named));
         let documents: Vec<Vec<u8>> = documents.collect::<Result<_, _>>()?;
-        let output_length = match (entry.writes(), fields.get("room")) {
-            (false, _) => 0,
-            (true, None) => MOST_BYTES,
-            (true, Some((line, text))) => number(line, text)? as usize,
+        let given = keys.iter().zip(documents.clone());
+        let asked = match called {
+            Called::Entry(entry) => fields.of_entry(entry, documents, &self.named)?,
+            Called::Explain => fields.of_explanation(documents)?,
         };
-        let answer = fields.answer(entry, &self.named)?;
+        let example = Example { line: block.opening, name, asked };
         if let Some(name) = name {
-            let given = keys.iter().zip(&documents);
-            self.named.extend(given.map(|(key, bytes)| (format!("{name}.{key}"), bytes.clone())));
-            if let Answer::Ok { output, .. } = &answer {
+            self.named.extend(given.map(|(key, bytes)| (format!("{name}.{key}"), bytes)));
+            if let Some((output, _)) = example.accepted() {
                 self.named.insert(format!("{name}.output"), output.clone());
             }
         }
-        let heights = fields.heights()?;
-        let case = Case { entry, documents, output_length };
-        self.all.push(Example { line: block.opening, name, case, answer, heights });
+        self.all.push(example);
         Ok(())
     }
 }
 
-/// The documents of an entry, in the order in which it is given them.
-fn keys_of(entry: Entry) -> Vec<&'static str> {
-    match entry {
-        Entry::JudgeTable => vec!["table"],
-        Entry::JudgeTree => vec!["table", "tree"],
-        Entry::JudgeEmbedding => vec!["source", "target", "embedding"],
-        Entry::Carry | Entry::BringBack => vec!["source", "target", "embedding", "tree"],
+/// What a case calls: an entry, or the explanation of a clash.
+#[derive(Debug, Clone, Copy, PartialEq, Eq)]
+enum Called {
+    Entry(Entry),
+    Explain,
+}
+
+impl Called {
+    /// What has a name on the page.
+    fn of(text: &str) -> Option<Called> {
+        let mut all = Entry::ALL.into_iter().map(Called::Entry).chain([Called::Explain]);
+        all.find(|called| called.title() == text)
+    }
+
+    /// The name that the page has for it.
+    fn title(self) -> String {
+        match self {
+            Called::Entry(entry) => title(entry),
+            Called::Explain => "explain clash".to_string(),
+        }
+    }
+
+    /// The documents that it is given, in order.
+    fn keys(self) -> Vec<&'static str> {
+        match self {
+            Called::Entry(Entry::JudgeTable) => vec!["table"],
+            Called::Entry(Entry::JudgeTree) => vec!["table", "tree"],
+            Called::Entry(Entry::JudgeEmbedding) | Called::Explain => vec!["source", "target", "embedding"],
+            Called::Entry(Entry::Carry | Entry::BringBack) => vec!["source", "target", "embedding", "tree"],
+        }
+    }
+
+    /// Whether it is lent an output.
+    fn writes(self) -> bool {
+        matches!(self, Called::Entry(entry) if entry.writes())
     }
 }
 
 /// The name that the page has for an entry.
-pub fn title(entry: Entry) -> String {
+fn title(entry: Entry) -> String {
     entry.name().replace('_', " ")
 }
 
@@ -168,24 +221,50 @@ impl<'a> Fields<'a> {
         self.get(key).ok_or_else(|| self.opening.fault(format!("the case has no '{key}'")))
     }
 
-    /// The entry that is called.
-    fn entry(&self) -> Result<Entry, Failure> {
+    /// What is called.
+    fn called(&self) -> Result<Called, Failure> {
         let (line, text) = self.needed("entry")?;
-        let entry = Entry::ALL.into_iter().find(|&entry| title(entry) == text);
-        entry.ok_or_else(|| line.fault(format!("'{text}' is no entry")))
+        Called::of(text).ok_or_else(|| line.fault(format!("'{text}' is no entry")))
     }
 
-    /// Fails where a value is stated that the entry does not use.
-    fn only(&self, keys: &[&str], entry: Entry) -> Result<(), Failure> {
+    /// Fails where a value is stated that what is called does not use.
+    fn only(&self, keys: &[&str], called: Called) -> Result<(), Failure> {
         let unused = |key: &str| match key {
-            "room" | "output" => !entry.writes(),
-            "heights" => !keys.contains(&"target"),
+            "room" | "output" => !called.writes(),
+            "heights" => !keys.contains(&"target") || called == Called::Explain,
             _ => DOCUMENTS.contains(&key) && !keys.contains(&key),
         };
         match self.values.iter().find(|(key, _)| unused(key)) {
-            Some((key, (line, _))) => Err(line.fault(format!("'{}' takes no '{key}'", title(entry)))),
+            Some((key, (line, _))) => Err(line.fault(format!("'{}' takes no '{key}'", called.title()))),
             None => Ok(()),
         }
+    }
+
+    /// The case of an entry, with its answer.
+    fn of_entry(&self, entry: Entry, documents: Vec<Vec<u8>>, named: &Named) -> Result<Asked, Failure> {
+        let output_length = match (entry.writes(), self.get("room")) {
+            (false, _) => 0,
+            (true, None) => MOST_BYTES,
+            (true, Some((line, text))) => number(line, text)? as usize,
+        };
+        let answer = self.answer(entry, named)?;
+        let heights = self.heights()?;
+        Ok(Asked::Entry { case: Case { entry, documents, output_length }, answer, heights })
+    }
+
+    /// The question why paths clash, with what is stated. What a line of a vector
+    /// file says by `none ok`, the page says by `none accepted`.
+    fn of_explanation(&self, documents: Vec<Vec<u8>>) -> Result<Asked, Failure> {
+        let (line, text) = self.needed("answer")?;
+        let in_vectors = match text.strip_prefix("none accepted ") {
+            Some(edges) => format!("none ok {edges}"),
+            None => text.to_string(),
+        };
+        let stated = parse_stated(&in_vectors).ok().filter(|_| !text.starts_with("none ok"));
+        let wrong = || line.fault(format!("'{text}' is no answer of '{}'", Called::Explain.title()));
+        let stated = stated.ok_or_else(wrong)?;
+        let documents = documents.try_into().map_err(|_| line.fault("three documents are needed"))?;
+        Ok(Asked::Explanation { question: Question { documents }, stated })
     }
 
     /// The name of the case that documents are taken from.

@@ -1,7 +1,8 @@
 //! By which clause about optional choices an embedding is refused.
 
-use super::marked::{Broken, Marked, Reason};
+use super::marked::{Broken, Marked};
 use super::Clause;
+use crate::explanation::Reason;
 use crate::generate::Embedded;
 use crate::table::ContentModel;
 use crate::Refusal;
@@ -46,15 +47,15 @@ fn clash(marked: &Marked) -> Option<Clause> {
     }
     let clash = marked.clash()?;
     match clash.reason {
-        Reason::PartingAtSequence if !marked.model.is_optional() => {
+        Reason::PartsAtSequence if !marked.model.is_optional() => {
             let before = part_before(marked, clash.earlier, clash.shared);
             before.then_some(Clause::ChoicePartingBefore)
         }
         _ if !marked.model.is_optional() => None,
-        Reason::EqualPaths => Some(Clause::EqualPaths),
+        Reason::Equal => Some(Clause::EqualPaths),
         Reason::EarlierBeginsLater => Some(Clause::EarlierBeginsLater),
         Reason::LaterBeginsEarlier => Some(Clause::LaterBeginsEarlier),
-        Reason::PartingAtSequence => Some(Clause::PartingAtSequence),
+        Reason::PartsAtSequence => Some(Clause::PartingAtSequence),
     }
 }
 

@@ -2,9 +2,10 @@
 //! case.
 
 use super::images::clauses_of;
-use super::marked::{Broken, Marked, Reason};
+use super::marked::{Broken, Marked};
 use super::repair::Repair;
 use super::{accepted_embedding, embedded_of};
+use crate::explanation::Reason;
 use crate::generate::Embedded;
 use crate::image::Mapping;
 use crate::places::Places;
@@ -178,10 +179,10 @@ fn wrong_steps(marked: &Marked) -> Option<ListClause> {
 fn clash(marked: &Marked) -> Option<ListClause> {
     let clash = marked.clash()?;
     let clause = match clash.reason {
-        Reason::EqualPaths => ListClause::EqualPaths,
+        Reason::Equal => ListClause::EqualPaths,
         Reason::EarlierBeginsLater => ListClause::EarlierBeginsLater,
         Reason::LaterBeginsEarlier => ListClause::LaterBeginsEarlier,
-        Reason::PartingAtSequence => ListClause::PartingAtSequence,
+        Reason::PartsAtSequence => ListClause::PartingAtSequence,
     };
     let left = marked.left(marked.edge);
     left[..clash.shared].iter().any(|model| model.is_list()).then_some(clause)

@@ -1,6 +1,7 @@
 //! The path of an embedding that a refusal marks, and what is wrong with it.
 
 use crate::embedding::{before_choice, left, TypeMap};
+use crate::explanation::{first_clash, Earlier};
 use crate::generate::Embedded;
 use crate::table::{ContentModel, Table};
 
@@ -18,23 +19,6 @@ pub enum Broken {
     NoChoice,
     NeededChoiceFirst,
     OtherBeginning,
-}
-
-/// Why two paths of a choice of either kind clash.
-#[derive(Debug, Clone, Copy, PartialEq, Eq)]
-pub enum Reason {
-    EqualPaths,
-    EarlierBeginsLater,
-    LaterBeginsEarlier,
-    PartingAtSequence,
-}
-
-/// A clash with an earlier path: why, with which edge, and the number of steps
-/// that both begin with.
-pub struct Clash {
-    pub reason: Reason,
-    pub earlier: usize,
-    pub shared: usize,
 }
 
 impl<'a> Marked<'a> {
@@ -76,22 +60,8 @@ impl<'a> Marked<'a> {
         }
     }
 
-    /// The first earlier path of a choice of either kind that the path clashes
-    /// with.
-    pub fn clash(&self) -> Option<Clash> {
-        let later = &self.map.paths[self.edge].steps;
-        let left = self.left(self.edge);
-        (0..self.edge).find_map(|edge| {
-            let earlier = &self.map.paths[edge].steps;
-            let shared = earlier.iter().zip(later).take_while(|(a, b)| a == b).count();
-            let reason = match (shared == earlier.len(), shared == later.len()) {
-                (true, true) => Reason::EqualPaths,
-                (true, false) => Reason::EarlierBeginsLater,
-                (false, true) => Reason::LaterBeginsEarlier,
-                (false, false) if left[shared].is_choice() => return None,
-                (false, false) => Reason::PartingAtSequence,
-            };
-            Some(Clash { reason, earlier: edge, shared })
-        })
+    /// The first earlier path that the path clashes with.
+    pub fn clash(&self) -> Option<Earlier> {
+        first_clash(self.target, self.model, self.map, self.edge)
     }
 }

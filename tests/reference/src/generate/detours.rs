@@ -72,7 +72,7 @@ fn add_member(target: &mut Table, at: u8, member: u8) -> Option<u8> {
 
 /// The path with one of its steps from a sequence led through a further member
 /// of the same type.
-fn part(rng: &mut Rng, embedded: &mut Embedded, t: usize, edge: usize) -> Option<Vec<u8>> {
+pub(super) fn part(rng: &mut Rng, embedded: &mut Embedded, t: usize, edge: usize) -> Option<Vec<u8>> {
     let along = along(embedded, t, edge);
     let mut steps = embedded.embedding.maps[t].paths[edge].steps.clone();
     let target = &mut embedded.target;

@@ -89,7 +89,7 @@ pub fn identity(source: &Table) -> Embedded {
 }
 
 /// A map with the steps of its paths; the offsets are left 0.
-fn type_map(target: u8, paths: Vec<Vec<u8>>) -> TypeMap {
+pub(super) fn type_map(target: u8, paths: Vec<Vec<u8>>) -> TypeMap {
     let paths = paths.into_iter().map(|steps| Path { offset: 0, steps }).collect();
     TypeMap { offset: 0, target, paths }
 }
@@ -461,7 +461,7 @@ fn longer(prefix: &[u8], place: usize) -> Vec<u8> {
 }
 
 /// A content model with other type numbers.
-fn rename(model: &ContentModel, name: impl Fn(u8) -> u8) -> ContentModel {
+pub(super) fn rename(model: &ContentModel, name: impl Fn(u8) -> u8) -> ContentModel {
     match model {
         ContentModel::Sequence(members) => ContentModel::Sequence(members.iter().map(|&t| name(t)).collect()),
         ContentModel::Choice(members) => ContentModel::Choice(members.iter().map(|&t| name(t)).collect()),
@@ -474,7 +474,7 @@ fn rename(model: &ContentModel, name: impl Fn(u8) -> u8) -> ContentModel {
 }
 
 /// Puts the target types, but for the root, in another order.
-fn renumber(rng: &mut Rng, embedded: &mut Embedded) {
+pub(super) fn renumber(rng: &mut Rng, embedded: &mut Embedded) {
     let mut new: Vec<u8> = (0..embedded.target.types.len() as u8).collect();
     rng.shuffle(&mut new[1..]);
     let old = embedded.target.types.clone();
