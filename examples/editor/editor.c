@@ -1,6 +1,7 @@
 /*
  * A start for a desktop editor: loads a source table, a target table, an embedding and a tree, judges them, carries the
- * tree, brings its image back and compares. Every refusal is printed in words.
+ * tree, brings its image back and compares. Every refusal is printed in words; where two paths of the embedding clash,
+ * a second line says which and why.
  *
  *     editor [SOURCE-TABLE TARGET-TABLE EMBEDDING TREE]
  *
@@ -67,6 +68,18 @@ static const char optional_steps[] =
     "a path of an optional choice leads through some choice, the first of them is an optional one, and up to there it "
     "takes the same steps as the first member's path";
 
+/* Why two paths clash, as the end of a sentence about both. */
+static const char *const clashes[] = {
+    [LAFINDRY_EQUAL_PATHS] = " and are equal, so both members would have the same place",
+    [LAFINDRY_EARLIER_BEGINS] =
+        ", and the earlier one ends there, so the place of the later member would lie inside that of the earlier",
+    [LAFINDRY_LATER_BEGINS] =
+        ", and the later one ends there, so the place of the earlier member would lie inside that of the later",
+    [LAFINDRY_PARTS_AT_SEQUENCE] =
+        " and part at a sequence, which always has all its members, so filler could look like the member that was not "
+        "chosen",
+};
+
 /* Whether the path at an offset of the embedding belongs to an optional choice of the source table. Both documents have
    passed the checks of form, so each byte that is looked at is a command. */
 static int is_of_optional(uint64_t offset)
@@ -84,7 +97,24 @@ static int is_of_optional(uint64_t offset)
     return 0;
 }
 
-/* Prints a refusal: the document, the place in it if there is one, and the reason. */
+/* Prints which two paths of the embedding clash and why, in a sentence. */
+static void print_clash(void)
+{
+    const struct document *s = &documents[0], *t = &documents[1], *e = &documents[2];
+    struct lafindry_explanation clash =
+        lafindry_explain_clash(s->bytes, s->length, t->bytes, t->length, e->bytes, e->length);
+    if (clash.reason == LAFINDRY_NO_CLASH || clash.reason >= sizeof clashes / sizeof clashes[0])
+        return;
+    printf("source type %" PRIu64 ": the paths of members %" PRIu64 " and %" PRIu64 " share ", clash.source_type,
+           clash.earlier, clash.later);
+    if (clash.shared == 0)
+        printf("no step");
+    else
+        printf("%" PRIu64 " step%s", clash.shared, clash.shared == 1 ? "" : "s");
+    printf("%s\n", clashes[clash.reason]);
+}
+
+/* Prints a refusal: the document, the place in it if there is one, and the reason; of a clash, its explanation too. */
 static void print_refusal(struct lafindry_answer answer)
 {
     /* An answer out of range would mean that the header and the library are not of one version. */
@@ -99,6 +129,8 @@ static void print_refusal(struct lafindry_answer answer)
         printf(", type %" PRIu64, answer.mark);
     int optional = answer.refusal == LAFINDRY_WRONG_STEPS && is_of_optional(answer.mark);
     printf(": %s (refusal %" PRIu64 ")\n", optional ? optional_steps : refusals[answer.refusal].words, answer.refusal);
+    if (answer.refusal == LAFINDRY_PATH_CLASH)
+        print_clash();
 }
 
 /* Loads a file; whether that succeeded. */

@@ -1,7 +1,7 @@
 /*
- * Calls the five entries and lafindry_decimal through include/lafindry.h, with buffers lent as lend.h says. Prints one
- * line for each group, for changes of one byte how often the reference and the library gave each answer, and last
- * 'N passed, M failed'.
+ * Calls the five entries, lafindry_explain_clash and lafindry_decimal through include/lafindry.h, with buffers lent as
+ * lend.h says. Prints one line for each group, for changes of one byte how often the reference and the library gave
+ * each answer, and last 'N passed, M failed'.
  */
 #include "lend.h"
 
@@ -10,6 +10,7 @@
 #include <string.h>
 
 _Static_assert(sizeof(struct lafindry_answer) == 5 * sizeof(uint64_t), "an answer is five numbers");
+_Static_assert(sizeof(struct lafindry_explanation) == 10 * sizeof(uint64_t), "an explanation is ten numbers");
 _Static_assert(LAFINDRY_MOST_DIGITS == sizeof "18446744073709551615" - 1, "no number has more digits than UINT64_MAX");
 
 /* The patch of paper 01, and its image. */
@@ -35,6 +36,11 @@ static struct call judge_table(struct document table)
 static struct call judge_embedding(struct document source, struct document target, struct document embedding)
 {
     return (struct call){.entry = JUDGE_EMBEDDING, .documents = {source, target, embedding}};
+}
+
+static struct call explain(struct document source, struct document target, struct document embedding)
+{
+    return (struct call){.entry = EXPLAIN_CLASH, .documents = {source, target, embedding}};
 }
 
 static struct call judge_tree(struct document table, struct document tree)
@@ -122,17 +128,39 @@ static void print_answer(const char *word, struct lafindry_answer answer)
            (unsigned long long)answer.filler);
 }
 
-/* What a call has to give: an answer, and what is written where it writes. */
+static void print_clash(const char *word, struct clash clash)
+{
+    printf(" %s clash {%llu, %llu, %llu, %llu, %llu}", word, (unsigned long long)clash.reason,
+           (unsigned long long)clash.source_type, (unsigned long long)clash.earlier, (unsigned long long)clash.later,
+           (unsigned long long)clash.shared);
+}
+
+/* Makes a call. One that explains is wrong too where its answer is not that of judging the same documents. */
+static struct result checked_call(const struct call *call)
+{
+    struct result result = make_call(call);
+    if (call->entry == EXPLAIN_CLASH && result.wrong == NULL) {
+        struct call judging = *call;
+        judging.entry = JUDGE_EMBEDDING;
+        if (!same_answer(result.answer, make_call(&judging).answer))
+            result.wrong = "judging the same documents gave another answer";
+    }
+    return result;
+}
+
+/* What a call has to give: an answer, the clash where one is explained, and what is written where it writes. */
 struct expected {
     struct lafindry_answer answer;
+    struct clash clash;
     struct document written;
 };
 
 /* Makes a call and compares; the name and the number say which case it is. */
 static void expect_at(const char *name, size_t number, struct expected expected, struct call call)
 {
-    struct result got = make_call(&call);
-    if (got.wrong == NULL && same_answer(got.answer, expected.answer) && same_bytes(got.written, expected.written)) {
+    struct result got = checked_call(&call);
+    if (got.wrong == NULL && same_answer(got.answer, expected.answer) && same_clash(got.clash, expected.clash) &&
+        same_bytes(got.written, expected.written)) {
         passed++;
         return;
     }
@@ -140,6 +168,10 @@ static void expect_at(const char *name, size_t number, struct expected expected,
         printf("\n  %s %zu:", name, number);
         print_answer("expected", expected.answer);
         print_answer("answered", got.answer);
+        if (!same_clash(got.clash, expected.clash)) {
+            print_clash("expected", expected.clash);
+            print_clash("answered", got.clash);
+        }
         if (!same_bytes(got.written, expected.written))
             printf("; what was written is not what was expected");
         if (got.wrong != NULL)
@@ -147,8 +179,20 @@ static void expect_at(const char *name, size_t number, struct expected expected,
     }
 }
 
-/* Nothing is written, by a judge or after a refusal. */
-#define EXPECT(answer, call) expect_at("entries.c line", __LINE__, (struct expected){(answer), NO_BYTES}, (call))
+/* An answer alone: nothing is explained, and nothing is written, by a judge or after a refusal. */
+static struct expected only(struct lafindry_answer answer) { return (struct expected){.answer = answer}; }
+#define EXPECT(answer, call) expect_at("entries.c line", __LINE__, only(answer), (call))
+
+/* A clash is explained: the offset of the later path, the reason, the source type, both members, and the number of
+   steps that their paths share. */
+#define EXPECT_CLASH(mark, reason, source_type, earlier, later, shared, call) \
+    expect_at("entries.c line", __LINE__,                                     \
+              explained_clash((mark), (struct clash){(reason), (source_type), (earlier), (later), (shared)}), (call))
+
+static struct expected explained_clash(uint64_t mark, struct clash clash)
+{
+    return (struct expected){.answer = refused(LAFINDRY_PATH_CLASH, LAFINDRY_EMBEDDING, mark), .clash = clash};
+}
 
 /* A document is written, with so many filler elements. */
 #define EXPECT_WRITTEN(document, filler, call) \
@@ -158,7 +202,7 @@ static struct expected written_document(struct document document, uint64_t fille
 {
     struct lafindry_answer answer = accepted(document.length);
     answer.filler = filler;
-    return (struct expected){answer, document};
+    return (struct expected){.answer = answer, .written = document};
 }
 
 /* Paper 01's cases, and one of each other refusal. */
@@ -295,7 +339,7 @@ static void optional_cases(void)
 /* All lengths of output around what is needed, and longer ones. */
 static void output_lengths(void)
 {
-    const struct expected too_short = {refused(LAFINDRY_OUTPUT_TOO_SHORT, LAFINDRY_OUTPUT, 0), NO_BYTES};
+    const struct expected too_short = only(refused(LAFINDRY_OUTPUT_TOO_SHORT, LAFINDRY_OUTPUT, 0));
     begin_group("lengths of output");
     for (size_t room = 0; room <= ROOM; room += room < 40 ? 1 : 5005) {
         expect_at("carried into", room, room < IMAGE.length ? too_short : written_document(IMAGE, 1),
@@ -309,9 +353,10 @@ static void output_lengths(void)
 /* The patch with one of its documents replaced. */
 
 /* Answers counted by refusal (0: accepted) and document, the sums of their other fields, and of the bytes written, each
-   byte multiplied by its place from 1. */
+   byte multiplied by its place from 1; clashes counted by reason. */
 struct tally {
     uint64_t count[LAFINDRY_NO_IMAGE + 1][LAFINDRY_OUTPUT + 1], marks, values, fillers, bytes;
+    uint64_t reasons[LAFINDRY_PARTS_AT_SEQUENCE + 1];
 };
 
 /* What each entry is given. */
@@ -347,17 +392,29 @@ static const struct place {
     {"bring back, target table", BRING_BACK, PATCH_IMAGE, 1, LAFINDRY_TARGET_TABLE, 15, 0, &TREE},
     {"bring back, embedding", BRING_BACK, PATCH_IMAGE, 2, LAFINDRY_EMBEDDING, 15, 0, &TREE},
     {"bring back, tree", BRING_BACK, PATCH_IMAGE, 3, LAFINDRY_TREE, 15, 0, &TREE},
+    {"explain, source table", EXPLAIN_CLASH, SETTING, 0, LAFINDRY_SOURCE_TABLE, 5, 0, NULL},
+    {"explain, target table", EXPLAIN_CLASH, SETTING, 1, LAFINDRY_TARGET_TABLE, 5, 0, NULL},
+    {"explain, embedding", EXPLAIN_CLASH, SETTING, 2, LAFINDRY_EMBEDDING, 5, 0, NULL},
 };
 
 enum { PLACES = sizeof places / sizeof places[0] };
 
 /* For each place the tally of all changes of one byte, as the reference answers them; tests/reference/tests/changes.rs
-   compares. */
+   compares. No change makes two paths of the patch clash. */
 static const struct tally by_reference[] = {
 #include "changes.inc"
 };
 
-_Static_assert(sizeof by_reference / sizeof by_reference[0] == PLACES, "a tally for each place");
+enum { TALLIES = sizeof by_reference / sizeof by_reference[0] };
+_Static_assert(TALLIES + 3 == PLACES, "a tally for each place, those of explanations aside");
+
+/* The tally of a place. Explaining answers as judging the embedding does, so its places, which are the last, have the
+   tallies of that. */
+static const struct tally *stored_tally(int place)
+{
+    enum { FIRST_OF_EMBEDDING = 2 };
+    return &by_reference[place < TALLIES ? place : place - TALLIES + FIRST_OF_EMBEDDING];
+}
 
 /* The length of output lent with changed documents; some of their images are longer. */
 enum { PLACE_ROOM = 22 };
@@ -379,7 +436,7 @@ static struct expected whole_patch(const struct place *place)
 {
     struct lafindry_answer answer = accepted(place->value);
     answer.filler = place->filler;
-    return (struct expected){answer, place->written == NULL ? NO_BYTES : *place->written};
+    return (struct expected){.answer = answer, .written = place->written == NULL ? NO_BYTES : *place->written};
 }
 
 /* The length of the whole commands that a document begins with. */
@@ -410,8 +467,7 @@ static void beginnings(void)
             beginning.length--;
             changed_images += is_image(place);
             struct lafindry_answer answer = refused(LAFINDRY_BAD_FORM, place->number, whole_commands(beginning));
-            expect_at(place->name, beginning.length, (struct expected){answer, NO_BYTES},
-                      call_with(place, beginning));
+            expect_at(place->name, beginning.length, only(answer), call_with(place, beginning));
         }
     }
     end_group();
@@ -457,9 +513,23 @@ static void null_pointers(void)
     end_group();
 }
 
-/* Whether the fields that don't apply are 0, and the others in their ranges. */
-static int is_well_formed(enum entry entry, struct lafindry_answer answer)
+/* Whether a clash is explained exactly where there is one, with its numbers in their ranges. */
+static int is_explained_right(enum entry entry, const struct result *result)
 {
+    const struct clash none = {0}, clash = result->clash;
+    if (entry != EXPLAIN_CLASH || result->answer.refusal != LAFINDRY_PATH_CLASH)
+        return same_clash(clash, none);
+    return clash.reason >= LAFINDRY_EQUAL_PATHS && clash.reason <= LAFINDRY_PARTS_AT_SEQUENCE &&
+           clash.source_type < 64 && clash.earlier >= 1 && clash.earlier < clash.later && clash.later <= 16 &&
+           clash.shared <= 12;
+}
+
+/* Whether the fields that don't apply are 0, and the others in their ranges. */
+static int is_well_formed(enum entry entry, const struct result *result)
+{
+    const struct lafindry_answer answer = result->answer;
+    if (!is_explained_right(entry, result))
+        return 0;
     if (answer.refusal == LAFINDRY_ACCEPTED)
         return answer.document == 0 && answer.mark == 0 && answer.value > 0 && (answer.filler == 0 || entry == CARRY);
     return answer.refusal <= LAFINDRY_NO_IMAGE && answer.document >= LAFINDRY_SOURCE_TABLE &&
@@ -472,6 +542,8 @@ static void add_to_tally(struct tally *tally, const struct result *result)
     tally->marks += result->answer.mark;
     tally->values += result->answer.value;
     tally->fillers += result->answer.filler;
+    if (result->clash.reason != LAFINDRY_NO_CLASH)
+        tally->reasons[result->clash.reason]++;
     for (size_t i = 0; i < result->written.length; i++)
         tally->bytes += (i + 1) * result->written.bytes[i];
 }
@@ -487,14 +559,15 @@ static struct tally tally_changes(const struct place *place)
         for (int change = 1; change <= 0xFF; change++) {
             bytes[at] = document->bytes[at] ^ (uint8_t)change;
             struct call call = call_with(place, (struct document){bytes, document->length});
-            struct result result = make_call(&call);
+            struct result result = checked_call(&call);
             changed_images += is_image(place);
-            if (result.wrong == NULL && is_well_formed(place->entry, result.answer)) {
+            if (result.wrong == NULL && is_well_formed(place->entry, &result)) {
                 passed++;
                 add_to_tally(&tally, &result);
             } else if (fail()) {
                 printf("\n  %s, byte %zu set to %02X:", place->name, at, (unsigned)bytes[at]);
                 print_answer("answered", result.answer);
+                print_clash("with", result.clash);
                 printf("%s%s", result.wrong != NULL ? "; " : "", result.wrong != NULL ? result.wrong : "");
             }
         }
@@ -525,10 +598,11 @@ static void compare_tallies(const struct place *place, const struct tally *refer
         }
     }
     if (reference->marks == library->marks && reference->values == library->values &&
-        reference->fillers == library->fillers && reference->bytes == library->bytes)
+        reference->fillers == library->fillers && reference->bytes == library->bytes &&
+        memcmp(reference->reasons, library->reasons, sizeof library->reasons) == 0)
         passed++;
     else if (fail())
-        printf("\n  %s: the marks, values, fillers or bytes written are others", place->name);
+        printf("\n  %s: the marks, values, fillers, bytes written or reasons are others", place->name);
 }
 
 static void changed_bytes(void)
@@ -536,7 +610,7 @@ static void changed_bytes(void)
     begin_group("changes of one byte, answers by the reference/by the library");
     for (int i = 0; i < PLACES; i++) {
         const struct tally by_library = tally_changes(&places[i]);
-        compare_tallies(&places[i], &by_reference[i], &by_library);
+        compare_tallies(&places[i], stored_tally(i), &by_library);
     }
     printf("\n  ");
     end_group();
@@ -695,9 +769,9 @@ static void all_characters(void)
         const int allowed = is_allowed(character);
         const struct document tree = DOCUMENT(0x30, 0x00, 0x31, character, 0x32, 0x3F);
         const struct document image = DOCUMENT(0x30, 0x00, 0x30, 0x01, 0x31, character, 0x32, 0x32, 0x3F);
-        const struct expected in_tree = {refused(LAFINDRY_BAD_OPERAND, LAFINDRY_TREE, 2), NO_BYTES};
-        const struct expected in_image = {refused(LAFINDRY_BAD_OPERAND, LAFINDRY_TREE, 4), NO_BYTES};
-        const struct expected one_element = {accepted(1), NO_BYTES};
+        const struct expected in_tree = only(refused(LAFINDRY_BAD_OPERAND, LAFINDRY_TREE, 2));
+        const struct expected in_image = only(refused(LAFINDRY_BAD_OPERAND, LAFINDRY_TREE, 4));
+        const struct expected one_element = only(accepted(1));
         expect_at("text judged, byte", byte, allowed ? one_element : in_tree, judge_tree(TEXT, tree));
         expect_at("text carried, byte", byte, allowed ? written_document(image, 0) : in_tree,
                   carry(TEXT, TEXT_IN_SEQUENCE, embedding, tree, image.length));
@@ -705,7 +779,7 @@ static void all_characters(void)
                   bring_back(TEXT, TEXT_IN_SEQUENCE, embedding, image, tree.length));
         changed_images += !allowed;
 
-        const struct expected unexpected = {refused(LAFINDRY_UNEXPECTED, LAFINDRY_TREE, 2), NO_BYTES};
+        const struct expected unexpected = only(refused(LAFINDRY_UNEXPECTED, LAFINDRY_TREE, 2));
         const struct expected in_list = allowed ? unexpected : in_tree;
         expect_at("list judged, byte", byte, in_list, judge_tree(LIST_OF_ITSELF, tree));
         expect_at("list carried, byte", byte, in_list,
@@ -798,6 +872,267 @@ static void limits_of_length(void)
     end_group();
 }
 
+/* Why paths clash; paper 02, N9. */
+
+/* What is explained of an embedding: the mark and the clash. Without a reason it is accepted. */
+struct marked_clash {
+    uint64_t mark;
+    struct clash clash;
+};
+
+/* An embedding of the source and target of clashes_of: what follows `20 01`, up to the end. */
+#define THREE(...) BYTES(0x20, 0x00, 0x21, 0x22, 0x01, 0x20, 0x01, __VA_ARGS__, 0x2F)
+
+/* Paths of three members, and what is explained of them in a choice of either kind and in a sequence. */
+static const struct {
+    const char *paths;
+    struct document embedding;
+    struct marked_clash in_choice, in_sequence;
+} three_paths[] = {
+    {"paths 2, 1.1.1 and 1.1.1, case",
+     THREE(0x21, 0x22, 0x02, 0x21, 0x22, 0x01, 0x22, 0x01, 0x22, 0x01, 0x21, 0x22, 0x01, 0x22, 0x01, 0x22, 0x01,
+           0x20, 0x05, 0x20, 0x04, 0x20, 0x04),
+     {17, {LAFINDRY_EQUAL_PATHS, 1, 2, 3, 3}},
+     {17, {LAFINDRY_EQUAL_PATHS, 1, 2, 3, 3}}},
+    /* The second is the first that clashes. */
+    {"paths 2, 2 and 2, case",
+     THREE(0x21, 0x22, 0x02, 0x21, 0x22, 0x02, 0x21, 0x22, 0x02, 0x20, 0x05, 0x20, 0x05, 0x20, 0x05),
+     {10, {LAFINDRY_EQUAL_PATHS, 1, 1, 2, 1}},
+     {10, {LAFINDRY_EQUAL_PATHS, 1, 1, 2, 1}}},
+    {"paths 2, 1.1 and 1.1.2, case",
+     THREE(0x21, 0x22, 0x02, 0x21, 0x22, 0x01, 0x22, 0x01, 0x21, 0x22, 0x01, 0x22, 0x01, 0x22, 0x02,
+           0x20, 0x05, 0x20, 0x03, 0x20, 0x04),
+     {15, {LAFINDRY_EARLIER_BEGINS, 1, 2, 3, 2}},
+     {15, {LAFINDRY_EARLIER_BEGINS, 1, 2, 3, 2}}},
+    {"paths 1.1.2, 2 and 1.1, case",
+     THREE(0x21, 0x22, 0x01, 0x22, 0x01, 0x22, 0x02, 0x21, 0x22, 0x02, 0x21, 0x22, 0x01, 0x22, 0x01,
+           0x20, 0x04, 0x20, 0x05, 0x20, 0x03),
+     {17, {LAFINDRY_LATER_BEGINS, 1, 1, 3, 2}},
+     {17, {LAFINDRY_LATER_BEGINS, 1, 1, 3, 2}}},
+    /* Members of a sequence may part at one. */
+    {"paths 1.1.1, 2 and 1.1.2, case",
+     THREE(0x21, 0x22, 0x01, 0x22, 0x01, 0x22, 0x01, 0x21, 0x22, 0x02, 0x21, 0x22, 0x01, 0x22, 0x01, 0x22, 0x02,
+           0x20, 0x04, 0x20, 0x05, 0x20, 0x04),
+     {17, {LAFINDRY_PARTS_AT_SEQUENCE, 1, 1, 3, 2}},
+     {0, {LAFINDRY_NO_CLASH, 0, 0, 0, 0}}},
+    /* The third is a beginning of both others, but in a choice those two clash already. */
+    {"paths 1.1, 1.2 and 1, case",
+     THREE(0x21, 0x22, 0x01, 0x22, 0x01, 0x21, 0x22, 0x01, 0x22, 0x02, 0x21, 0x22, 0x01,
+           0x20, 0x03, 0x20, 0x04, 0x20, 0x02),
+     {12, {LAFINDRY_PARTS_AT_SEQUENCE, 1, 1, 2, 1}},
+     {17, {LAFINDRY_LATER_BEGINS, 1, 1, 3, 1}}},
+};
+
+/* A source sequence whose one member is of this kind, with three empty types as members; and a target with the same
+   kind as type 1, from which 1 leads to the sequence 2, 1.1 to the sequence 3, and 1.2, 1.1.1 and 1.1.2 to the empty
+   type 4; and 2 to the empty type 5. */
+static void clashes_of(const char *name, uint8_t kind)
+{
+    const struct document source = DOCUMENT(0x12, 0x15, 0x01, kind, 0x15, 0x02, 0x15, 0x03, 0x15, 0x04, 0x11, 0x11,
+                                            0x11, 0x1F);
+    const struct document target = DOCUMENT(0x12, 0x15, 0x01, kind, 0x15, 0x02, 0x15, 0x05, 0x12, 0x15, 0x03, 0x15,
+                                            0x04, 0x12, 0x15, 0x04, 0x15, 0x04, 0x11, 0x11, 0x1F);
+    begin_group(name);
+    for (size_t i = 0; i < sizeof three_paths / sizeof three_paths[0]; i++) {
+        const struct marked_clash e = kind == 0x12 ? three_paths[i].in_sequence : three_paths[i].in_choice;
+        const int clashes = e.clash.reason != LAFINDRY_NO_CLASH;
+        expect_at(three_paths[i].paths, i,
+                  clashes ? explained_clash(e.mark, e.clash) : only(accepted(4)),
+                  explain(source, target, three_paths[i].embedding));
+    }
+    end_group();
+}
+
+/* Cases of paper 01 and of optional choices, and such as only a choice has. */
+static void clashes_of_choices(void)
+{
+    const struct document choice = DOCUMENT(0x13, 0x15, 0x01, 0x15, 0x02, 0x11, 0x11, 0x1F);
+    const struct document three = DOCUMENT(0x13, 0x15, 0x01, 0x15, 0x02, 0x15, 0x03, 0x11, 0x11, 0x11, 0x1F);
+
+    begin_group("worked cases of clashes");
+    EXPECT_CLASH(18, LAFINDRY_EQUAL_PATHS, 2, 1, 2, 1,
+                 explain(SOURCE, TARGET,
+                         DOCUMENT(0x20, 0x00, 0x21, 0x22, 0x01, 0x22, 0x01, 0x21, 0x22, 0x02, 0x20, 0x03, 0x21, 0x20,
+                                  0x02, 0x21, 0x22, 0x02, 0x21, 0x22, 0x02, 0x20, 0x05, 0x20, 0x05, 0x2F)));
+    EXPECT_CLASH(7, LAFINDRY_PARTS_AT_SEQUENCE, 0, 1, 2, 0,
+                 explain(choice,
+                         DOCUMENT(0x12, 0x15, 0x01, 0x15, 0x01, 0x13, 0x15, 0x02, 0x15, 0x03, 0x11, 0x11, 0x1F),
+                         DOCUMENT(0x20, 0x00, 0x21, 0x22, 0x01, 0x22, 0x01, 0x21, 0x22, 0x02, 0x22, 0x01, 0x20, 0x02,
+                                  0x20, 0x02, 0x2F)));
+
+    /* Paths that part before their first choice: nothing to explain for an optional choice. */
+    EXPECT(accepted(3), explain(OPTIONAL_ROOT, TWO_OPTIONAL, INTO_SECOND));
+    EXPECT(refused(LAFINDRY_WRONG_STEPS, LAFINDRY_EMBEDDING, 7), explain(OPTIONAL_ROOT, TWO_OPTIONAL, INTO_BOTH));
+    EXPECT_CLASH(7, LAFINDRY_PARTS_AT_SEQUENCE, 0, 1, 2, 0,
+                 explain(DOCUMENT(0x13, 0x15, 0x01, 0x15, 0x02, 0x10, 0x11, 0x1F), TWO_OPTIONAL, INTO_BOTH));
+
+    /* 1.1, 1.2 and 1, where 1 leads from a choice to a choice: the third is a beginning of both others. */
+    EXPECT_CLASH(12, LAFINDRY_LATER_BEGINS, 0, 1, 3, 1,
+                 explain(three, DOCUMENT(0x13, 0x15, 0x01, 0x15, 0x02, 0x13, 0x15, 0x02, 0x15, 0x03, 0x11, 0x11, 0x1F),
+                         DOCUMENT(0x20, 0x00, 0x21, 0x22, 0x01, 0x22, 0x01, 0x21, 0x22, 0x01, 0x22, 0x02, 0x21, 0x22,
+                                  0x01, 0x20, 0x02, 0x20, 0x03, 0x20, 0x01, 0x2F)));
+    /* 1.1.1 and 1.1.2, where 1 leads from a choice to a list of sequences. */
+    EXPECT_CLASH(9, LAFINDRY_PARTS_AT_SEQUENCE, 0, 1, 2, 2,
+                 explain(choice, DOCUMENT(0x13, 0x15, 0x01, 0x15, 0x02, 0x14, 0x03, 0x11, 0x12, 0x15, 0x02, 0x15, 0x02,
+                                          0x1F),
+                         DOCUMENT(0x20, 0x00, 0x21, 0x22, 0x01, 0x22, 0x01, 0x22, 0x01, 0x21, 0x22, 0x01, 0x22, 0x01,
+                                  0x22, 0x02, 0x20, 0x02, 0x20, 0x02, 0x2F)));
+    end_group();
+}
+
+/* The last two of 16 members of the last of 64 types have equal paths of 12 steps. */
+static void greatest_clash(void)
+{
+    static struct made source, target, embedding;
+    add(&source, 63, DOCUMENT(0x11));
+    add(&source, 1, DOCUMENT(0x12));
+    add(&source, 16, DOCUMENT(0x15, 0x00));
+    add(&source, 1, DOCUMENT(0x1F));
+    /* A sequence of lists of itself. */
+    add(&target, 1, DOCUMENT(0x12));
+    add(&target, 16, DOCUMENT(0x15, 0x01));
+    add(&target, 1, DOCUMENT(0x14, 0x00, 0x1F));
+    add(&embedding, 64, DOCUMENT(0x20, 0x00));
+    for (int member = 1; member <= 16; member++) {
+        add(&embedding, 1, DOCUMENT(0x21));
+        add(&embedding, 6, DOCUMENT(0x22, (uint8_t)(member < 16 ? member : 15), 0x22, 0x01));
+    }
+    add(&embedding, 1, DOCUMENT(0x2F));
+
+    begin_group("a clash with the greatest numbers");
+    EXPECT_CLASH(503, LAFINDRY_EQUAL_PATHS, 63, 15, 16, 12,
+                 explain(document_of(&source), document_of(&target), document_of(&embedding)));
+    end_group();
+}
+
+/* A table refused in the place of the patch's source table, and of its target table. */
+static void expect_table_refused(uint64_t refusal, uint64_t mark, struct document table)
+{
+    expect_at("source table, refusal", refusal, only(refused(refusal, LAFINDRY_SOURCE_TABLE, mark)),
+              explain(table, TARGET, EMBEDDING));
+    expect_at("target table, refusal", refusal, only(refused(refusal, LAFINDRY_TARGET_TABLE, mark)),
+              explain(SOURCE, table, EMBEDDING));
+}
+
+/* Nothing to explain: accepted, and each refusal of each document but 10. */
+static void without_clash(void)
+{
+    begin_group("embeddings without a clash");
+    EXPECT(accepted(5), explain(SOURCE, TARGET, EMBEDDING));
+    EXPECT(accepted(1), explain(TEXT, nested_sequences(12), many_steps(12)));
+    expect_table_refused(LAFINDRY_TOO_LONG, 0, many_types(60000));
+    expect_table_refused(LAFINDRY_BAD_FORM, 0, NO_BYTES);
+    expect_table_refused(LAFINDRY_BAD_FORM, 1, DOCUMENT(0x12, 0x1F));
+    expect_table_refused(LAFINDRY_OVER_LIMIT, 64, many_types(65));
+    expect_table_refused(LAFINDRY_OVER_LIMIT, 64, many_types(59999));
+    expect_table_refused(LAFINDRY_OVER_LIMIT, 33, many_members(17));
+    expect_table_refused(LAFINDRY_BAD_OPERAND, 0, DOCUMENT(0x14, 0x01, 0x1F));
+    expect_table_refused(LAFINDRY_REPEATED_MEMBER, 3, DOCUMENT(0x13, 0x15, 0x01, 0x15, 0x01, 0x11, 0x1F));
+    expect_table_refused(LAFINDRY_NO_FINITE_INSTANCE, 1, DOCUMENT(0x11, 0x12, 0x15, 0x01, 0x1F));
+
+    EXPECT(refused(LAFINDRY_TOO_LONG, LAFINDRY_EMBEDDING, 0), explain(TEXT, TEXT, many_steps(29999)));
+    EXPECT(refused(LAFINDRY_BAD_FORM, LAFINDRY_EMBEDDING, 0), explain(TEXT, TEXT, NO_BYTES));
+    EXPECT(refused(LAFINDRY_BAD_FORM, LAFINDRY_EMBEDDING, 2), explain(TEXT, TEXT, DOCUMENT(0x20, 0x00, 0x2F)));
+    EXPECT(refused(LAFINDRY_OVER_LIMIT, LAFINDRY_EMBEDDING, 27), explain(TEXT, nested_sequences(13), many_steps(13)));
+    EXPECT(refused(LAFINDRY_OVER_LIMIT, LAFINDRY_EMBEDDING, 27), explain(TEXT, TEXT, many_steps(29998)));
+    EXPECT(refused(LAFINDRY_BAD_OPERAND, LAFINDRY_EMBEDDING, 3), explain(TEXT, TEXT, many_steps(1)));
+    EXPECT(refused(LAFINDRY_ROOT_MOVED, LAFINDRY_EMBEDDING, 0),
+           explain(TEXT, TEXT_IN_SEQUENCE, DOCUMENT(0x20, 0x01, 0x21, 0x2F)));
+    EXPECT(refused(LAFINDRY_WRONG_END, LAFINDRY_EMBEDDING, 2), explain(TEXT, TEXT_IN_SEQUENCE, many_steps(0)));
+    /* A member of a sequence whose path has no step; so has the other's, but 9 comes before 10. */
+    EXPECT(refused(LAFINDRY_WRONG_STEPS, LAFINDRY_EMBEDDING, 2),
+           explain(DOCUMENT(0x12, 0x15, 0x01, 0x15, 0x01, 0x11, 0x1F), EMPTY_ROOT,
+                   DOCUMENT(0x20, 0x00, 0x21, 0x21, 0x20, 0x00, 0x2F)));
+    /* The source table is judged before the target table, and both before the embedding. */
+    EXPECT(refused(LAFINDRY_BAD_FORM, LAFINDRY_SOURCE_TABLE, 0), explain(NO_BYTES, NO_BYTES, NO_BYTES));
+    EXPECT(refused(LAFINDRY_BAD_FORM, LAFINDRY_TARGET_TABLE, 0), explain(SOURCE, NO_BYTES, NO_BYTES));
+    end_group();
+}
+
+/* Empty documents given as null pointers. */
+static void null_pointers_explained(void)
+{
+    const uint8_t *s = SOURCE.bytes, *t = TARGET.bytes;
+    const struct {
+        uint64_t document;
+        struct lafindry_explanation got;
+    } cases[] = {
+        {LAFINDRY_SOURCE_TABLE, lafindry_explain_clash(NULL, 0, NULL, 0, NULL, 0)},
+        {LAFINDRY_TARGET_TABLE, lafindry_explain_clash(s, SOURCE.length, NULL, 0, NULL, 0)},
+        {LAFINDRY_EMBEDDING, lafindry_explain_clash(s, SOURCE.length, t, TARGET.length, NULL, 0)},
+    };
+
+    begin_group("null pointers with length 0, explained");
+    for (size_t i = 0; i < sizeof cases / sizeof cases[0]; i++) {
+        const struct expected expected = only(refused(LAFINDRY_BAD_FORM, cases[i].document, 0));
+        const struct result got = explained(cases[i].got);
+        if (same_answer(got.answer, expected.answer) && same_clash(got.clash, expected.clash)) {
+            passed++;
+        } else if (fail()) {
+            printf("\n  case %zu:", i);
+            print_answer("answered", got.answer);
+            print_clash("with", got.clash);
+        }
+    }
+    end_group();
+}
+
+/* The paths 1.2, 2.1.1, 3.1 and 4.1.1 from a choice of four sequences, each of twice an optional choice of itself. All
+   end at that type, so each step may become another; where a first step does, two paths clash. */
+static const struct document FOUR = BYTES(0x13, 0x15, 0x01, 0x15, 0x02, 0x15, 0x03, 0x15, 0x04, 0x11, 0x11, 0x11, 0x11,
+                                          0x1F);
+static const struct document FOUR_SEQUENCES =
+    BYTES(0x13, 0x15, 0x01, 0x15, 0x02, 0x15, 0x03, 0x15, 0x04, 0x12, 0x15, 0x05, 0x15, 0x05, 0x12, 0x15, 0x05, 0x15,
+          0x05, 0x12, 0x15, 0x05, 0x15, 0x05, 0x12, 0x15, 0x05, 0x15, 0x05, 0x17, 0x15, 0x05, 0x1F);
+static const struct document FOUR_PATHS =
+    BYTES(0x20, 0x00, 0x21, 0x22, 0x01, 0x22, 0x02, 0x21, 0x22, 0x02, 0x22, 0x01, 0x22, 0x01, 0x21, 0x22, 0x03, 0x22,
+          0x01, 0x21, 0x22, 0x04, 0x22, 0x01, 0x22, 0x01, 0x20, 0x05, 0x20, 0x05, 0x20, 0x05, 0x20, 0x05, 0x2F);
+
+/* Changes of one byte that make paths clash. */
+static void changed_paths(void)
+{
+    static const struct document *const setting[] = {&FOUR, &FOUR_SEQUENCES, &FOUR_PATHS};
+    const struct place place = {"four paths", EXPLAIN_CLASH, setting, 2, LAFINDRY_EMBEDDING, 4, 0, NULL};
+    /* With another first step the first path always parts from another at a sequence, and each of the others from the
+       first. The second and fourth can equal each other; the third can begin either, and either can begin with it. */
+    static const uint64_t reasons[] = {
+        [LAFINDRY_EQUAL_PATHS] = 2,
+        [LAFINDRY_EARLIER_BEGINS] = 2,
+        [LAFINDRY_LATER_BEGINS] = 2,
+        [LAFINDRY_PARTS_AT_SEQUENCE] = 6,
+    };
+
+    begin_group("changes of one byte, reasons by hand/by the library");
+    expect_at(place.name, 0, whole_patch(&place), call_with(&place, FOUR_PATHS));
+    const struct tally tally = tally_changes(&place);
+    for (int reason = LAFINDRY_EQUAL_PATHS; reason <= LAFINDRY_PARTS_AT_SEQUENCE; reason++) {
+        printf("%d %llu/%llu; ", reason, (unsigned long long)reasons[reason],
+               (unsigned long long)tally.reasons[reason]);
+        if (tally.reasons[reason] == reasons[reason])
+            passed++;
+        else if (fail())
+            printf("\n  reason %d was given another number of times;", reason);
+    }
+    /* The second step of each path may be the other one. */
+    if (tally.count[LAFINDRY_ACCEPTED][0] == 4)
+        passed++;
+    else if (fail())
+        printf("\n  another number than 4 is accepted;");
+    end_group();
+}
+
+static void explanations(void)
+{
+    clashes_of("clashes in a sequence", 0x12);
+    clashes_of("clashes in a choice", 0x13);
+    clashes_of("clashes in an optional choice", 0x17);
+    clashes_of_choices();
+    greatest_clash();
+    without_clash();
+    null_pointers_explained();
+    changed_paths();
+}
+
 /* Numbers in decimal: those at which one digit more begins, the greatest length of a document, and the greatest numbers
    of all. */
 static const struct {
@@ -833,7 +1168,7 @@ static const struct {
 /* Each of them into all lengths of output up to some more than is ever needed, and longer ones. */
 static void decimal_numbers(void)
 {
-    const struct expected too_short = {accepted(0), NO_BYTES};
+    const struct expected too_short = only(accepted(0));
     unsigned long cases = 0;
     begin_group("numbers in decimal");
     for (size_t i = 0; i < sizeof numbers / sizeof numbers[0]; i++) {
@@ -875,6 +1210,7 @@ int main(void)
     limits_of_documents();
     limits_of_levels();
     limits_of_length();
+    explanations();
     decimal_numbers();
     count_of_changed_images();
     printf("%lu passed, %lu failed\n", passed, failed);

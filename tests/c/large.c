@@ -1,7 +1,8 @@
 /*
- * The entries and lafindry_decimal, called in a thread whose stack has a megabyte, on the deepest and longest documents
- * and with tables of 64 types; and with an output of more than 4 GiB, mapped without reserve. Prints the most stack
- * that each took, one line for each case that failed, and last 'N passed, M failed'.
+ * The entries, lafindry_explain_clash and lafindry_decimal, called in a thread whose stack has a megabyte, on the
+ * deepest and longest documents and with tables of 64 types; and those that write with an output of more than 4 GiB,
+ * mapped without reserve. Prints the most stack that each took, one line for each case that failed, and last
+ * 'N passed, M failed'.
  */
 #define _DEFAULT_SOURCE
 #include "lafindry.h"
@@ -82,21 +83,68 @@ static struct document tree(int levels, size_t length)
     return d;
 }
 
+/* 63 sequences of 16 lists, the last type. */
+static struct document wide_table(void)
+{
+    struct document d = {{0}, 0};
+    for (int t = 0; t < 63; t++) {
+        put(&d, 0x12);
+        for (int member = 1; member <= 16; member++)
+            put_two(&d, 0x15, 63);
+    }
+    put_two(&d, 0x14, 0);
+    put(&d, 0x1F);
+    return d;
+}
+
+/* A path of 12 steps, from the root of that table by this member to the list and back to the root, six times. */
+static void put_path(struct document *d, int member)
+{
+    put(d, 0x21);
+    for (int round = 1; round <= 6; round++) {
+        put_two(d, 0x22, member);
+        put_two(d, 0x22, 1);
+    }
+}
+
+/* Each type of that table to its root, each member by itself, but the last member of the last sequence as the one
+   before. */
+static struct document wide_embedding(void)
+{
+    struct document d = {{0}, 0};
+    for (int t = 0; t < 63; t++) {
+        put_two(&d, 0x20, 0);
+        for (int member = 1; member <= 16; member++)
+            put_path(&d, t == 62 && member == 16 ? 15 : member);
+    }
+    put_two(&d, 0x20, 0);
+    put_path(&d, 1);
+    put(&d, 0x2F);
+    return d;
+}
+
 static struct document source, target, map;
 
-/* The five entries, and lafindry_decimal. */
-enum entry { JUDGE_TABLE, JUDGE_EMBEDDING, JUDGE_TREE, CARRY, BRING_BACK, DECIMAL, ENTRIES };
-static const char *const NAMES[ENTRIES] = {"judge a table", "judge an embedding", "judge a tree",
+/* The five entries, lafindry_explain_clash and lafindry_decimal; those that write are the last. */
+enum entry { JUDGE_TABLE, JUDGE_EMBEDDING, EXPLAIN_CLASH, JUDGE_TREE, CARRY, BRING_BACK, DECIMAL, ENTRIES };
+static const char *const NAMES[ENTRIES] = {"judge a table", "judge an embedding", "explain a clash", "judge a tree",
                                            "carry",         "bring back",         "write a number"};
 
-/* What lafindry_decimal answers is the `value` of an answer that accepts. */
+/* What lafindry_decimal answers is the `value` of an answer that accepts. An explanation has an answer of its own. */
 struct call {
     enum entry entry;
     const struct document *tree;
     uint8_t *output;
     size_t room;
     struct lafindry_answer answer;
+    struct lafindry_explanation explanation;
 };
+
+/* The answer of judging in an explanation. */
+static struct lafindry_answer answer_in(struct lafindry_explanation e)
+{
+    return (struct lafindry_answer){e.refusal, e.document, e.mark, e.value, e.filler};
+}
 
 static void *make_call(void *argument)
 {
@@ -108,6 +156,11 @@ static void *make_call(void *argument)
         break;
     case JUDGE_EMBEDDING:
         c->answer = lafindry_judge_embedding(source.bytes, source.length, target.bytes, target.length, map.bytes, map.length);
+        break;
+    case EXPLAIN_CLASH:
+        c->explanation =
+            lafindry_explain_clash(source.bytes, source.length, target.bytes, target.length, map.bytes, map.length);
+        c->answer = answer_in(c->explanation);
         break;
     case JUDGE_TREE:
         c->answer = lafindry_judge_tree(source.bytes, source.length, t->bytes, t->length);
@@ -161,29 +214,58 @@ static size_t on_small_stack(struct call *c)
     return STACK - untouched;
 }
 
+/* The most stack that each entry took. */
+static size_t most[ENTRIES];
+
+/* Makes a call on a stack of its own and keeps how much of it was touched, if that is the most. */
+static void measure(struct call *c)
+{
+    size_t taken = on_small_stack(c);
+    if (taken > most[c->entry])
+        most[c->entry] = taken;
+}
+
 static void small_stacks(void)
 {
     static uint8_t output[LAFINDRY_MOST_BYTES];
     static struct document trees[4];
-    size_t most[ENTRIES] = {0};
     trees[0] = tree(2, 6);
     trees[1] = tree(LEVELS, 0);
     trees[2] = tree(2, LAFINDRY_MOST_BYTES);
     trees[3] = tree(LEVELS, LAFINDRY_MOST_BYTES);
     for (int i = 0; i < 4; i++) {
         for (int entry = 0; entry < ENTRIES; entry++) {
-            struct call c = {(enum entry)entry, &trees[i], output, sizeof output, {0, 0, 0, 0, 0}};
+            struct call c = {.entry = (enum entry)entry, .tree = &trees[i], .output = output, .room = sizeof output};
             memset(output, UNTOUCHED, sizeof output);
-            size_t taken = on_small_stack(&c);
-            if (taken > most[entry])
-                most[entry] = taken;
+            measure(&c);
             expect(c.answer.refusal == LAFINDRY_ACCEPTED, NAMES[entry]);
+            if (entry == EXPLAIN_CLASH)
+                expect(c.explanation.reason == LAFINDRY_NO_CLASH, "there is nothing to explain");
             if (entry >= CARRY)
                 expect(wrote_right(&c), "what is written");
         }
     }
-    for (int entry = 0; entry < ENTRIES; entry++)
-        printf("stack, %s: %zu bytes\n", NAMES[entry], most[entry]);
+}
+
+/* A clash of the last paths of the largest tables, judged and explained. */
+static void last_clash(void)
+{
+    source = wide_table();
+    target = wide_table();
+    map = wide_embedding();
+    struct call judged = {.entry = JUDGE_EMBEDDING}, explained = {.entry = EXPLAIN_CLASH};
+    measure(&judged);
+    measure(&explained);
+    struct lafindry_answer a = judged.answer;
+    struct lafindry_explanation e = explained.explanation;
+    /* 62 types of 402 bytes stand before the last sequence, and 15 paths of 25 bytes before its last. */
+    expect(a.refusal == LAFINDRY_PATH_CLASH && a.document == LAFINDRY_EMBEDDING && a.mark == 62 * 402 + 2 + 15 * 25,
+           "the last paths clash");
+    expect(e.refusal == a.refusal && e.document == a.document && e.mark == a.mark && e.value == 0 && e.filler == 0,
+           "an explanation has the answer of judging");
+    expect(e.reason == LAFINDRY_EQUAL_PATHS && e.source_type == 62 && e.earlier == 15 && e.later == 16 &&
+               e.shared == 12,
+           "the last paths are equal");
 }
 
 static void large_outputs(void)
@@ -202,7 +284,7 @@ static void large_outputs(void)
     for (size_t i = 0; i < count; i++)
         output[probes[i]] = UNTOUCHED;
     for (int entry = CARRY; entry <= DECIMAL; entry++) {
-        struct call c = {(enum entry)entry, &document, output, room, {0, 0, 0, 0, 0}};
+        struct call c = {.entry = (enum entry)entry, .tree = &document, .output = output, .room = room};
         memset(output, 0, document.length);
         make_call(&c);
         expect(c.answer.refusal == LAFINDRY_ACCEPTED, "an output of more than 4 GiB");
@@ -220,6 +302,9 @@ int main(void)
     map = embedding();
     small_stacks();
     large_outputs();
+    last_clash();
+    for (int entry = 0; entry < ENTRIES; entry++)
+        printf("stack, %s: %zu bytes\n", NAMES[entry], most[entry]);
     printf("%lu passed, %lu failed\n", passed, failed);
     return failed == 0 ? 0 : 1;
 }

@@ -30,6 +30,7 @@ int documents_of(enum entry entry)
     case JUDGE_TREE:
         return 2;
     case JUDGE_EMBEDDING:
+    case EXPLAIN_CLASH:
         return 3;
     case DECIMAL:
         return 0;
@@ -49,9 +50,23 @@ int same_answer(struct lafindry_answer a, struct lafindry_answer b)
            a.filler == b.filler;
 }
 
+int same_clash(struct clash a, struct clash b)
+{
+    return a.reason == b.reason && a.source_type == b.source_type && a.earlier == b.earlier && a.later == b.later &&
+           a.shared == b.shared;
+}
+
 int same_bytes(struct document a, struct document b)
 {
     return a.length == b.length && (a.length == 0 || memcmp(a.bytes, b.bytes, a.length) == 0);
+}
+
+struct result explained(struct lafindry_explanation e)
+{
+    return (struct result){
+        .answer = {e.refusal, e.document, e.mark, e.value, e.filler},
+        .clash = {e.reason, e.source_type, e.earlier, e.later, e.shared},
+    };
 }
 
 void map_buffers(void)
@@ -123,6 +138,7 @@ static struct lent lend(const struct call *call, enum side side)
     return lent;
 }
 
+/* All but lafindry_explain_clash give an answer. */
 static struct lafindry_answer call_entry(const struct call *call, const struct lent *lent)
 {
     const struct document *d = call->documents;
@@ -143,6 +159,16 @@ static struct lafindry_answer call_entry(const struct call *call, const struct l
         return lafindry_bring_back(p[0], d[0].length, p[1], d[1].length, p[2], d[2].length, p[3], d[3].length,
                                    lent->output, call->room);
     }
+}
+
+/* Makes a call with what was lent; what it wrote is looked at later. */
+static struct result call_lent(const struct call *call, const struct lent *lent)
+{
+    const struct document *d = call->documents;
+    const uint8_t *const *p = lent->documents;
+    if (call->entry == EXPLAIN_CLASH)
+        return explained(lafindry_explain_clash(p[0], d[0].length, p[1], d[1].length, p[2], d[2].length));
+    return (struct result){.answer = call_entry(call, lent)};
 }
 
 /* Looks at the documents after a call and fills their places with junk. */
@@ -186,7 +212,7 @@ static const char *take_output_back(const struct call *call, const struct lent *
 static struct result call_at(const struct call *call, enum side side)
 {
     struct lent lent = lend(call, side);
-    struct result result = {.answer = call_entry(call, &lent)};
+    struct result result = call_lent(call, &lent);
     const char *documents = take_documents_back(call, &lent, side);
     const char *output = take_output_back(call, &lent, side, &result);
     result.wrong = documents != NULL ? documents : output;
@@ -202,7 +228,8 @@ struct result make_call(const struct call *call)
     struct result second = call_at(call, AT_START);
     if (first.wrong == NULL)
         first.wrong = second.wrong;
-    if (!same_answer(first.answer, second.answer) || !same_bytes(first.written, second.written))
+    if (!same_answer(first.answer, second.answer) || !same_clash(first.clash, second.clash) ||
+        !same_bytes(first.written, second.written))
         first.wrong = "the same call gave another answer";
     return first;
 }

@@ -1,8 +1,8 @@
 /*
- * Documents and outputs lent to the five entries, and outputs to lafindry_decimal, so that every byte read or written
- * outside them is noticed. A call is made twice: with each buffer ending where an inaccessible page begins, so that
- * going beyond it faults, and with each starting where one ends. The other bytes of the buffers hold junk, which has to
- * stay.
+ * Documents and outputs lent to the five entries, documents to lafindry_explain_clash and outputs to lafindry_decimal,
+ * so that every byte read or written outside them is noticed. A call is made twice: with each buffer ending where an
+ * inaccessible page begins, so that going beyond it faults, and with each starting where one ends. The other bytes of
+ * the buffers hold junk, which has to stay.
  */
 #ifndef LEND_H
 #define LEND_H
@@ -26,8 +26,8 @@ struct document {
 
 static const struct document NO_BYTES = {NULL, 0};
 
-/* The five entries, and lafindry_decimal. */
-enum entry { JUDGE_TABLE, JUDGE_EMBEDDING, JUDGE_TREE, CARRY, BRING_BACK, DECIMAL };
+/* The five entries, lafindry_explain_clash and lafindry_decimal. */
+enum entry { JUDGE_TABLE, JUDGE_EMBEDDING, EXPLAIN_CLASH, JUDGE_TREE, CARRY, BRING_BACK, DECIMAL };
 
 /* An entry with its documents in paper 01's order, and the length of the output for those that write. DECIMAL has no
    document but a number. */
@@ -38,10 +38,16 @@ struct call {
     uint64_t number;
 };
 
-/* What a call gave: its answer, what it wrote, and what is wrong with the bytes of the buffers, or NULL. What
-   lafindry_decimal answers is the `value` of an answer that accepts. */
+/* What an explanation has beside an answer; all 0 where there is no clash. */
+struct clash {
+    uint64_t reason, source_type, earlier, later, shared;
+};
+
+/* What a call gave: its answer, the clash of an explanation, what it wrote, and what is wrong with the bytes of the
+   buffers, or NULL. What lafindry_decimal answers is the `value` of an answer that accepts. */
 struct result {
     struct lafindry_answer answer;
+    struct clash clash;
     struct document written;
     const char *wrong;
 };
@@ -49,7 +55,11 @@ struct result {
 int documents_of(enum entry entry);
 int writes(enum entry entry);
 int same_answer(struct lafindry_answer a, struct lafindry_answer b);
+int same_clash(struct clash a, struct clash b);
 int same_bytes(struct document a, struct document b);
+
+/* The ten numbers of an explanation as a result that wrote nothing. */
+struct result explained(struct lafindry_explanation explanation);
 
 /* Maps the buffers; to be called once before all others. Ends the program where that is impossible. */
 void map_buffers(void);
