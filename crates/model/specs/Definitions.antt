@@ -1,4 +1,5 @@
--- What paper 01 says of tables, embeddings, tree documents and the five entries, as definitions that compute.
+-- What paper 01, and of paper 02 the requests that have landed, say of tables, embeddings, tree documents and the entries, as definitions
+-- that compute.
 -- One file a concept, in reading order. "01" is paper 01 throughout, and the words in quotes after it name a section of it.
 pub mod Basics
 pub mod Commands
