@@ -10,6 +10,7 @@ use lib.ListN.{length, getD, set, take, drop, length-set}
 use lib.Seq.{getD-set-same, getD-set-other}
 use lib.Dec.{eqb}
 use borrow.Author.Tests.{eq-eqb, ne-eqb, eqb-true, eqb-false}
+use Rattle.answers.specs.declared.Reason.{Reason}
 use Rattle.answers.specs.declared.Clash.{Clash}
 use Rattle.answers.specs.Answers.{clash}
 use Rattle.model.specs.Definitions.Basics.{pick, andThen}
@@ -28,7 +29,7 @@ use Rattle.embedding_clash.specs.declared.clash.Behind.{Behind}
 use Rattle.embedding_clash.specs.declared.clash.Behind.the-variants.{BothEnd, FirstEnds, SecondEnds, Apart}
 use Rattle.embedding_clash.specs.declared.clash.Parting.{Parting}
 use Rattle.embedding_clash.specs.declared.clash.Compared.{Compared}
-use Rattle.embedding_clash.specs.Comparing.{behindBy, reasonBy, EndsBy, SameParting}
+use Rattle.embedding_clash.specs.Comparing.{behindBy, reasonBy, EndsBy, SameParting, ClashOf}
 use Rattle.embedding_clash.specs.Paths.{pathOf, PathsAt}
 use Rattle.embedding_clash.specs.Ready.{mapOf, Checkable}
 use Rattle.embedding_clash.proofs.Arrays.{type-at, edge-at}
@@ -219,10 +220,8 @@ module _ {source target em map : List ℕ}
   unfolding pairClash andThen
   pair-free h is = rw (h .same-reason, is) refl
 
-  -- and of two that do, the clash, which the code makes number by number
-  pub pair-found : (c : Clash) {r : Parting} {found : Compared} → PairCompared r found → found ≡ Compared.Clashing (c .reason)
-      → c .source ≡ s → c .earlier ≡ j + 1 → c .later ≡ i + 1 → c .shared ≡ r .shared → c .mark ≡ getD (startsOf map) (s * 16 + i) 0
+  -- and of two that do, the clash
+  pub pair-found : (c : Clash) {r : Parting} {found : Compared} {why : Reason} → PairCompared r found → found ≡ Compared.Clashing why → ClashOf map s j i (r .shared) why c
       → pairClash (tableBy target) (kindOf (tableBy source) s) (mapOf source em map s) s i j ≡ some (clash c)
   unfolding pairClash clashFor andThen
-  pair-found c h is source earlier later shared mark =
-      rw (h .same-reason, is, h .same-number, edge-at r₀ s i hs hi .mark-is, source, earlier, later, shared, mark, add-one i, add-one j) refl
+  pair-found c h is made = rw (h .same-reason, is, h .same-number, edge-at r₀ s i hs hi .mark-is, made .of-type, made .earlier-is, made .later-is, made .shared-is, made .reason-is, made .mark-is, add-one i, add-one j) refl

@@ -13,16 +13,18 @@ use loaded_table::TABLE;
 use loaded_table::is_choice;
 ghost use mathlib.Core.Path.{_≡_};
 ghost use mathlib.Core.List.{[]};
-ghost use Prim.Native.Nat.{_≤_, min};
+ghost use Prim.Native.Nat.{_+_, _*_, _≤_, _<_, min};
 ghost use lib.ListN.{take};
 ghost use Rattle.answers.specs.Answers.{reason, search};
 ghost use Rattle.loaded_table.specs.Loaded.{tableBy, kindFrom};
+ghost use Rattle.loaded_embedding.specs.Loaded.{edgePlaces};
+ghost use Rattle.model.specs.Definitions.TableChecks.{maxMembers};
 ghost use Rattle.model.specs.Definitions.Table.{kindOf};
 ghost use Rattle.model.specs.Definitions.Embedding as model;
 ghost use Rattle.model.specs.Definitions.EmbeddingChecks.{whereOneEnds, wherePathsPart, clashReason, maxSteps};
 ghost use Rattle.model.specs.Definitions.Explanation.{clashBefore};
 ghost use Rattle.embedding_clash.specs.Edges.{clashesAt};
-ghost use Rattle.embedding_clash.specs.Comparing.{behindBy, reasonBy, EndsBy, SameParting};
+ghost use Rattle.embedding_clash.specs.Comparing.{behindBy, reasonBy, EndsBy, SameParting, ClashOf};
 ghost use Rattle.embedding_clash.specs.Paths.{Walkable};
 ghost use Rattle.embedding_clash.specs.Ready.{mapOf, CheckableAt};
 
@@ -93,18 +95,26 @@ pub fn first_clash(
         match why(kind, behind) {
             Compared::Free => j += 1,
             Compared::Clashing(reason) => {
-                return Search::Found(Clash {
-                    source: s,
-                    earlier: j + 1,
-                    later: i + 1,
-                    shared: parting.shared,
-                    reason,
-                    mark: loaded_embedding::start(map, s * MAX_MEMBERS + i),
-                });
+                return Search::Found(clash_at(map, s, j, i, parting.shared, reason));
             }
         }
     }
     Search::Nothing
+}
+
+// The clash of edges `j` and `i` of source type `s`, whose paths share so many steps, for a reason.
+fn clash_at(map: &[u16; MAP], s: usize, j: usize, i: usize, shared: usize, because: Reason) -> Clash
+    requires { ⌜ (s * 16 + i < edgePlaces) × (j < maxMembers) ⌝ }
+    ensures { λ r. ⌜ ClashOf (now (map .entry)) s j i shared because r ⌝ }
+{
+    Clash {
+        source: s,
+        earlier: j + 1,
+        later: i + 1,
+        shared,
+        reason: because,
+        mark: loaded_embedding::start(map, s * MAX_MEMBERS + i),
+    }
 }
 
 // The lesser of two numbers.

@@ -167,7 +167,8 @@ pub data Reason : Type 0 where
   later-begins : Reason
   part-at-sequence : Reason
 
--- Two members of a sequence, or of a choice of either kind: neither path is a beginning of the other, and they differ.
+-- Two members of a sequence, or of a choice of either kind: neither path is a beginning of the other, and they differ. If not, this is
+-- why they clash.
 unfoldable pub whereOneEnds : Kind → Reason → Option Reason
 whereOneEnds text why = none
 whereOneEnds empty why = none
@@ -176,7 +177,7 @@ whereOneEnds (choice need ms) why = some why
 whereOneEnds (list m) why = none
 
 -- Two members of a choice of either kind: the first step where the paths differ leaves a choice of either kind. If not, it leaves a
--- sequence, as from a list there is one step only.
+-- sequence, as from a list there is one step only, and they clash.
 unfoldable pub wherePathsPart : Kind → Kind → Option Reason
 wherePathsPart text left = none
 wherePathsPart empty left = none

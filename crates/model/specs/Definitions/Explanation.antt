@@ -19,7 +19,7 @@ use Rattle.model.specs.Definitions.Entries.{Result, refused, Answer, ans
 -- ---- which paths clash
 
 -- two members of a source type whose paths clash, counted from 1; the number of steps that the paths share; the reason; and the offset
--- of the later path's 21
+-- of the later path's 21, which refusal 10 marks
 pub record Clash : Type 0 where
   pub source-type : ℕ
   pub earlier : ℕ
@@ -40,20 +40,21 @@ clashFor T f s j i why =
       mark = edgeOf f j .at;
     }
 
--- the same for a source type of kind κ, if their paths clash
+-- the same for the reason for which their paths clash, if they do; the source type is of kind κ
 unfoldable pub pairClash : Table → Kind → TypeMap → ℕ → ℕ → ℕ → Option Clash
 pairClash T κ f s j i =
     andThen (clashReason κ (parting T (f .target) (edgeOf f i .steps) (edgeOf f j .steps) .behind)) λ why.
     some (clashFor T f s j i why)
 
--- the earlier is the first that member j clashes with
+-- "the earlier is the first it clashes with": member j compared with those before it
 unfoldable pub clashBefore : Table → Kind → TypeMap → ℕ → ℕ → Option Clash
 clashBefore T κ f s j = firstFound (pairClash T κ f s j) 0 j
 
--- the later is the first that clashes with an earlier one, in the first source type that has such a member
+-- the first member of a source type that clashes with an earlier one
 unfoldable pub clashOfType : Table → Kind → TypeMap → ℕ → Option Clash
 clashOfType T κ f s = firstFound (clashBefore T κ f s) 0 (length (f .edges))
 
+-- "the later member is the one marked": that of the first source type that has such a member
 unfoldable pub clashOf : Table → Table → Embedding → Option Clash
 clashOf S T E = firstFound (λ s. clashOfType T (kindOf S s) (getD E s noMap) s) 0 (length S)
 
@@ -64,10 +65,12 @@ pub data Explanation : Type 0 where
   explained : Clash → Explanation
   unexplained : Result → Explanation
 
+-- what was found, or the judging answer
 unfoldable pub explanation : Result → Option Clash → Explanation
 explanation answer none = unexplained answer
 explanation answer (some c) = explained c
 
+-- For an embedding refused with 10 the clash; for any other, that there is none to explain.
 unfoldable pub explain : List ℕ → List ℕ → List ℕ → Explanation
 explain source target em =
     let answer = judgeEmbedding source target em in
@@ -75,6 +78,7 @@ explain source target em =
 
 -- ---- numbers
 
+-- reasons by number, as the C entry gives them; 0 is for nothing to explain
 unfoldable pub reasonNumber : Reason → ℕ
 reasonNumber equal-paths = 1
 reasonNumber earlier-begins = 2
@@ -135,7 +139,7 @@ pub record Explains (S T : Table) (E : Embedding) (c : Clash) : Type 0 where
   pub later-stands : entry (c .later) (getD E (c .source-type) noMap .edges) ≡ some other
   pub in-order : c .earlier < c .later
   pub marked : c .mark ≡ other .at
-  pub clash : NoClash T (kindOf S (c .source-type)) (targetOf E (c .source-type)) (one .steps) (other .steps) → ⊥
+  pub they-clash : NoClash T (kindOf S (c .source-type)) (targetOf E (c .source-type)) (one .steps) (other .steps) → ⊥
   pub first-later : (s i : ℕ) (e : Edge) → s < length S → entry i (getD E s noMap .edges) ≡ some e → Earlier s i (c .source-type) (c .later)
       → ClashesWithNone T (kindOf S s) (getD E s noMap) i e
   pub first-earlier : (i : ℕ) (e : Edge) → i < c .earlier → entry i (getD E (c .source-type) noMap .edges) ≡ some e

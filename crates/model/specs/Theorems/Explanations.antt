@@ -32,23 +32,27 @@ use Rattle.model.specs.Theorems.ValidEmbeddings.{paths-walked}
 -- ---- what is found
 
 module _ (T : Table) (κ : Kind) (f : TypeMap) (s : ℕ) where
+  -- why members i and j clash, if they do
+  abbrev whyOf : ℕ → ℕ → Option Reason
+  whyOf j i = clashReason κ (parting T (f .target) (edgeOf f i .steps) (edgeOf f j .steps) .behind)
+
   -- where two members clash, it is for a reason that is given
   pair-found : (j i : ℕ) {c : Clash} → pairClash T κ f s j i ≡ some c
-      → (why : Reason) × (clashReason κ (parting T (f .target) (edgeOf f i .steps) (edgeOf f j .steps) .behind) ≡ some why) × (c ≡ clashFor T f s j i why)
+      → (why : Reason) × (whyOf j i ≡ some why) × (c ≡ clashFor T f s j i why)
   unfolding pairClash andThen
-  pair-found j i {c} e = go (clashReason κ (parting T (f .target) (edgeOf f i .steps) (edgeOf f j .steps) .behind)) refl e
+  pair-found j i {c} e = go (whyOf j i) refl e
     where
-      go : (o : Option Reason) → clashReason κ (parting T (f .target) (edgeOf f i .steps) (edgeOf f j .steps) .behind) ≡ o → andThen o (λ why. some (clashFor T f s j i why)) ≡ some c
-          → (why : Reason) × (clashReason κ (parting T (f .target) (edgeOf f i .steps) (edgeOf f j .steps) .behind) ≡ some why) × (c ≡ clashFor T f s j i why)
+      go : (o : Option Reason) → whyOf j i ≡ o → andThen o (λ why. some (clashFor T f s j i why)) ≡ some c
+          → (why : Reason) × (whyOf j i ≡ some why) × (c ≡ clashFor T f s j i why)
       go none q e = some-none e refl
       go (some why) q e = (why, q, cc)
 
   -- and where nothing is found, they don't clash
   pair-free : (j i : ℕ) → pairClash T κ f s j i ≡ none → NoClash T κ (f .target) (edgeOf f i .steps) (edgeOf f j .steps)
   unfolding pairClash andThen
-  pair-free j i e = go (clashReason κ (parting T (f .target) (edgeOf f i .steps) (edgeOf f j .steps) .behind)) refl e
+  pair-free j i e = go (whyOf j i) refl e
     where
-      go : (o : Option Reason) → clashReason κ (parting T (f .target) (edgeOf f i .steps) (edgeOf f j .steps) .behind) ≡ o → andThen o (λ why. some (clashFor T f s j i why)) ≡ none
+      go : (o : Option Reason) → whyOf j i ≡ o → andThen o (λ why. some (clashFor T f s j i why)) ≡ none
           → NoClash T κ (f .target) (edgeOf f i .steps) (edgeOf f j .steps)
       go none q e = none-given T (f .target) (edgeOf f i .steps) (edgeOf f j .steps) κ q
       go (some why) q e = some-none refl e
@@ -94,7 +98,7 @@ module _ (S T : Table) (E : Embedding) where
   module _ (walks : AllRight (λ κ f i e. Walks T (f .target) (e .steps)) S E) where
     -- members i and j of source type s are explained, if nothing was found before them
     pair-explained : (s j i : ℕ) → s < length S → j < length (getD E s noMap .edges) → i < j
-        → (why : Reason) → clashReason (kindOf S s) (parting T (targetOf E s) (edgeOf (getD E s noMap) i .steps) (edgeOf (getD E s noMap) j .steps) .behind) ≡ some why
+        → (why : Reason) → whyOf T (kindOf S s) (getD E s noMap) s j i ≡ some why
         → ((m : ℕ) → 0 ≤ m → m < s → foundOf m ≡ none)
         → ((m : ℕ) → 0 ≤ m → m < j → clashBefore T (kindOf S s) (getD E s noMap) s m ≡ none)
         → ((m : ℕ) → 0 ≤ m → m < i → pairClash T (kindOf S s) (getD E s noMap) s j m ≡ none)
@@ -109,9 +113,9 @@ module _ (S T : Table) (E : Embedding) where
           later-stands = stands j last;
           in-order = omega arith;
           marked = refl;
-          clash = given-clash T (f .target) (edgeOf f i .steps) (edgeOf f j .steps) (kindOf S s) given;
-          first-later = λ s′ i′ e exists′ there earlier. before s′ i′ e exists′ there earlier;
-          first-earlier = λ i′ e below there. free-of T (kindOf S s) f s j i pairs-free i′ e below there;
+          they-clash = given-clash T (f .target) (edgeOf f i .steps) (edgeOf f j .steps) (kindOf S s) given;
+          first-later = before;
+          first-earlier = free-of T (kindOf S s) f s j i pairs-free;
           shares = shares T (f .target) (edgeOf f i .steps) (edgeOf f j .steps);
           holds = reason-holds T (f .target) (edgeOf f i .steps) (edgeOf f j .steps) (walked i first) (walked j last) (kindOf S s) given;
           no-other = no-other-holds T (f .target) (edgeOf f i .steps) (edgeOf f j .steps) (kindOf S s) given;
@@ -161,7 +165,7 @@ explains-wrong {c = c} x =
       exists = x .type-exists;
       stands = x .later-stands;
       marked = x .marked;
-      wrong = λ free. x .clash (free (c .earlier) (x .one) (x .in-order) (x .earlier-stands));
+      wrong = λ free. x .they-clash (free (c .earlier) (x .one) (x .in-order) (x .earlier-stands));
       earlier-right = x .first-later;
     }
 
@@ -182,7 +186,7 @@ module _ {S T : Table} {E : Embedding} where
   none-before {c} {c′} x x′ same-type same-other less =
       let free = x′ .first-earlier (c .earlier) (x .one) less (rw (← same-type) (x .earlier-stands)) in
       let here : NoClash T (kindOf S (c .source-type)) (targetOf E (c .source-type)) (x .one .steps) (x′ .other .steps) = rw same-type free in
-      x .clash (subst (λ (e : Edge). NoClash T (kindOf S (c .source-type)) (targetOf E (c .source-type)) (x .one .steps) (e .steps)) (sym same-other) here)
+      x .they-clash (subst (λ (e : Edge). NoClash T (kindOf S (c .source-type)) (targetOf E (c .source-type)) (x .one .steps) (e .steps)) (sym same-other) here)
 
   -- so two explanations are one: the later member is the first that clashes, the earlier is the first that it clashes with, and what is
   -- said of the two paths holds of nothing else

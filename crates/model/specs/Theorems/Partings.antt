@@ -1,8 +1,9 @@
--- How two paths compare: by one step, by the steps that both begin with, and by what is left of each behind those. Two inductions
--- (`behind-common`, `compare`); what else is said of two paths follows from these.
+-- How two paths compare: by one step, by the steps that both begin with, and by what is left of each behind those. These are the
+-- inductions (`behind-common`, `shared-common`, `compare`); what else is said of two paths follows from them.
 use mathlib.Core.Path.{_≡_, refl, sym, ap, ap₂, _∙_, subst}
 use mathlib.Core.Bool.{Bool, true, false}
 use mathlib.Core.List.{List, [], _∷_, _++_, append-nil}
+use mathlib.Core.Logic.{_⊎_, inl, inr}
 use Prim.Native.Nat.{ℕ, suc, _+_, _<_}
 use native.Mathlib.Nat.{zero-add, suc-add}
 use native.Mathlib.Omega.{arith}
@@ -98,14 +99,14 @@ compare T τ (p ∷ ps) (q ∷ qs) = go (eqb p q) refl (compare T (next T τ p) 
           left = (eqb-false p q e, behind-differs T τ p q ps qs e);
         }
 
--- ---- how two paths lie to each other
+-- ---- what two paths are to each other
 
--- they are equal, one is a shorter beginning of the other, or they part at a step that leaves a type of this kind
-abbrev pub Lie : Table → ℕ → List ℕ → List ℕ → Behind → Type 0
-Lie T τ ps qs both-end = ps ≡ qs
-Lie T τ ps qs first-ends = ShorterBeginning ps qs
-Lie T τ ps qs second-ends = ShorterBeginning qs ps
-Lie T τ ps qs (apart κ) = (test : Kind → Bool) → test κ ≡ true → PartAt test T τ ps qs
+-- equal, one a shorter beginning of the other, or parted at a step that leaves a type of this kind
+abbrev pub PathsAre : Table → ℕ → List ℕ → List ℕ → Behind → Type 0
+PathsAre T τ ps qs both-end = ps ≡ qs
+PathsAre T τ ps qs first-ends = ShorterBeginning ps qs
+PathsAre T τ ps qs second-ends = ShorterBeginning qs ps
+PathsAre T τ ps qs (apart κ) = (test : Kind → Bool) → test κ ≡ true → PartAt test T τ ps qs
 
 -- a path that goes on behind another is longer
 shorter : {ps qs : List ℕ} (common : List ℕ) (n : ℕ) (more : List ℕ) → ps ≡ common ++ [] → qs ≡ common ++ n ∷ more → ShorterBeginning ps qs
@@ -114,20 +115,20 @@ shorter common n more one other =
     let here = one ∙ append-nil common in
     ((n ∷ more, other ∙ ap (λ (l : List ℕ). l ++ n ∷ more) (sym here)), omega (arith, ap length here, ap length other, length-append common (n ∷ more)))
 
--- what stands behind the shared steps says how they lie
-pub lie : (T : Table) (τ : ℕ) (ps qs : List ℕ) → Lie T τ ps qs (parting T τ ps qs .behind)
-lie T τ ps qs = go (c .left-p) (c .left-q) (c .one) (c .other) (c .left)
+-- what stands behind the shared steps says what they are
+paths-are : (T : Table) (τ : ℕ) (ps qs : List ℕ) → PathsAre T τ ps qs (parting T τ ps qs .behind)
+paths-are T τ ps qs = go (c .left-p) (c .left-q) (c .one) (c .other) (c .left)
   where
     c : CommonBeginning T τ ps qs
     c = compare T τ ps qs
 
     go : (l m : List ℕ) → ps ≡ c .common ++ l → qs ≡ c .common ++ m → LeftIs (kindOf T (endOf T τ (c .common))) l m (parting T τ ps qs .behind)
-        → Lie T τ ps qs (parting T τ ps qs .behind)
-    go [] [] one other left = subst (Lie T τ ps qs) (sym left) (one ∙ sym other)
-    go [] (q ∷ m) one other left = subst (Lie T τ ps qs) (sym left) (shorter (c .common) q m one other)
-    go (p ∷ l) [] one other left = subst (Lie T τ ps qs) (sym left) (shorter (c .common) p l other one)
+        → PathsAre T τ ps qs (parting T τ ps qs .behind)
+    go [] [] one other left = subst (PathsAre T τ ps qs) (sym left) (one ∙ sym other)
+    go [] (q ∷ m) one other left = subst (PathsAre T τ ps qs) (sym left) (shorter (c .common) q m one other)
+    go (p ∷ l) [] one other left = subst (PathsAre T τ ps qs) (sym left) (shorter (c .common) p l other one)
     go (p ∷ l) (q ∷ m) one other left =
-        subst (Lie T τ ps qs) (sym (left .1)) (λ test such. record {
+        subst (PathsAre T τ ps qs) (sym (left .1)) (λ test such. record {
           shared = c .common;
           p = p;
           q = q;
@@ -140,8 +141,8 @@ lie T τ ps qs = go (c .left-p) (c .left-q) (c .one) (c .other) (c .left)
         })
 
 -- the same, where it is known what stands there
-pub lies : (T : Table) (τ : ℕ) (ps qs : List ℕ) {b : Behind} → parting T τ ps qs .behind ≡ b → Lie T τ ps qs b
-lies T τ ps qs e = subst (Lie T τ ps qs) e (lie T τ ps qs)
+pub known-paths : (T : Table) (τ : ℕ) (ps qs : List ℕ) {b : Behind} → parting T τ ps qs .behind ≡ b → PathsAre T τ ps qs b
+known-paths T τ ps qs e = subst (PathsAre T τ ps qs) e (paths-are T τ ps qs)
 
 -- ---- and the reverse
 
@@ -202,50 +203,41 @@ shares T τ ps qs =
 pub apart-kind : {κ κ′ : Kind} → apart κ ≡ apart κ′ → κ ≡ κ′
 apart-kind {κ} {κ′} e = cc
 
-module _ (T : Table) (τ : ℕ) (ps rest : List ℕ) where
-  -- a path parts from none that it begins
-  begun-apart {ℓ} : {X : Type ℓ} {κ : Kind} → parting T τ ps (ps ++ rest) .behind ≡ apart κ → X
-  unfolding parting
-  begun-apart {X = X} {κ} e =
-      let whole : ps ++ [] ≡ ps = append-nil ps in
-      let same : parting T τ (ps ++ []) (ps ++ rest) .behind ≡ parting T (endOf T τ ps) [] rest .behind = behind-common T τ ps [] rest in
-      go rest (sym (rw whole at same) ∙ e)
-    where
-      go : (rest : List ℕ) → parting T (endOf T τ ps) [] rest .behind ≡ apart κ → X
-      go [] e = let z : _≡_ {A = ℕ} 0 1 = cc in absurd (omega arith)
-      go (n ∷ rest) e = let z : _≡_ {A = ℕ} 0 1 = cc in absurd (omega arith)
+-- what stands behind the shared steps is one thing only
+ends-apart {ℓ} : {X : Type ℓ} {κ : Kind} {b : Behind} → (b ≡ both-end) ⊎ (b ≡ first-ends) ⊎ (b ≡ second-ends) → b ≡ apart κ → X
+ends-apart {κ = κ} {b} (inl p) q = let z : _≡_ {A = ℕ} 0 1 = cc in absurd (omega arith)
+ends-apart {κ = κ} {b} (inr (inl p)) q = let z : _≡_ {A = ℕ} 0 1 = cc in absurd (omega arith)
+ends-apart {κ = κ} {b} (inr (inr p)) q = let z : _≡_ {A = ℕ} 0 1 = cc in absurd (omega arith)
 
-  -- nor from one that it goes on from
-  continued-apart {ℓ} : {X : Type ℓ} {κ : Kind} → parting T τ (ps ++ rest) ps .behind ≡ apart κ → X
-  unfolding parting
-  continued-apart {X = X} {κ} e =
-      let whole : ps ++ [] ≡ ps = append-nil ps in
-      let same : parting T τ (ps ++ rest) (ps ++ []) .behind ≡ parting T (endOf T τ ps) rest [] .behind = behind-common T τ ps rest [] in
-      go rest (sym (rw whole at same) ∙ e)
-    where
-      go : (rest : List ℕ) → parting T (endOf T τ ps) rest [] .behind ≡ apart κ → X
-      go [] e = let z : _≡_ {A = ℕ} 0 1 = cc in absurd (omega arith)
-      go (n ∷ rest) e = let z : _≡_ {A = ℕ} 0 1 = cc in absurd (omega arith)
+-- a path parts from none that it begins, and none that it begins from it
+begun-apart : (T : Table) (τ : ℕ) (ps qs : List ℕ) {κ : Kind} → BeginningOf ps qs
+    → (parting T τ ps qs .behind ≡ apart κ → ⊥) × (parting T τ qs ps .behind ≡ apart κ → ⊥)
+unfolding BeginningOf
+begun-apart T τ ps qs {κ} b = go (b .0) (b .1)
+  where
+    go : (rest : List ℕ) → qs ≡ ps ++ rest → (parting T τ ps qs .behind ≡ apart κ → ⊥) × (parting T τ qs ps .behind ≡ apart κ → ⊥)
+    go [] e =
+        let same : qs ≡ ps = e ∙ append-nil ps in
+        (ends-apart (inl (equal-ends T τ ps qs (sym same))), ends-apart (inl (equal-ends T τ qs ps same)))
+    go (n ∷ more) e =
+        let ends = beginning-ends T τ ps qs (shorter ps n more (sym (append-nil ps)) e) in
+        (ends-apart (inr (inl (ends .0))), ends-apart (inr (inr (ends .1))))
 
 -- so two paths that part are apart
 pub parted-apart : (T : Table) (τ : ℕ) (ps qs : List ℕ) {κ : Kind} → parting T τ ps qs .behind ≡ apart κ → Apart ps qs
-unfolding BeginningOf
 parted-apart T τ ps qs parts =
     record {
-      not-beginning = begun;
-      not-continuation = λ b. continued-apart T τ qs (b .0) (rw (b .1) at parts);
-      differ = λ same. begun ([], sym same ∙ sym (append-nil ps));
+      not-beginning = λ b. begun-apart T τ ps qs b .0 parts;
+      not-continuation = λ b. begun-apart T τ qs ps b .1 parts;
+      differ = λ same. ends-apart (inl (equal-ends T τ ps qs same)) parts;
     }
-  where
-    begun : BeginningOf ps qs → ⊥
-    begun b = begun-apart T τ ps (b .0) (rw (b .1) at parts)
 
 -- and of two paths that are apart neither is at its end
 pub apart-goes-on {ℓ} : {X : Type ℓ} (T : Table) (τ : ℕ) (ps qs : List ℕ) → Apart ps qs
     → (parting T τ ps qs .behind ≡ both-end → X) × (parting T τ ps qs .behind ≡ first-ends → X) × (parting T τ ps qs .behind ≡ second-ends → X)
 unfolding ShorterBeginning
 apart-goes-on T τ ps qs a = (
-  λ e. absurd (a .differ (lies T τ ps qs e)),
-  λ e. absurd (a .not-beginning (lies T τ ps qs e .0)),
-  λ e. absurd (a .not-continuation (lies T τ ps qs e .0)),
+  λ e. absurd (a .differ (known-paths T τ ps qs e)),
+  λ e. absurd (a .not-beginning (known-paths T τ ps qs e .0)),
+  λ e. absurd (a .not-continuation (known-paths T τ ps qs e .0)),
 )

@@ -14,7 +14,7 @@ use Rattle.model.specs.Definitions.ValidEmbedding.{StepsExist, PartAt, N
 use Rattle.model.specs.Definitions.Explanation.{ReasonHolds}
 use Rattle.model.specs.Theorems.Facts.{Walks}
 use Rattle.model.specs.Theorems.Tools.{true-false, some-none}
-use Rattle.model.specs.Theorems.Partings.{lies, equal-ends, beginning-ends, part-behind, apart-kind}
+use Rattle.model.specs.Theorems.Partings.{known-paths, equal-ends, beginning-ends, part-behind, apart-kind}
 use Rattle.model.specs.Theorems.Placing.{no-text-step, no-empty-step, list-step, walks-step, walks-rest}
 use Rattle.model.specs.Theorems.StepTests.{walks-exist, no-clash}
 
@@ -76,7 +76,7 @@ module _ (T : Table) (τ : ℕ) (ps qs : List ℕ) where
   -- so paths that can be walked and part, but not at a choice, part at a sequence
   parts-at-sequence : Walks T τ ps → Walks T τ qs → (left : Kind) → parting T τ ps qs .behind ≡ apart left → isChoice left ≡ false → isSequence left ≡ true
   parts-at-sequence walks-p walks-q left e plain =
-      let r : PartAt (λ κ. true) T τ ps qs = lies T τ ps qs e (λ κ. true) refl in
+      let r : PartAt (λ κ. true) T τ ps qs = known-paths T τ ps qs e (λ κ. true) refl in
       let same : kindOf T (endOf T τ (r .shared)) ≡ left = apart-kind (sym (part-behind T τ r) ∙ e) in
       let one = walks-step (walks-behind T τ (r .shared) (r .p ∷ r .behind-p) (rw (r .one) at walks-p)) in
       let other = walks-step (walks-behind T τ (r .shared) (r .q ∷ r .behind-q) (rw (r .other) at walks-q)) in
@@ -88,12 +88,12 @@ module _ (T : Table) (τ : ℕ) (ps qs : List ℕ) where
   reason-holds walks-p walks-q κ {why} given = go (parting T τ ps qs .behind) refl given
     where
       go : (b : Behind) → parting T τ ps qs .behind ≡ b → clashReason κ b ≡ some why → ReasonHolds T τ ps qs why
-      go both-end e given = subst (ReasonHolds T τ ps qs) (sym (end-reason κ _ given)) (lies T τ ps qs e)
-      go first-ends e given = subst (ReasonHolds T τ ps qs) (sym (end-reason κ _ given)) (lies T τ ps qs e)
-      go second-ends e given = subst (ReasonHolds T τ ps qs) (sym (end-reason κ _ given)) (lies T τ ps qs e)
+      go both-end e given = subst (ReasonHolds T τ ps qs) (sym (end-reason κ _ given)) (known-paths T τ ps qs e)
+      go first-ends e given = subst (ReasonHolds T τ ps qs) (sym (end-reason κ _ given)) (known-paths T τ ps qs e)
+      go second-ends e given = subst (ReasonHolds T τ ps qs) (sym (end-reason κ _ given)) (known-paths T τ ps qs e)
       go (apart left) e given =
           let wrongly = part-reason κ left given in
-          subst (ReasonHolds T τ ps qs) (sym (wrongly .is-due)) (lies T τ ps qs e isSequence (parts-at-sequence walks-p walks-q left e (wrongly .leaves-none)))
+          subst (ReasonHolds T τ ps qs) (sym (wrongly .is-due)) (known-paths T τ ps qs e isSequence (parts-at-sequence walks-p walks-q left e (wrongly .leaves-none)))
 
 -- ---- and no other does
 

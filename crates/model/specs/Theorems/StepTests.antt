@@ -17,7 +17,7 @@ use Rattle.model.specs.Definitions.EmbeddingChecks.{leavesOnly, sequence
 use Rattle.model.specs.Definitions.ValidEmbedding.{StepsExist, Each, AtLeastOne, SequenceOrList, AnyWithSteps, FirstChoiceOptional, RightKinds, StepsRight, Apart, PartAt, NoClash}
 use Rattle.model.specs.Theorems.Facts.{Walks, arrived, onward}
 use Rattle.model.specs.Theorems.Tools.{true-false, pick-true, pick-false, Decides, either, both, equal, some-passes, none-passes}
-use Rattle.model.specs.Theorems.Partings.{lies, part-behind, apart-kind, parted-apart, apart-goes-on}
+use Rattle.model.specs.Theorems.Partings.{known-paths, part-behind, apart-kind, parted-apart, apart-goes-on}
 use Rattle.model.specs.Theorems.Placing.{next-is, no-text-step, no-empty-step}
 
 -- ---- steps that exist
@@ -194,7 +194,7 @@ module _ (T : Table) (τ : ℕ) (ps qs : List ℕ) where
   they-part (choice need ms) left e = go (isChoice left) refl
     where
       go : (b : Bool) → isChoice left ≡ b → Decides (not (isThere (pick b none (some part-at-sequence)))) (Apart ps qs × PartAt isChoice T τ ps qs)
-      go true q = (λ h. (parted-apart T τ ps qs e, lies T τ ps qs e isChoice q), λ h. refl)
+      go true q = (λ h. (parted-apart T τ ps qs e, known-paths T τ ps qs e isChoice q), λ h. refl)
       go false q = (
         λ h. true-false h refl,
         λ h.

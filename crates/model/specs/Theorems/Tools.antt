@@ -178,6 +178,11 @@ module _ {A : Type 0} (found : ℕ → Option A) where
       go true e = rw (eqb-true m i e) here
       go false e = later m (omega (arith, eqb-false m i e)) less
 
+  -- what is there at the first number is what is found
+  found-here : (i k : ℕ) {x y : A} → found i ≡ some y → firstFound found i (suc k) ≡ some x → some y ≡ some x
+  unfolding firstFound orNext
+  found-here i k q e = rw q at e
+
   pub first-there : (i k : ℕ) {x : A} → firstFound found i k ≡ some x → FirstAt i k x
   unfolding firstFound orNext
   first-there i zero e = some-none e refl
@@ -185,8 +190,7 @@ module _ {A : Type 0} (found : ℕ → Option A) where
     where
       go : (o : Option A) → found i ≡ o → (firstFound found (suc i) k ≡ some x → FirstAt (suc i) k x) → FirstAt i (suc k) x
       go (some y) q later =
-          let here : some y ≡ some x = rw q at e in
-          record { number = i; from = omega arith; below = omega arith; there = q ∙ here; none-before = λ m from less. absurd (omega arith) }
+          record { number = i; from = omega arith; below = omega arith; there = q ∙ found-here i k q e; none-before = λ m from less. absurd (omega arith) }
       go none q later =
           let r = later (rw q at e) in
           record {

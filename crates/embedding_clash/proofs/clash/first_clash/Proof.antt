@@ -70,16 +70,20 @@ loop-again c =
     let pre = startOf turn .pre in
     (omega arith, search-passes _ _ _ (turn .loop-test .taken) (pair-free (pre .ready) _ _ _ (pre .type-exists) (pre .edge-exists) (inside turn) (compared found) (c .enum-told .given .1)) ∙ turn .before .loop .inv .1)
 
-returns : tie.Need-returns Inv-loop μ-loop
-returns c =
-    let found = c .before .before .before .before in
-    let turn = turnOf found in
-    let pre = startOf turn .pre in
-    sym (search-finds _ _ _ (turn .loop-test .taken) (pair-found (pre .ready) _ _ _ (pre .type-exists) (pre .edge-exists) (inside turn) _ (compared found) (c .before .before .reason .given .1) refl refl refl refl (c .start .ensures .0))) ∙ turn .before .loop .inv .1
-
--- where the clash is made, the turn
+-- the turn in which a clash is found
 abbrev foundIn : tie.After-known-told Inv-loop μ-loop → tie.In-loop Inv-loop μ-loop
 foundIn c = turnOf (c .before .before .before)
+
+clash-at-requires : tie.Need-clash-at-requires Inv-loop μ-loop
+clash-at-requires c κs =
+    let start = startOf (foundIn c) in
+    (edge-here start _ (start .pre .edge-exists) .inside, omega (arith, inside (foundIn c), type-here start .at-most))
+
+returns : tie.Need-returns Inv-loop μ-loop
+returns c =
+    let turn = foundIn (c .before) in
+    let pre = startOf turn .pre in
+    sym (search-finds _ _ _ (turn .loop-test .taken) (pair-found (pre .ready) _ _ _ (pre .type-exists) (pre .edge-exists) (inside turn) (c .clash-at .result) (compared (c .before .before .before .before)) (c .before .before .reason .given .1) (c .clash-at .ensures))) ∙ turn .before .loop .inv .1
 
 pub first-clash-spec : {M : Type 1} → statement M
 unfolding clashBefore
@@ -108,10 +112,6 @@ first-clash-spec =
     (λ c. omega arith)
     loop-again
     (λ c. search needs)
-    (λ c. omega (arith, few-before (startOf (foundIn c))))
-    (λ c. omega (arith, few-before (startOf (foundIn c))))
-    (λ c. omega (arith, type-here (startOf (foundIn c)) .few))
-    (λ c. let start = startOf (foundIn c) in omega (arith, edge-here start _ (start .pre .edge-exists) .inside))
-    (λ c κs. let start = startOf (foundIn c) in edge-here start _ (start .pre .edge-exists) .inside)
+    clash-at-requires
     returns
     (λ c. sym (search-ends _ _ _ (c .loop-test .left)) ∙ c .before .loop .inv .1))
