@@ -10,6 +10,11 @@ pub const PATCH_EMBEDDING: &[u8] = &[
     0x20, 0, 0x21, 0x22, 1, 0x22, 1, 0x21, 0x22, 2, 0x20, 3, 0x21, 0x20, 2, 0x21, 0x22, 2, 0x21, 0x22, 1,
     0x20, 5, 0x20, 4, 0x2F,
 ];
+/// The same with both switches at one place.
+pub const PATCH_CLASHING: &[u8] = &[
+    0x20, 0, 0x21, 0x22, 1, 0x22, 1, 0x21, 0x22, 2, 0x20, 3, 0x21, 0x20, 2, 0x21, 0x22, 2, 0x21, 0x22, 2,
+    0x20, 5, 0x20, 5, 0x2F,
+];
 pub const PATCH_TREE: &[u8] = &[0x30, 0, 0x30, 1, 0x31, 0x41, 0x32, 0x30, 2, 0x30, 3, 0x32, 0x32, 0x32, 0x3F];
 pub const PATCH_IMAGE: &[u8] = &[
     0x30, 0, 0x30, 1, 0x30, 3, 0x31, 0x41, 0x32, 0x30, 3, 0x32, 0x32, 0x30, 2, 0x30, 5, 0x32, 0x32, 0x32,
@@ -161,6 +166,13 @@ pub fn long_paths(steps: usize) -> Vec<u8> {
     let paths: Vec<u8> = (1..=MOST_MEMBERS).flat_map(path).collect();
     let maps = [&[0x20, 0], &paths[..]].concat().repeat(MOST_TYPES - 1);
     [&maps[..], &[0x20, 0, 0x2F]].concat()
+}
+
+/// [`long_paths`] with the last path as the one before it.
+pub fn last_clashing(mut embedding: Vec<u8>) -> Vec<u8> {
+    let differs = embedding.len() - 6;
+    embedding[differs] -= 1;
+    embedding
 }
 
 /// A source table, a target table and an embedding.

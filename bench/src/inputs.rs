@@ -4,6 +4,7 @@
 
 use crate::documents::*;
 use crate::images;
+use lafindry_reference::vectors::explanations::Question;
 use lafindry_reference::vectors::{Case, Entry};
 use lafindry_reference::MOST_BYTES;
 
@@ -44,6 +45,27 @@ fn embeddings() -> Vec<Input> {
         judged("records", Entry::JudgeEmbedding, &[RECORDS_SOURCE, RECORDS_TARGET, RECORDS_EMBEDDING]),
         judged("1,008 paths of 2 steps", Entry::JudgeEmbedding, &[&chain, &wide, &long_paths(2)]),
         judged("1,008 paths of 12 steps", Entry::JudgeEmbedding, &[&chain, &wide, &long_paths(12)]),
+    ]
+}
+
+/// A question why paths clash, and what to call it.
+pub struct Asked {
+    pub name: &'static str,
+    pub question: Question,
+}
+
+/// Questions: the patch with its two switches at one place, and the longest
+/// paths, without a clash and where the last two clash.
+pub fn questions() -> Vec<Asked> {
+    let asked = |name, documents: [&[u8]; 3]| Asked {
+        name,
+        question: Question { documents: documents.map(<[u8]>::to_vec) },
+    };
+    let (chain, wide, free) = (chain(), wide_target(), long_paths(12));
+    vec![
+        asked("patch", [PATCH_SOURCE, PATCH_TARGET, PATCH_CLASHING]),
+        asked("1,008 paths, none clashes", [&chain, &wide, &free]),
+        asked("1,008 paths, the last clashes", [&chain, &wide, &last_clashing(free.clone())]),
     ]
 }
 

@@ -1,15 +1,17 @@
-//! Times the library and the reference on the same inputs, in one run. First
-//! each input's answer and output bytes are compared. A line has the length of
-//! the entry's last document and of what is written, both times of one call in
-//! microseconds, and the library's time divided by the reference's. Where an
-//! input has many cases, all these are means.
+//! Times the library and the reference on the same inputs, in one run: the five
+//! entries, and the explanation of clashes. First each input's answer and output
+//! bytes are compared. A line has the length of the last document and of what is
+//! written, both times of one call in microseconds, and the library's time
+//! divided by the reference's. Where an input has many cases, all these are
+//! means.
 
 mod documents;
 mod images;
 mod inputs;
 
-use inputs::Input;
-use lafindry_entries::{call, compare, ensure, Failure};
+use inputs::{Asked, Input};
+use lafindry_entries::{call, call_explain, ensure, Explanations, Failure, Tally};
+use lafindry_reference::vectors::explanations::EXPLAIN;
 use lafindry_reference::vectors::{Answer, Case, Entry};
 use lafindry_reference::{bring_back, carry, judge_embedding, judge_table, judge_tree, Refusal, MOST_BYTES};
 use std::hint::black_box;
@@ -26,31 +28,32 @@ const MOST: Duration = Duration::from_millis(800);
 const LEAST: Duration = Duration::from_micros(200);
 
 fn main() -> ExitCode {
-    print_row(["entry", "input", "bytes", "written", "library", "reference", "ratio", "answer"]);
-    let mut rows = Vec::new();
-    for input in inputs::all() {
-        match time_input(&input) {
-            Ok(row) => {
-                row.print();
-                rows.push(row);
-            }
-            Err(failure) => {
-                println!("{}: the answers differ\n{failure:?}", input.name);
-                return ExitCode::from(1);
-            }
+    match time_all() {
+        Ok(rows) => {
+            let entries = Entry::ALL.map(Entry::name);
+            entries.iter().chain(&[EXPLAIN]).for_each(|entry| print_highest(entry, &rows));
+            ExitCode::SUCCESS
+        }
+        Err(failure) => {
+            println!("the answers differ\n{failure:?}");
+            ExitCode::from(1)
         }
     }
-    for entry in Entry::ALL {
-        print_highest(entry, &rows);
-    }
-    ExitCode::SUCCESS
+}
+
+/// Times all inputs and prints each.
+fn time_all() -> Result<Vec<Row>, Failure> {
+    print_row(["entry", "input", "bytes", "written", "library", "reference", "ratio", "answer"]);
+    let (inputs, questions) = (inputs::all(), inputs::questions());
+    let rows = inputs.iter().map(time_input).chain(questions.iter().map(time_question));
+    rows.inspect(|row| row.iter().for_each(Row::print)).collect()
 }
 
 /// Prints the highest ratio of an entry, and that near the greatest length.
-fn print_highest(entry: Entry, rows: &[Row]) {
+fn print_highest(entry: &str, rows: &[Row]) {
     let of_entry = || rows.iter().filter(|row| row.entry == entry);
     let long = of_entry().filter(|row| row.bytes.max(row.written) > 59_000);
-    print!("highest ratio of {}: {:.2}", entry.name(), of_entry().map(Row::ratio).fold(0.0, f64::max));
+    print!("highest ratio of {entry}: {:.2}", of_entry().map(Row::ratio).fold(0.0, f64::max));
     match long.map(Row::ratio).reduce(f64::max) {
         Some(ratio) => println!(", above 59,000 bytes {ratio:.2}"),
         None => println!(),
@@ -59,7 +62,7 @@ fn print_highest(entry: Entry, rows: &[Row]) {
 
 /// What is printed of an input.
 struct Row {
-    entry: Entry,
+    entry: &'static str,
     name: &'static str,
     bytes: usize,
     written: usize,
@@ -76,7 +79,7 @@ impl Row {
 
     fn print(&self) {
         print_row([
-            self.entry.name(),
+            self.entry,
             self.name,
             &self.bytes.to_string(),
             &self.written.to_string(),
@@ -95,9 +98,16 @@ fn print_row([entry, input, bytes, written, library, reference, ratio, answer]: 
     );
 }
 
+/// The answers to the cases of an input, which are the same on both sides.
+fn answers(input: &Input) -> Result<Vec<Answer>, Failure> {
+    let mut tally = Tally::default();
+    input.cases.iter().map(|case| tally.compare(case)).collect()
+}
+
 /// Compares the answers to an input, then times both sides.
-fn time_input(Input { name, cases }: &Input) -> Result<Row, Failure> {
-    let answers = cases.iter().map(compare).collect::<Result<Vec<Answer>, Failure>>()?;
+fn time_input(input: &Input) -> Result<Row, Failure> {
+    let answers = answers(input)?;
+    let Input { name, cases } = input;
     let (mut output, mut other) = (vec![0; MOST_BYTES], vec![0; MOST_BYTES]);
     let (library, reference) = best_times(
         || cases.iter().for_each(|case| library_call(black_box(case), &mut output)),
@@ -108,7 +118,7 @@ fn time_input(Input { name, cases }: &Input) -> Result<Row, Failure> {
     let bytes = cases.iter().map(|case| case.documents[case.documents.len() - 1].len()).sum::<usize>();
     let written = answers.iter().map(written).sum::<usize>();
     Ok(Row {
-        entry: cases[0].entry,
+        entry: cases[0].entry.name(),
         name,
         bytes: bytes / count,
         written: written / count,
@@ -116,6 +126,17 @@ fn time_input(Input { name, cases }: &Input) -> Result<Row, Failure> {
         reference: reference / count as f64,
         answer: if count == 1 { summary(&answers[0]) } else { format!("{count} accepted") },
     })
+}
+
+/// Compares the explanations to a question, then times both sides.
+fn time_question(Asked { name, question }: &Asked) -> Result<Row, Failure> {
+    let (_, explanation) = Explanations::default().compare(question)?;
+    let (library, reference) = best_times(
+        || _ = black_box(call_explain(black_box(&question.documents))),
+        || _ = black_box(black_box(question).run()),
+    );
+    let bytes = question.documents[2].len();
+    Ok(Row { entry: EXPLAIN, name, bytes, written: 0, library, reference, answer: explanation.to_string() })
 }
 
 /// How many bytes an answer wrote.
@@ -185,4 +206,17 @@ fn time(function: &mut impl FnMut(), calls: u32) -> Duration {
         function();
     }
     start.elapsed()
+}
+
+#[cfg(test)]
+mod tests {
+    use super::*;
+
+    /// The benchmark can be built, and times nothing but equal answers.
+    #[test]
+    fn both_sides_answer_alike() -> Result<(), Failure> {
+        let mut explanations = Explanations::default();
+        inputs::all().iter().try_for_each(|input| answers(input).map(drop))?;
+        inputs::questions().iter().try_for_each(|asked| explanations.compare(&asked.question).map(drop))
+    }
 }
