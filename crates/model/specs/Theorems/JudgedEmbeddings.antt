@@ -7,7 +7,7 @@ use mathlib.Core.Option.{Option, none, some}
 use Prim.Native.Nat.{ℕ, zero, suc, _+_, _≤_, _<_}
 use native.Mathlib.Omega.{arith}
 use lib.ListN.{length, getD}
-use lib.Dec.{eqb, ltb}
+use lib.Dec.{ltb}
 use borrow.Author.Tests.{ltb-true, eqb-true}
 use Rattle.model.specs.Definitions.Basics.{Verdict, passes, fails, goes, pick, orElse, some-of}
 use Rattle.model.specs.Definitions.Commands.{Need, optional, EmbeddingCommand, mapsTo, path, step, embeddingEnd, alienE, embeddingCommands, embeddingWidth}
