@@ -2,12 +2,14 @@
  * Lafindry: judging tables, embeddings and tree documents of paper 01, carrying a source document into its image, and
  * bringing an image back. Tables may have optional choices, for what a document may leave out, the paths of choices
  * may lead through lists, and texts may have accents (paper 02, N3, N6 and N5). Of an embedding whose paths clash, one
- * function says which two do and why (N9); another writes a number, such as those of an answer, in decimal (N2).
+ * function says which two do and why (N9); one appends types and members to a table and reports the height and the
+ * filler's length of each type (N8); another writes a number, such as those of an answer, in decimal (N2).
  *
  * Every function takes any bytes or any number and always answers. A document is lent as a pointer and a length;
  * nothing is read beyond it, nothing is kept, and nothing is allocated. A pointer may be anything where its length is
  * 0. The most stack that was measured, on documents of 128 levels and 60,000 bytes, is 549 KB (lafindry_bring_back),
- * 491 KB (lafindry_carry) and 16 KB (the others), so a thread that calls should have a megabyte.
+ * 491 KB (lafindry_carry), 81 KB (lafindry_extend_table) and 16 KB (the others), so a thread that calls should have a
+ * megabyte.
  *
  * Characters of a tree are bytes of ISO 8859-1: 09, 0A, 20 to 7E and A0 to FF (hexadecimal); others are refused with
  * LAFINDRY_BAD_OPERAND. Bytes of UTF-8 are not recognised as such: turn names into ISO 8859-1 first.
@@ -62,7 +64,8 @@ enum {
 };
 
 /* Refusals, by paper 01's numbers. For one document they are tried in this order; LAFINDRY_NO_IMAGE is tried before
-   the refusals of the output. */
+   the refusals of the output. LAFINDRY_NO_CHOICE is paper 02's: it is answered to an operation, in a report, and is
+   tried first there. */
 enum {
     LAFINDRY_ACCEPTED = 0,
     LAFINDRY_TOO_LONG = 1,            /* a document is longer than LAFINDRY_MOST_BYTES */
@@ -80,7 +83,8 @@ enum {
     LAFINDRY_IMAGE_TOO_DEEP = 12,     /* the image to be written has a 129th level */
     LAFINDRY_IMAGE_TOO_LONG = 13,     /* the image to be written is longer than LAFINDRY_MOST_BYTES */
     LAFINDRY_OUTPUT_TOO_SHORT = 14,   /* the output is shorter than what would be written */
-    LAFINDRY_NO_IMAGE = 15            /* the tree to be brought back is the image of no conforming source document */
+    LAFINDRY_NO_IMAGE = 15,           /* the tree to be brought back is the image of no conforming source document */
+    LAFINDRY_NO_CHOICE = 19           /* the type to extend doesn't exist or is no choice, optional or not */
 };
 
 /* Documents. */
@@ -89,11 +93,22 @@ enum {
     LAFINDRY_TARGET_TABLE = 2,
     LAFINDRY_EMBEDDING = 3,
     LAFINDRY_TREE = 4,
-    LAFINDRY_OUTPUT = 5
+    LAFINDRY_OUTPUT = 5,
+    LAFINDRY_OPERATIONS = 11   /* operations on a table */
 };
 
-/* The greatest length of a document, so that an output of this length is never too short. */
+/* Operations on a table, by the byte that each begins with. What is appended becomes the last. */
+enum {
+    LAFINDRY_APPEND_TYPE = 0x51,  /* then n and n bytes: append the type whose own commands these bytes are */
+    LAFINDRY_APPEND_MEMBER = 0x52 /* then t and m: append a member of type m to type t, a choice, optional or not */
+};
+
+/* The greatest length of a document, so that an output of this length is never too short for one. */
 enum { LAFINDRY_MOST_BYTES = 60000 };
+
+/* The greatest length of a report, so that an output of this length is never too short for one. It is more than
+   LAFINDRY_MOST_BYTES: a report is no document. */
+enum { LAFINDRY_MOST_REPORT = 60193 };
 
 /* The greatest number of digits of a number, so that an output of this length is never too short for one. */
 enum { LAFINDRY_MOST_DIGITS = 20 };
@@ -136,6 +151,26 @@ struct lafindry_answer lafindry_bring_back(const uint8_t *source_table, size_t s
                                            const uint8_t *embedding, size_t embedding_length,
                                            const uint8_t *tree, size_t tree_length,
                                            uint8_t *output, size_t output_length);
+
+/*
+ * Judges a table and carries out operations on it, one after the other: writes a report at the start of the output;
+ * `value` is its length, 1 + 3 N + 2 O for N types in the end and O operations. The report has
+ *
+ *   - N, the number of types after all operations;
+ *   - for each type three bytes: its height, and the length in bytes of its filler element, held at 60,001, the higher
+ *     byte first;
+ *   - for each operation two bytes: 0 and the number of types then, or a refusal and 0. A refused operation leaves the
+ *     table as it was; its document is LAFINDRY_SOURCE_TABLE and its mark 0.
+ *
+ * A type is refused with LAFINDRY_BAD_FORM where its bytes are not exactly one type's own commands, without 1F, and
+ * then with 3 to 6 as a table written with it would be; a member with LAFINDRY_NO_CHOICE, and then with 3 (a 17th
+ * member), 4 or 5. The operations are refused as a whole, as LAFINDRY_OPERATIONS, with LAFINDRY_TOO_LONG, and with
+ * LAFINDRY_BAD_FORM at the offset of the first that can't be read. Every later byte of the output, and after a refusal
+ * every byte of it, is left as it was.
+ */
+struct lafindry_answer lafindry_extend_table(const uint8_t *table, size_t table_length,
+                                             const uint8_t *operations, size_t operations_length,
+                                             uint8_t *output, size_t output_length);
 
 /*
  * Writes a number in decimal, as ASCII digits without leading zeros, 0 being one digit, at the start of the output, and

@@ -1,5 +1,6 @@
 -- The five numbers of an answer, as the model's.
 use mathlib.Core.Path.{_≡_, refl, ap}
+use mathlib.Core.List.{List}
 use Prim.Native.Nat.{ℕ}
 use Rattle.answer_numbers.specs.declared.Answer.{Answer}
 use Rattle.answer_numbers.specs.declared.ExplanationNumbers.{ExplanationNumbers}
@@ -11,7 +12,7 @@ use Rattle.answers.specs.declared.Explanation.the-variants as explaining
 use Rattle.answers.specs.Answers.{fault, clash, Answered, ExplainedAs}
 use Rattle.model.specs.Definitions.Refusals.{Document, documentNumber, faulty, faultNumber, faultMark, numbersOf}
 use Rattle.model.specs.Definitions.Entries as model
-use Rattle.model.specs.Definitions.Entries.{Result, answerOf, refused}
+use Rattle.model.specs.Definitions.Entries.{Result, Outcome, answerOf, refused, untouched}
 use Rattle.model.specs.Definitions.Explanation as explanations
 use Rattle.model.specs.Definitions.Explanation.{explanationNumbers}
 
@@ -30,6 +31,16 @@ ForFault f n a = numbers a ≡ refusalNumbers (faultNumber (fault f)) n (faultMa
 pub fault-answer : (d : Document) (f : Fault) (a : Answer) → ForFault f (documentNumber d) a → numbers a ≡ answerOf (refused (faulty d (fault f)))
 unfolding answerOf numbersOf
 fault-answer d f a answer = answer
+
+-- answer and output are those of an outcome
+pub record Answers (o : Outcome) (new : List ℕ) (a : Answer) : Type 0 where
+  pub same-answer : numbers a ≡ answerOf (o .result)
+  pub same-output : new ≡ o .output
+
+-- an answer for a fault, and the output as it was
+pub fault-answers : (out : List ℕ) (d : Document) (f : Fault) (a : Answer) → ForFault f (documentNumber d) a → Answers (untouched out (faulty d (fault f))) out a
+unfolding untouched
+fault-answers out d f a answer = record { same-answer = fault-answer d f a answer; same-output = refl }
 
 -- ---- judging, and explaining a clash (02, N9)
 

@@ -2,19 +2,22 @@
 ghost use mathlib.Core.Path.{_≡_};
 ghost use Rattle.model.specs.Definitions.Entries.{answerOf};
 ghost use Rattle.model.specs.Definitions.Entries as model;
+ghost use Rattle.model.specs.Definitions.Refusals.{output-too-short};
 ghost use Rattle.model.specs.Definitions.Explanation as explanations;
 ghost use Rattle.model.specs.Definitions.Explanation.{reasonNumber, explanationNumbers};
-ghost use Rattle.answers.specs.Answers.{carriedResult, broughtResult, reason, clash};
+ghost use Rattle.answers.specs.Answers.{carriedResult, broughtResult, extensionResult, reason, clash};
 ghost use Rattle.answer_numbers.specs.Numbers.{numbers, refusalNumbers, ForFault, judgingNumbers, tenNumbers, unexplainedNumbers, explanationIn};
 use answers::Brought;
 use answers::Carried;
 use answers::Clash;
 use answers::Explanation;
+use answers::Extension;
 use answers::Fault;
 use answers::Judging;
 use answers::Reason;
 use codes::EMBEDDING;
 use codes::OUTPUT;
+use codes::SOURCE_TABLE;
 use codes::TREE;
 
 // Fields that don't apply are 0; so is `refusal` where the input is accepted.
@@ -92,6 +95,24 @@ pub fn brought(b: Brought) -> Answer
         Brought::NoImage => refusing(codes::NO_IMAGE, TREE, 0),
         Brought::NoRoom => refusing(codes::OUTPUT_TOO_SHORT, OUTPUT, 0),
         Brought::Written(length) => accepting(length as u64, 0),
+    }
+}
+
+// The answer of refusal where the output is too short.
+pub fn without_room() -> Answer
+    ensures { λ r. ⌜ numbers r ≡ answerOf (model.refused output-too-short) ⌝ }
+{
+    refusing(codes::OUTPUT_TOO_SHORT, OUTPUT, 0)
+}
+
+// The answer for each outcome of an operation on a loaded table.
+pub fn extended(e: Extension) -> Answer
+    ensures { λ r. ⌜ numbers r ≡ answerOf (extensionResult e) ⌝ }
+{
+    match e {
+        Extension::NoChoice => refusing(codes::NO_CHOICE, SOURCE_TABLE, 0),
+        Extension::Faulty(f) => faulting(f, SOURCE_TABLE),
+        Extension::Types(n) => accepting(n as u64, 0),
     }
 }
 

@@ -9,6 +9,8 @@ use Rattle.answers.specs.declared.Carried.{Carried}
 use Rattle.answers.specs.declared.Carried.the-variants as carried
 use Rattle.answers.specs.declared.Brought.{Brought}
 use Rattle.answers.specs.declared.Brought.the-variants as brought
+use Rattle.answers.specs.declared.Extension.{Extension}
+use Rattle.answers.specs.declared.Extension.the-variants as extending
 use Rattle.answers.specs.declared.Reason.{Reason}
 use Rattle.answers.specs.declared.Reason.the-variants.{EqualPaths, EarlierBegins, LaterBegins, PartAtSequence}
 use Rattle.answers.specs.declared.Clash.{Clash}
@@ -58,6 +60,12 @@ abbrev pub broughtResult : Brought → Entries.Result
 broughtResult brought.NoImage = Entries.refused Refusals.no-image
 broughtResult brought.NoRoom = Entries.refused Refusals.output-too-short
 broughtResult (brought.Written length) = Entries.accepted length 0
+
+-- the model's answer for each outcome of an operation on a loaded table (02, N8)
+abbrev pub extensionResult : Extension → Entries.Result
+extensionResult extending.NoChoice = Entries.refused Refusals.no-choice
+extensionResult (extending.Faulty f) = Entries.refused (Refusals.faulty Refusals.source-table (fault f))
+extensionResult (extending.Types n) = Entries.accepted n 0
 
 -- ---- clashes explained (02, N9)
 

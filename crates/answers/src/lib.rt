@@ -45,6 +45,14 @@ pub enum Brought {
     Written(usize),
 }
 
+// What an operation on a loaded table finds (02, N8): the type to extend doesn't exist or is no choice; the table that it would give has a
+// fault, whose mark isn't told and is 0; or it is done, and there are so many types.
+pub enum Extension {
+    NoChoice,
+    Faulty(Fault),
+    Types(usize),
+}
+
 // Why the paths of two members of a source type clash, an earlier and a later one: they are equal; the earlier is a shorter beginning of
 // the later; the later is one of the earlier; they part at a sequence.
 pub enum Reason {

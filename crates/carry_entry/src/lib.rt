@@ -1,6 +1,6 @@
 // What the entry `carry` answers and writes, for any bytes. Crate lafindry offers it to C.
 ghost use Rattle.model.specs.Definitions.Entries as model;
-ghost use Rattle.outcomes.specs.Outcomes.{Answers};
+ghost use Rattle.answer_numbers.specs.Numbers.{Answers};
 use answer_numbers::Answer;
 use answer_numbers::carried;
 use answer_numbers::faulting;

@@ -1,4 +1,4 @@
-// Paper 01's numbers by name, the limits, commands, documents and refusals, and those of paper 02's reasons (N9).
+// Paper 01's numbers by name, the limits, commands, documents and refusals, and those of paper 02's reasons (N9) and operations (N8).
 
 // No document is longer, in bytes.
 pub const MAX_BYTES: usize = 60000;
@@ -50,6 +50,11 @@ pub const CLOSES: u8 = 0x32;
 
 pub const TREE_END: u8 = 0x3F;
 
+// The operations of a document of operations: 51 n and n bytes, 52 t m.
+pub const APPEND_TYPE: u8 = 0x51;
+
+pub const APPEND_MEMBER: u8 = 0x52;
+
 // Documents, as refusals number them.
 pub const SOURCE_TABLE: u64 = 1;
 
@@ -60,6 +65,8 @@ pub const EMBEDDING: u64 = 3;
 pub const TREE: u64 = 4;
 
 pub const OUTPUT: u64 = 5;
+
+pub const OPERATIONS: u64 = 11;
 
 // Refusals.
 pub const TOO_LONG: u64 = 1;
@@ -91,6 +98,8 @@ pub const IMAGE_TOO_LONG: u64 = 13;
 pub const OUTPUT_TOO_SHORT: u64 = 14;
 
 pub const NO_IMAGE: u64 = 15;
+
+pub const NO_CHOICE: u64 = 19;
 
 // The bytes of an element without what it holds: the command that opens it, its type, the command that closes it.
 pub const ELEMENT_BYTES: usize = 3;

@@ -15,7 +15,7 @@ use Rattle.model.specs.Theorems.FillerLaws.{filled}
 use Rattle.model.specs.Theorems.Templates.{filler-row-of}
 use Rattle.loaded_table.specs.Loaded.{tableBy, typesIn, kindsOf, countsOf, heightsOf, membersIn, length-of}
 use Rattle.table_heights.specs.Sections.{membersAt, members-long, member-is, kind-sequence, kind-choice, kind-other}
-use Rattle.table_heights.specs.Heights.{least-same}
+use Rattle.model.specs.Theorems.GrownTables.{least-same}
 use Rattle.rows.specs.Rows.{symbolOf}
 use Rattle.rows.specs.Symbols.{filler-of}
 use Rattle.growing.specs.Growing.{Puts}
@@ -59,9 +59,8 @@ module _ {target : List ℕ} (sound : Sound target) {t : ℕ} (exists : t < type
     some-member = sound .sound .well-formed .choices-choose t needed ms (kind-choice target t exists is choosing)
 
     same-heights : (k : ℕ) → List·Memᴰ k ms → heightIn (heightsOf target) k ≡ heightIn (heights T) k
-    unfolding heightIn heightOf membersOf
-    same-heights k here =
-        sound .kept .height-at k (sound .sound .well-formed .members-exist t k (rw (kind-choice target t exists is choosing) here))
+    unfolding heightIn heightOf
+    same-heights k here = sound .kept .height-at k
 
     is-least : m ≡ leastMember (heights T) ms
     is-least = least ∙ least-same (heightsOf target) (heights T) ms same-heights

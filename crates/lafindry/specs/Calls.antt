@@ -5,9 +5,9 @@ use mathlib.Core.List.{List}
 use Prim.Native.Nat.{ℕ}
 use Rattle.answer_numbers.specs.declared.Answer.{Answer}
 use Rattle.answer_numbers.specs.declared.ExplanationNumbers.{ExplanationNumbers}
-use Rattle.answer_numbers.specs.Numbers.{numbers, tenNumbers}
-use Rattle.outcomes.specs.Outcomes.{Answers}
+use Rattle.answer_numbers.specs.Numbers.{numbers, tenNumbers, Answers}
 use Rattle.model.specs.Definitions.Explanation.{explain, explanationNumbers}
+use Rattle.model.specs.Definitions.Extending.{extend}
 use Rattle.model.specs.Definitions.Entries.{answerOf, judgeTable, judgeEmbedding, judgeTree, carry, bringBack}
 
 abbrev pub JudgeTableCall : List ℕ → Answer → Type 0
@@ -21,6 +21,9 @@ ExplainClashCall s t e n = tenNumbers n ≡ explanationNumbers (explain s t e)
 
 abbrev pub JudgeTreeCall : List ℕ → List ℕ → Answer → Type 0
 JudgeTreeCall t tr a = numbers a ≡ answerOf (judgeTree t tr)
+
+abbrev pub ExtendTableCall : List ℕ → List ℕ → List ℕ → List ℕ → Answer → Type 0
+ExtendTableCall t ops before after a = Answers (extend t ops before) after a
 
 abbrev pub CarryCall : List ℕ → List ℕ → List ℕ → List ℕ → List ℕ → List ℕ → Answer → Type 0
 CarryCall s t e tr before after a = Answers (carry s t e tr before) after a

@@ -14,21 +14,22 @@ use lib.ListN.{length, take, drop}
 use Rattle.answer_numbers.specs.declared.Answer.{Answer}
 use Rattle.answer_numbers.specs.declared.ExplanationNumbers.{ExplanationNumbers}
 use Rattle.answer_numbers.specs.Numbers.{numbers, tenNumbers}
-use Rattle.outcomes.specs.Outcomes.{Answers}
-use Rattle.lafindry.specs.Calls.{JudgeTableCall, JudgeEmbeddingCall, ExplainClashCall, JudgeTreeCall, CarryCall, BringBackCall}
+use Rattle.answer_numbers.specs.Numbers.{Answers}
+use Rattle.lafindry.specs.Calls.{JudgeTableCall, JudgeEmbeddingCall, ExplainClashCall, ExtendTableCall, JudgeTreeCall, CarryCall, BringBackCall}
 use Rattle.model.specs.Definitions.Basics.{fails}
 use Rattle.model.specs.Definitions.Table.{tableOf}
 use Rattle.model.specs.Definitions.Content.{Content, document}
 use Rattle.model.specs.Definitions.Conformance.{Conforming}
 use Rattle.model.specs.Definitions.Image.{Setting}
 use Rattle.model.specs.Definitions.TreeChecks.{treeLevels, maxLevels}
-use Rattle.model.specs.Definitions.Refusals.{Judged, sound, has, Document, tree, Fault, too-long, bad-form, over-limit, bad-operand, repeated-member, no-finite-instance, root-moved, wrong-end, wrong-steps, path-clash, unexpected, faultNumber, faultMark, Refusal, faulty, no-image, image-too-deep, image-too-long, output-too-short, numbersOf, documentNumber, maxLength}
+use Rattle.model.specs.Definitions.Refusals.{Judged, sound, has, Document, tree, operations, Fault, too-long, bad-form, over-limit, bad-operand, repeated-member, no-finite-instance, root-moved, wrong-end, wrong-steps, path-clash, unexpected, faultNumber, faultMark, Refusal, faulty, no-image, image-too-deep, image-too-long, output-too-short, no-choice, numbersOf, documentNumber, maxLength}
 use Rattle.model.specs.Definitions.ValidTable.{ValidTable, tableBytes}
 use Rattle.model.specs.Definitions.ValidEmbedding.{ValidEmbedding, embeddingBytes}
 use Rattle.model.specs.Definitions.Valid.{WrittenBy, ValidTree}
 use Rattle.model.specs.Definitions.Embedding.{embeddingOf}
 use Rattle.model.specs.Definitions.EmbeddingChecks.{Reason, equal-paths, earlier-begins, later-begins, part-at-sequence}
 use Rattle.model.specs.Definitions.Explanation as explanations
+use Rattle.model.specs.Definitions.Extending.{Performed, performed, unread, reportIf, reported, extend}
 use Rattle.model.specs.Definitions.Explanation.{Clash, explained, unexplained, reasonNumber, explanationNumbers, Explains}
 use Rattle.model.specs.Definitions.Decimal.{DecimalText, DecimalWritten, with-room, without-room}
 use Rattle.model.specs.Definitions.Entries as model
@@ -105,6 +106,7 @@ refusal-number no-image e = omega arith
 refusal-number image-too-deep e = omega arith
 refusal-number image-too-long e = omega arith
 refusal-number output-too-short e = omega arith
+refusal-number no-choice e = omega arith
 
 -- an answer whose refusal is 0 is acceptance
 accepts : (r : Result) → answerOf r .refusal ≡ 0 → (v : ℕ) × (f : ℕ) × (r ≡ accepted v f)
@@ -274,6 +276,20 @@ keeps-bring-back : (s t e tr before : List ℕ) → Keeps before (bringBack s t 
 unfolding bringBack
 keeps-bring-back s t e tr before = keeps-judged before _ _ _ (keeps-judged before _ _ _ (keeps-judged before _ _ _ (keeps-judged before _ _ _ (keeps-found before _))))
 
+keeps-report : (before bytes : List ℕ) (room : Bool) → Keeps before (reportIf room before bytes)
+unfolding reportIf answerOf
+keeps-report before bytes false = keeps-untouched before output-too-short
+keeps-report before bytes true = inl refl
+
+keeps-reported : (before : List ℕ) (p : Performed) → Keeps before (reported before p)
+unfolding reported
+keeps-reported before (unread at) = keeps-untouched before (faulty operations (bad-form at))
+keeps-reported before (performed rs T) = keeps-report before _ _
+
+keeps-extend : (t ops before : List ℕ) → Keeps before (extend t ops before)
+unfolding extend
+keeps-extend t ops before = keeps-judged before _ _ _ (keeps-judged before _ _ _ (keeps-reported before _))
+
 -- a call whose outcome keeps the output, and that was refused
 kept : (before after : List ℕ) (a : Answer) (o : Outcome) → Answers o after a → Keeps before o → (a .refusal ≡ 0 → ⊥) → after ≡ before
 kept before after a o h (inl zero) refused-call = absurd (refused-call (refusal-is a (o .result) (h .same-answer) ∙ zero))
@@ -284,6 +300,9 @@ refused-carry-keeps-output s t e tr before after a call = kept before after a _ 
 
 pub refused-bring-back-keeps-output : (s t e tr before after : List ℕ) (a : Answer) → BringBackCall s t e tr before after a → (a .refusal ≡ 0 → ⊥) → after ≡ before
 refused-bring-back-keeps-output s t e tr before after a call = kept before after a _ call (keeps-bring-back s t e tr before)
+
+pub refused-extend-keeps-output : (t ops before after : List ℕ) (a : Answer) → ExtendTableCall t ops before after a → (a .refusal ≡ 0 → ⊥) → after ≡ before
+refused-extend-keeps-output t ops before after a call = kept before after a _ call (keeps-extend t ops before)
 
 -- ---- demand 2: a document is accepted exactly when it is valid
 
@@ -334,6 +353,7 @@ fifteen (refused no-image) e = refl
 fifteen (refused image-too-deep) e = absurd (omega arith)
 fifteen (refused image-too-long) e = absurd (omega arith)
 fifteen (refused output-too-short) e = absurd (omega arith)
+fifteen (refused no-choice) e = absurd (omega arith)
 fifteen (accepted v f) e = absurd (omega arith)
 
 is-fifteen : (r : Result) → r ≡ refused no-image → answerOf r .refusal ≡ 15

@@ -1,6 +1,6 @@
 // The entries that a C program calls, each on any bytes. include/lafindry.h declares them.
 ghost use Rattle.model.specs.Definitions.Decimal.{DecimalWritten};
-ghost use Rattle.lafindry.specs.Calls.{JudgeTableCall, JudgeEmbeddingCall, ExplainClashCall, JudgeTreeCall, CarryCall, BringBackCall};
+ghost use Rattle.lafindry.specs.Calls.{JudgeTableCall, JudgeEmbeddingCall, ExplainClashCall, ExtendTableCall, JudgeTreeCall, CarryCall, BringBackCall};
 use answer_numbers::Answer;
 use answer_numbers::ExplanationNumbers;
 use answer_numbers::explained;
@@ -67,6 +67,18 @@ pub extern "C" fn lafindry_bring_back<'a>(
     ensures { λ r. ⌜ BringBackCall (now (source .entry)) (now (target .entry)) (now (embedding .entry)) (now (tree .entry)) (now (output .entry)) (now (output .exit)) r ⌝ }
 {
     bring_entry::bring_back(source, target, embedding, tree, output)
+}
+
+// Extends a table by the operations of a document: length of the report that is written.
+#[no_mangle]
+pub extern "C" fn lafindry_extend_table(
+    table: &[u8],
+    operations: &[u8],
+    output: &mut [u8],
+) -> Answer
+    ensures { λ r. ⌜ ExtendTableCall (now (table .entry)) (now (operations .entry)) (now (output .entry)) (now (output .exit)) r ⌝ }
+{
+    extending::extend(table, operations, output)
 }
 
 // Writes a number in decimal at the start of the output: number of digits, or 0 where there is no room for them.

@@ -1,10 +1,11 @@
 // The lines that programs print, made before they are printed, so that each is printed whole.
 ghost use Prim.Native.Nat.{_+_, _*_, _≤_};
 ghost use lib.ListN.{length};
-ghost use Rattle.model.specs.Definitions.Lines.{Line, AnswerLine, CarryLine, BringLine};
+ghost use Rattle.model.specs.Definitions.Lines.{Line, AnswerLine, CarryLine, BringLine, OperationLine, KeptLine};
 ghost use Rattle.answer_numbers.specs.Numbers.{numbers};
 ghost use Rattle.lines.specs.Lines.{numberBytes, mostWord, mostNumbers, lineBytes, WritesNumbers};
 use answer_numbers::Answer;
+use decimal::decimal;
 use decimal::put_decimal;
 use writing::copy;
 
@@ -69,4 +70,23 @@ pub fn bring_line(out: &mut [u8], a: Answer) -> &mut [u8]
     ensures { λ r. ⌜ BringLine (numbers a) (now r) ⌝ }
 {
     answer_line(out, a, b"brought", &[a.value])
+}
+
+// Makes the line of the program `extend` for the answer to an operation.
+pub fn operation_line(out: &mut [u8], a: Answer) -> &mut [u8]
+    requires { ⌜ lineBytes ≤ length (now out) ⌝ }
+    ensures { λ r. ⌜ OperationLine (numbers a) (now r) ⌝ }
+{
+    answer_line(out, a, b"types", &[a.value])
+}
+
+// Makes its line for a type, by the type's height and its filler's length.
+pub fn kept_line(out: &mut [u8], height: u64, fill: u64) -> &mut [u8]
+    requires { ⌜ lineBytes ≤ length (now out) ⌝ }
+    ensures { λ r. ⌜ KeptLine height fill (now r) ⌝ }
+{
+    let text = decimal(height);
+    let digits = text.bytes;
+    let n = text.count;
+    line(out, &digits[..n], &[fill])
 }

@@ -128,7 +128,7 @@ choice-between code low high = row-codes (λ (k : ℕ). 3 ≤ k → choiceCode k
 -- ---- other kinds
 
 -- the code of a kind, a list's being the least that is read as one
-abbrev codeOf : Kind → ℕ
+abbrev pub codeOf : Kind → ℕ
 codeOf text = 0
 codeOf empty = 1
 codeOf (sequence ms) = 2

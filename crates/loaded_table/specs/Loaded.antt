@@ -2,11 +2,11 @@
 use mathlib.Core.Path.{_≡_, refl, sym, ap, _∙_}
 use mathlib.Core.Bool.{Bool, true, false}
 use mathlib.Core.List.{List, [], _∷_}
-use Prim.Native.Nat.{ℕ, zero, suc, _+_, _*_, _≤_, _<_, min}
+use Prim.Native.Nat.{ℕ, zero, suc, _+_, _-_, _*_, _≤_, _<_, min}
 use native.Mathlib.Nat.{add-zero, add-suc, suc-add}
 use native.Mathlib.Omega.{arith}
-use lib.ListN.{length, take, drop, getD, set, length-drop, List·getD-eq-default, replicate}
-use lib.Seq.{getD-take, getD-drop, getD-set-same, getD-set-other, length-take-le, take-set-lt, drop-set-add}
+use lib.ListN.{length, take, drop, getD, set, length-take, length-drop, List·getD-eq-default, replicate}
+use lib.Seq.{ext-getD, getD-take, getD-drop, getD-set-same, getD-set-other, length-take-le, take-set-lt, drop-set-add}
 use lib.Dec.{eqb, ltb}
 use borrow.Author.Tests.{eqb-true, eqb-false, ltb-true, ltb-false}
 use mathlib.Core.Logic.{_⊎_, inl, inr}
@@ -153,6 +153,16 @@ section-set from many rows i v h = ap (take many) (drop-set-add from rows i v) �
 pub section-long : (from many : ℕ) (rows : List ℕ) → from + many ≤ length rows → length (section from many rows) ≡ many
 section-long from many rows h = length-take-le many (drop from rows) (rw (length-drop from rows) (omega arith))
 
+-- a section whose places all hold the same is the same
+pub section-same : (from many : ℕ) (rows after : List ℕ) → length after ≡ length rows → ((k : ℕ) → k < many → getD after (from + k) 0 ≡ getD rows (from + k) 0)
+    → section from many after ≡ section from many rows
+section-same from many rows after size same =
+    let long : (l : List ℕ) → length (section from many l) ≡ min many (length l - from) = λ l. length-take many (drop from l) ∙ ap (min many) (length-drop from l) in
+    ext-getD 0 (section from many after) (section from many rows) (long after ∙ ap (λ (k : ℕ). min many (k - from)) size ∙ sym (long rows))
+    (λ k here.
+    let low : k < many = omega (arith, long after) in
+    in-section from many after k low ∙ same k low ∙ sym (in-section from many rows k low))
+
 -- where the entries below n are those of f, a store at n makes one more of them so
 pub entries-more : (f : ℕ → ℕ) (z : ℕ) (xs : List ℕ) (n v : ℕ) → n < length xs → v ≡ f n → ((k : ℕ) → k < n → getD xs k z ≡ f k)
     → (k : ℕ) → k < n + 1 → getD (set xs n v) k z ≡ f k
@@ -184,9 +194,9 @@ pub record Bounded (rows : List ℕ) : Type 0 where
   pub few-types : typesIn rows ≤ 64
   pub few-members : (t : ℕ) → getD (countsOf rows) t 0 ≤ 16
 
--- each type's height, and its filler's byte length held at 60,001
+-- each type's height, 0 behind the types, and each type's filler's byte length held at 60,001
 pub record Kept (rows : List ℕ) (T : model.Table) : Type 0 where
-  pub height-at : (t : ℕ) → t < length T → getD (heightsOf rows) t 0 ≡ heightOf T t
+  pub height-at : (t : ℕ) → getD (heightsOf rows) t 0 ≡ heightOf T t
   pub fill-at : (t : ℕ) → t < length T → getD (fillOf rows) t 0 ≡ min 60001 (fillerLength T t)
 
 -- a loaded table stands for T, within bounds, with true numbers kept

@@ -24,5 +24,7 @@ pub mod Refusals
 pub mod Valid
 pub mod Entries
 pub mod Explanation
+pub mod Operations
+pub mod Extending
 pub mod Decimal
 pub mod Lines

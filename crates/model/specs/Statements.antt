@@ -12,9 +12,9 @@ use Prim.Native.Nat.{ℕ, suc, _+_, _*_, _≤_, _<_, max}
 use lib.ListN.{length, drop}
 use lib.Dec.{leb}
 use Rattle.model.specs.Definitions.Basics.{passes, fails, some-of}
-use Rattle.model.specs.Definitions.Commands.{needed, optional}
+use Rattle.model.specs.Definitions.Commands.{Need, needed, optional}
 use Rattle.model.specs.Definitions.Table.{Kind, text, empty, sequence, choice, list, Table, kindOf, isSequence, isChoice, isList, tableOf}
-use Rattle.model.specs.Definitions.Heights.{heights, heightIn, heightOf, hasInstance, endlessType}
+use Rattle.model.specs.Definitions.Heights.{heights, heightIn, heightOf, lowest, hasInstance, endlessType}
 use Rattle.model.specs.Definitions.TableChecks.{tableForm, tableOperands, tableRepeats}
 use Rattle.model.specs.Definitions.Content.{Content, end, elem, bytes, document, contentOf, levels}
 use Rattle.model.specs.Definitions.Characters.{CharacterClass, Ascii, Accented, Classed, characterClass, allowed}
@@ -31,11 +31,12 @@ use Rattle.model.specs.Definitions.Marks.{TableMarks, EmbeddingMarks, Tr
 use Rattle.model.specs.Definitions.Valid.{WrittenBy, ValidTree}
 use Rattle.model.specs.Definitions.Inverse.{follow, readTo, readBack}
 use Rattle.model.specs.Definitions.SingleItems.{singleItems}
-use Rattle.model.specs.Definitions.Refusals.{wrong-steps, path-clash, too-long, over-limit, embedding, tree, faulty, output-too-short, no-image, image-too-deep, image-too-long, maxLength}
+use Rattle.model.specs.Definitions.Refusals.{Fault, bad-form, wrong-steps, path-clash, too-long, over-limit, source-table, embedding, tree, Refusal, faulty, output-too-short, no-image, image-too-deep, image-too-long, no-choice, numbersOf, has, maxLength}
 use Rattle.model.specs.Definitions.Decimal.{DecimalForm, DecimalText}
 use Rattle.model.specs.Definitions.Lines.{AnswerLine}
-use Rattle.model.specs.Definitions.Entries.{Answer, answerOf, accepted, refused, judgeEmbedding, settingOf, untouched, carry, bringWithin, bringBack}
+use Rattle.model.specs.Definitions.Entries.{checkedTable, Answer, answerOf, accepted, refused, judgeTable, judgeEmbedding, settingOf, untouched, carry, bringWithin, bringBack}
 use Rattle.model.specs.Definitions.Explanation.{Clash, explained, unexplained, explain, explanationNumbers, ReasonHolds, Explains}
+use Rattle.model.specs.Definitions.Operations.{keptLength, typeIn, Operation, append-type, append-member, unchanged, withoutMark, operate, Appends}
 use Rattle.model.specs.Computing.{definitions}
 use Rattle.model.specs.Examples.{choiceOfEmpty, listedTable, listedEmbedding, listedImage, memberTable, memberListsTable, memberListsEmbedding, memberContent, memberImage}
 use Rattle.model.specs.Theorems.Tools.{and-right}
@@ -67,6 +68,8 @@ use Rattle.model.specs.Theorems.ValidEmbeddings.{paths-walked, valid-emb
 use Rattle.model.specs.Theorems.Accepted.{table-accepted-exactly, embedding-accepted-exactly, tree-accepted-exactly}
 use Rattle.model.specs.Theorems.Reasons.{one-holds}
 use Rattle.model.specs.Theorems.Explanations.{explained-10, explanation-holds, explained-so, explain-other, numbers-as-judged}
+use Rattle.model.specs.Theorems.Operations.{type-alone}
+use Rattle.model.specs.Theorems.OperationLaws.{no-type-there, refused-plain, fault-answered, no-choice-exactly, member-refusal, done, done-where-accepted, older-kept, member-falls, member-kept, member-moved}
 
 -- ---- 1. conforming and bytes
 
@@ -480,3 +483,72 @@ reasons-cover = one-holds
 -- The numbers of an explanation begin with those of the judging answer.
 pub numbers-begin-as-judged : (s t e : List ℕ) → explanationNumbers (explain s t e) .answer ≡ answerOf (judgeEmbedding s t e)
 numbers-begin-as-judged = numbers-as-judged
+
+-- ---- 19. tables that keep their sums (02, N8)
+
+-- Bytes write a type exactly where, with 1F behind them, they pass check 2 and are read to the table of that type alone.
+pub type-exactly : (cs : List ℕ) (κ : Kind) → (typeIn cs ≡ some κ) ↔ ((tableForm (cs ++ 0x1F ∷ []) ≡ passes) × (tableOf (cs ++ 0x1F ∷ []) ≡ κ ∷ []))
+type-exactly = type-alone
+
+-- An operation that is accepted, on any table, leaves the table with what it appends (`Appends`), which is valid, and answers its number
+-- of types, as judging its bytes does.
+pub record OperationDone (T : Table) (o : Operation) (n : ℕ) : Type 0 where
+  pub appends : Appends T o (operate T o .table)
+  pub is-valid : ValidTable (operate T o .table)
+  pub number-of-types : n ≡ length (operate T o .table)
+  pub judged-so : judgeTable (tableBytes (operate T o .table)) ≡ accepted n 0
+
+pub operation-done : (T : Table) (o : Operation) (n : ℕ) → operate T o .result ≡ accepted n 0 → OperationDone T o n
+operation-done T o n e = let it = done T o e in record { appends = it .0; is-valid = it .1; number-of-types = it .2; judged-so = it .3 }
+
+-- Where the bytes of the table with what an operation appends are accepted, the operation leaves that table and answers its number of
+-- types.
+pub accepted-as-written : (T : Table) (o : Operation) (after : Table) → Appends T o after → AcceptedTable (tableBytes after)
+    → operate T o ≡ record { result = accepted (length after) 0; table = after }
+accepted-as-written = done-where-accepted
+
+-- Where checks 2 to 6 find a fault in these bytes, the operation is refused for that fault, in document 1 and without its mark.
+pub refused-as-written : (T : Table) (o : Operation) (after : Table) (f : Fault) → Appends T o after → checkedTable (tableBytes after) ≡ has f
+    → operate T o .result ≡ refused (faulty source-table (withoutMark f))
+refused-as-written = fault-answered
+
+-- An operation that is refused, on any table, leaves the table as it was, and the refusal has document 1 and mark 0.
+pub operation-refused : (T : Table) (o : Operation) (why : Refusal) → operate T o .result ≡ refused why
+    → (operate T o .table ≡ T) × (numbersOf why .document ≡ 1) × (numbersOf why .mark ≡ 0)
+operation-refused = refused-plain
+
+-- A member is refused with 19 exactly where the type to extend is no choice of either kind; a number that is no type is none.
+pub refused-19-exactly : (T : Table) (t m : ℕ) → (operate T (append-member t m) .result ≡ refused no-choice) ↔ (isChoice (kindOf T t) ≡ false)
+refused-19-exactly = no-choice-exactly
+
+-- A type is refused with 2 where its bytes write none.
+pub refused-no-type : (T : Table) (cs : List ℕ) → typeIn cs ≡ none → operate T (append-type cs) .result ≡ refused (faulty source-table (bad-form 0))
+unfolding unchanged
+refused-no-type T cs e = rw (no-type-there T cs e)
+
+-- On a valid table, which by statement 16 is that of any accepted document, a member is refused with 19, 3, 4 or 5, so never with 2 or 6.
+pub member-refusals : (T : Table) → ValidTable T → (t m : ℕ) (why : Refusal) → operate T (append-member t m) .result ≡ refused why
+    → (numbersOf why .number ≡ 19) ⊎ (numbersOf why .number ≡ 3) ⊎ (numbersOf why .number ≡ 4) ⊎ (numbersOf why .number ≡ 5)
+member-refusals = member-refusal
+
+-- Where a type was appended to a valid table, no older type's height or kept filler length moved.
+pub types-move-nothing : (T : Table) → ValidTable T → (cs : List ℕ) (n : ℕ) → operate T (append-type cs) .result ≡ accepted n 0 → (t : ℕ) → t < length T
+    → (heightOf (operate T (append-type cs) .table) t ≡ heightOf T t) × (keptLength (operate T (append-type cs) .table) t ≡ keptLength T t)
+types-move-nothing T valid cs n = older-kept T valid cs
+
+-- Where member m was appended to type t of a valid table, a choice of either kind, no height rose. Unless t is a choice that needs a
+-- member and m was strictly lower than all it had, no type's height or kept filler length moved; if it is and m was, the height of t fell.
+pub record MemberMoves (T after : Table) (t m : ℕ) (need : Need) (ms : List ℕ) : Type 0 where
+  pub heights-fall : (u : ℕ) → heightOf after u ≤ heightOf T u
+  pub else-unmoved : ((need ≡ needed) × (heightOf T m < lowest (heights T) ms) → ⊥)
+      → (u : ℕ) → u < length T → (heightOf after u ≡ heightOf T u) × (keptLength after u ≡ keptLength T u)
+  pub own-falls : need ≡ needed → heightOf T m < lowest (heights T) ms → heightOf after t < heightOf T t
+
+pub member-moves : (T : Table) → ValidTable T → (t m : ℕ) (need : Need) (ms : List ℕ) → kindOf T t ≡ choice need ms
+    → (n : ℕ) → operate T (append-member t m) .result ≡ accepted n 0 → MemberMoves T (operate T (append-member t m) .table) t m need ms
+member-moves T valid t m need ms is n e =
+    record {
+      heights-fall = member-falls T valid t m need ms is e;
+      else-unmoved = member-kept T valid t m need ms is e;
+      own-falls = member-moved T valid t m need ms is e;
+    }

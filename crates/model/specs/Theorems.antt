@@ -47,3 +47,6 @@ pub mod DemandThree
 pub mod OnBytes
 pub mod StepRules
 pub mod RulesNeeded
+pub mod GrownTables
+pub mod Operations
+pub mod OperationLaws

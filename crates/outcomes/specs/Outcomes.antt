@@ -4,7 +4,7 @@ use mathlib.Core.List.{List}
 use Prim.Native.Nat.{ℕ}
 use borrow.Author.Tests.{leb-true}
 use Rattle.answer_numbers.specs.declared.Answer.{Answer}
-use Rattle.answer_numbers.specs.Numbers.{numbers, ForFault, fault-answer}
+use Rattle.answer_numbers.specs.Numbers.{numbers, ForFault, Answers, fault-answers}
 use Rattle.answers.specs.declared.Fault.{Fault}
 use Rattle.answers.specs.declared.Judged.{Judged}
 use Rattle.answers.specs.Answers.{judged, fault}
@@ -17,18 +17,13 @@ use Rattle.tree_judge.specs.Judging.{TreeJudged}
 use Rattle.loaded_table.specs.Loaded as loaded_table
 use Rattle.loaded_table.specs.Loaded.{Stands}
 use Rattle.model.specs.Definitions.Table.{Table, tableOf}
-use Rattle.model.specs.Definitions.Refusals.{Document, source-table, target-table, embedding, tree, documentNumber, faulty, sound, has, fits}
+use Rattle.model.specs.Definitions.Refusals.{source-table, target-table, embedding, tree, documentNumber, sound, has, fits}
 use Rattle.model.specs.Definitions.Image.{Setting}
 use Rattle.model.specs.Definitions.Entries.{Result, Outcome, settingOf, answerOf, untouched, unlessFaulty, judgedTable, judgedEmbedding, judgedTree}
 use Rattle.model.specs.Theorems.Facts.{SoundTable}
 use Rattle.model.specs.Theorems.JudgedTables.{table-sound, tree-checks}
 use Rattle.model.specs.Theorems.Documents.{accepted-content}
 use Rattle.model.specs.Theorems.EntryLaws.{Judges}
-
--- answer and output are those of an outcome
-pub record Answers (o : Outcome) (new : List ℕ) (a : Answer) : Type 0 where
-  pub same-answer : numbers a ≡ answerOf (o .result)
-  pub same-output : new ≡ o .output
 
 -- ---- the first three documents
 
@@ -39,11 +34,6 @@ afterSetting s t e out later =
     unlessFaulty (untouched out) target-table (judgedTable t) λ u.
     unlessFaulty (untouched out) embedding (judgedEmbedding (tableOf s) (tableOf t) e) λ u.
     later
-
--- an answer for a fault, and the output as it was
-fault-answers : (out : List ℕ) (d : Document) (f : Fault) (a : Answer) → ForFault f (documentNumber d) a → Answers (untouched out (faulty d (fault f))) out a
-unfolding untouched
-fault-answers out d f a answer = record { same-answer = fault-answer d f a answer; same-output = refl }
 
 -- one of them is refused
 pub setting-refused : (s t e out : List ℕ) (later : Outcome) {f : Fault} {n : ℕ} (a : Answer) → Refusing s t e f n → ForFault f n a → Answers (afterSetting s t e out later) out a

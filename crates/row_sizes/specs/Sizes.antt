@@ -45,7 +45,7 @@ module _ {target : List ℕ} {T : Table} (kept : Kept target T) where
   levels-same d [] all-none = refl
   levels-same d (opening t ∷ row) (all-more h rest) = ap (max (suc d)) (levels-same (suc d) row rest)
   levels-same d (closing ∷ row) (all-more h rest) = levels-same (d - 1) row rest
-  levels-same d (filler t ∷ row) (all-more h rest) = rw (kept .height-at t h, levels-same d row rest) refl
+  levels-same d (filler t ∷ row) (all-more h rest) = rw (kept .height-at t, levels-same d row rest) refl
   levels-same d (hole g ∷ row) (all-more h rest) = levels-same d row rest
 
   size-same : {sizes : List ℕ} {r : ℕ} (d : ℕ) (row : List Symbol) → All (TypeBelow (length T)) row

@@ -2,3 +2,4 @@ pub mod Starred
 pub mod Decimal
 pub mod Written
 pub mod Clashes
+pub mod Operations

@@ -11,34 +11,24 @@ use lib.Seq.{getD-set-same, getD-set-other}
 use lib.Dec.{eqb}
 use borrow.Author.Tests.{eqb-true, eqb-false}
 use Rattle.loaded_table.specs.Loaded.{heightsOf, fillOf, tableBy}
-use Rattle.model.specs.Definitions.Commands.{needed, optional}
-use Rattle.model.specs.Definitions.Table.{Kind, text, empty, sequence, choice, list, Table, kindOf}
+use Rattle.model.specs.Definitions.Table.{Table, kindOf}
 use Rattle.model.specs.Definitions.Heights.{heightIn, heights, heightOf}
 use Rattle.model.specs.Definitions.Filler.{lengthOf, fillMembers, fillers, fillerLength}
 use Rattle.model.specs.Theorems.Facts.{SoundTable}
 use Rattle.model.specs.Theorems.HeightLaws.{finite-height, kind-positive}
 use Rattle.model.specs.Theorems.FillerLaws.{filled, fill-filled, filled-members, filled-lower, filler-induction, fill-step}
+use Rattle.model.specs.Theorems.GrownTables.{filled-same}
 use Rattle.table_heights.specs.Sections.{Elsewhere, section-elsewhere, table-elsewhere}
-use Rattle.table_heights.specs.Heights.{HoldsHeights, least-same}
+use Rattle.table_heights.specs.Heights.{HoldsHeights}
 use Rattle.table_fill.specs.Fill.{HoldsFill, FillTo, fillSum, nextFill, HoldsFillRound}
 
--- filler has the same members by an array that holds the heights
-filled-same : (T : Table) (hs : List ℕ) → HoldsHeights T hs → (κ : Kind) → filled hs κ ≡ filled (heights T) κ
-unfolding filled heightIn
-filled-same T hs held text = refl
-filled-same T hs held empty = refl
-filled-same T hs held (sequence ms) = refl
-filled-same T hs held (choice needed ms) = ap (λ (m : ℕ). m ∷ []) (least-same hs (heights T) ms (λ m here. held .height-at m))
-filled-same T hs held (choice optional ms) = refl
-filled-same T hs held (list m) = refl
-
--- so the next lengths by a loaded table whose filler lengths alone may have changed are those by the heights
+-- the next lengths by a loaded table whose filler lengths alone may have changed are those by the heights
 pub next-is : {rows after : List ℕ} {v : ℕ} (t : ℕ) → HoldsHeights (tableBy rows) (heightsOf rows) → Elsewhere 192 64 rows after → v ≡ nextFill (tableBy after) (heightsOf after) (fillOf after) t
     → v ≡ nextFill (tableBy rows) (heights (tableBy rows)) (fillOf after) t
 next-is {rows} {after} t held kept e =
     e
     ∙ ap₂ (λ T hs. nextFill T hs (fillOf after) t) (table-elsewhere (omega arith) (omega arith) kept) (section-elsewhere 128 64 (inl (omega arith)) kept)
-    ∙ ap (λ (ms : List ℕ). min 60001 (3 + fillSum (fillOf after) ms)) (filled-same (tableBy rows) (heightsOf rows) held (kindOf (tableBy rows) t))
+    ∙ ap (λ (ms : List ℕ). min 60001 (3 + fillSum (fillOf after) ms)) (filled-same (heightsOf rows) (heights (tableBy rows)) (kindOf (tableBy rows) t) (λ m here. unfold heightIn in held .height-at m))
 
 -- a type's length in an array is right
 abbrev Right : Table → List ℕ → ℕ → Type 0
@@ -52,7 +42,7 @@ module _ (T : Table) (sound : SoundTable T) where
   members-held fill (m ∷ ms) each = omega (arith, each m (List·Memᴰ·head refl), members-held fill ms (λ n here. each n (List·Memᴰ·tail here)))
 
   -- so a type's next length is right where those of the members of its filler are
-  next-right : (fill : List ℕ) (t : ℕ) → t < length T → ((m : ℕ) → List·Memᴰ m (filled (heights T) (kindOf T t)) → Right T fill m)
+  pub next-right : (fill : List ℕ) (t : ℕ) → t < length T → ((m : ℕ) → List·Memᴰ m (filled (heights T) (kindOf T t)) → Right T fill m)
       → nextFill T (heights T) fill t ≡ min 60001 (fillerLength T t)
   unfolding fillerLength
   next-right fill t exists each =

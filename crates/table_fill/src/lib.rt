@@ -67,7 +67,7 @@ fn fill_sum(table: &[u16; TABLE], t: usize) -> u16
 }
 
 // The filler length of type t from those of its members, held at 60,001.
-fn fill_of(table: &[u16; TABLE], t: usize) -> u16
+pub fn fill_of(table: &[u16; TABLE], t: usize) -> u16
     requires { ⌜ Bounded (now table) × (t < typesIn (now table)) ⌝ }
     ensures { λ r. ⌜ r ≡ nextFill (tableBy (now (table .entry))) (heightsOf (now (table .entry))) (fillOf (now (table .entry))) t ⌝ }
 {

@@ -1,15 +1,14 @@
 -- What the contracts of this crate say: arrays that hold a table's heights, and the sets of bits.
-use mathlib.Core.Path.{_≡_, refl}
+use mathlib.Core.Path.{_≡_}
 use mathlib.Core.Bool.{Bool, true, false}
-use mathlib.Core.List.{List, [], _∷_, map, List·Memᴰ, List·Memᴰ·head, List·Memᴰ·tail}
-use Prim.Native.Nat.{ℕ, zero, suc, _+_, _*_, min}
-use native.Mathlib.Omega.{arith}
+use mathlib.Core.List.{List, [], _∷_, map}
+use Prim.Native.Nat.{ℕ, zero, suc, _+_, _*_, _≤_, min}
 use lib.ListN.{length, getD, set}
-use lib.Dec.{leb}
+use lib.Dec.{leb, ltb}
 use Rattle.loaded_table.specs.Loaded.{heightsOf, tableBy}
+use Rattle.model.specs.Definitions.Basics.{pick}
 use Rattle.model.specs.Definitions.Table.{Table, kindOf}
-use Rattle.model.specs.Definitions.Heights.{heightIn, heightOfKind, heights, leastMember}
-use Rattle.model.specs.Theorems.HeightLaws.{least-member}
+use Rattle.model.specs.Definitions.Heights.{heightIn, heightOfKind, heights}
 use Rattle.table_heights.specs.Sections.{Elsewhere}
 
 -- ---- heights
@@ -21,6 +20,16 @@ pub record HoldsHeights (T : Table) (hs : List ℕ) : Type 0 where
 -- the next height of a type, held at one more than the number of types
 abbrev pub nextHeight : Table → List ℕ → ℕ → ℕ
 nextHeight T hs t = min (length T + 1) (heightOfKind hs (kindOf T t))
+
+-- numbers that are nowhere below a table's heights, held as these are, and 0 from the number of types on
+pub record NowhereBelow (T : Table) (hs : List ℕ) : Type 0 where
+  pub at-least : (t : ℕ) → heightIn (heights T) t ≤ getD hs t 0
+  pub held : (t : ℕ) → getD hs t 0 ≤ length T + 1
+  pub none-beyond : (t : ℕ) → length T ≤ t → getD hs t 0 ≡ 0
+
+-- the number with which rounds begin for a type of so many
+unfoldable pub firstHeight : ℕ → ℕ → ℕ
+firstHeight all t = pick (ltb t all) (all + 1) 0
 
 -- the heights after those of the types below a number are found anew, from the last to the first
 unfoldable pub raised : Table → ℕ → List ℕ → List ℕ
@@ -36,17 +45,6 @@ pub record HoldsRound (T : Table) (before hs : List ℕ) (changed : Bool) : Type
 pub record HeightsFound (rows after : List ℕ) : Type 0 where
   pub elsewhere : Elsewhere 128 64 rows after
   pub found : HoldsHeights (tableBy rows) (heightsOf after)
-
--- the least member depends only on the members' heights
-pub least-same : (hs gs ms : List ℕ) → ((m : ℕ) → List·Memᴰ m ms → heightIn hs m ≡ heightIn gs m) → leastMember hs ms ≡ leastMember gs ms
-unfolding leastMember
-least-same hs gs [] same = refl
-least-same hs gs (m ∷ []) same = refl
-least-same hs gs (m ∷ n ∷ ms) same =
-    let later : leastMember hs (n ∷ ms) ≡ leastMember gs (n ∷ ms) = least-same hs gs (n ∷ ms) (λ p here. same p (List·Memᴰ·tail here)) in
-    let chosen : heightIn hs (leastMember gs (n ∷ ms)) ≡ heightIn gs (leastMember gs (n ∷ ms)) =
-    same (leastMember gs (n ∷ ms)) (List·Memᴰ·tail (least-member gs (n ∷ ms) (omega arith))) in
-    rw (later, chosen, same m (List·Memᴰ·head refl))
 
 -- ---- sets of types as bits
 

@@ -2,12 +2,12 @@
 use mathlib.Core.Path.{_≡_, refl, sym, ap, _∙_, subst}
 use mathlib.Core.List.{List}
 use mathlib.Core.Logic.{_⊎_, inl, inr, ⊎-elim}
-use Prim.Native.Nat.{ℕ, _+_, _-_, _*_, _≤_, _<_, min}
+use Prim.Native.Nat.{ℕ, _+_, _*_, _≤_, _<_}
 use native.Mathlib.Omega.{arith}
-use lib.ListN.{length, drop, getD, set, length-set, length-take, length-drop}
-use lib.Seq.{ext-getD, getD-set-other}
+use lib.ListN.{length, drop, getD, set, length-set}
+use lib.Seq.{getD-set-other}
 use Rattle.loaded_table.specs.Kinds.{each-code}
-use Rattle.loaded_table.specs.Loaded.{kindFrom, typesIn, section, kindsOf, countsOf, membersIn, tableBy, Bounded, in-section, section-long, kind-of}
+use Rattle.loaded_table.specs.Loaded.{kindFrom, typesIn, section, kindsOf, countsOf, membersIn, tableBy, Bounded, in-section, section-same, section-long, kind-of}
 use Rattle.model.specs.Definitions.Commands.{needed, optional}
 use Rattle.model.specs.Definitions.Table.{Kind, text, empty, sequence, choice, list, kindOf}
 
@@ -75,12 +75,7 @@ elsewhere-set {from} {many} {rows} {mid} {after} i v within e h =
 -- another section is the same
 pub section-elsewhere : {from many : ℕ} {rows after : List ℕ} (other n : ℕ) → (other + n ≤ from) ⊎ (from + many ≤ other) → Elsewhere from many rows after → section other n after ≡ section other n rows
 section-elsewhere {from} {many} {rows} {after} other n out h =
-    let long : (l : List ℕ) → length (section other n l) ≡ min n (length l - other) = λ l. length-take n (drop other l) ∙ ap (min n) (length-drop other l) in
-    let size = h .same-size in
-    ext-getD 0 (section other n after) (section other n rows) (long after ∙ ap (λ (k : ℕ). min n (k - other)) size ∙ sym (long rows))
-    (λ k here.
-    let low : k < n = omega (arith, long after) in
-    in-section other n after k low ∙ h .same-at (other + k) (⊎-elim (λ before. inl (omega arith)) (λ behind. inr (omega arith)) out) ∙ sym (in-section other n rows k low))
+    section-same other n rows after (h .same-size) (λ k low. h .same-at (other + k) (⊎-elim (λ before. inl (omega arith)) (λ behind. inr (omega arith)) out))
 
 -- where heights and filler lengths alone may differ, the table is the same
 module _ {from many : ℕ} {rows after : List ℕ} (low : 128 ≤ from) (high : from + many ≤ 256) (h : Elsewhere from many rows after) where

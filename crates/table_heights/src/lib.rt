@@ -19,7 +19,7 @@ ghost use Rattle.loaded_table.specs.Loaded.{typesIn, heightsOf, tableBy, Bounde
 ghost use Rattle.model.specs.Definitions.Table.{kindOf};
 ghost use Rattle.model.specs.Definitions.Heights as model;
 ghost use Rattle.table_heights.specs.Sections.{membersAt, Elsewhere};
-ghost use Rattle.table_heights.specs.Heights.{HoldsHeights, HoldsRound, HeightsFound, word, finiteBits};
+ghost use Rattle.table_heights.specs.Heights.{HoldsHeights, HoldsRound, HeightsFound, NowhereBelow, firstHeight, nextHeight, word, finiteBits};
 ghost use Rattle.model.specs.Definitions.TableChecks.{maxTypes};
 
 // ---- one type
@@ -105,14 +105,32 @@ fn held_height(all: usize, h: usize) -> usize
     if h <= all { h } else { all + 1 }
 }
 
-// Stores the height 0 for all types. The loop has stored it for the types below t.
-fn clear_heights(table: &mut [u16; TABLE])
-    requires { ⌜ Bounded (now table) ⌝ }
-    ensures { λ r. ⌜ Elsewhere heightsStart maxTypes (now (table .entry)) (now (table .exit)) × ((t : ℕ) → t < maxTypes → getD (heightsOf (now (table .exit))) t 0 ≡ 0) ⌝ }
+// The number with which rounds begin for type t of so many.
+fn first_height(all: usize, t: usize) -> u16
+    requires { ⌜ all ≤ maxTypes ⌝ }
+    ensures { λ r. ⌜ r ≡ firstHeight all t ⌝ }
 {
+    if all <= t { 0 } else { all as u16 + 1 }
+}
+
+// The next height of type t by the heights kept, held at one more than the number of types.
+pub fn next_height(table: &[u16; TABLE], t: usize) -> usize
+    requires { ⌜ Bounded (now table) × (t < typesIn (now table)) ⌝ }
+    ensures { λ r. ⌜ r ≡ nextHeight (tableBy (now (table .entry))) (heightsOf (now (table .entry))) t ⌝ }
+{
+    held_height(types(table), height_of(table, t))
+}
+
+// Where rounds begin: for each type one more than the number of types, behind them 0. The loop has stored it for the types
+// below t.
+fn begin_heights(table: &mut [u16; TABLE])
+    requires { ⌜ Bounded (now table) ⌝ }
+    ensures { λ r. ⌜ Elsewhere heightsStart maxTypes (now (table .entry)) (now (table .exit)) × ((t : ℕ) → t < maxTypes → getD (heightsOf (now (table .exit))) t 0 ≡ firstHeight (typesIn (now (table .entry))) t) ⌝ }
+{
+    let all = types(table);
     let mut t = 0;
     while t < MAX_TYPES {
-        set_height(table, t, 0);
+        set_height(table, t, first_height(all, t));
         t += 1;
     }
 }
@@ -128,7 +146,7 @@ fn height_round(table: &mut [u16; TABLE]) -> bool
     let mut t = all;
     while 0 < t {
         t -= 1;
-        let h = held_height(all, height_of(table, t));
+        let h = next_height(table, t);
         if height(table, t) != h {
             set_height(table, t, h as u16);
             changed = true;
@@ -137,22 +155,30 @@ fn height_round(table: &mut [u16; TABLE]) -> bool
     changed
 }
 
-// The heights of all types of a table, by rounds until one changes nothing. After n rounds they are at least the heights
-// held at n.
+// The heights of all types, from numbers that are nowhere below them, by rounds until one changes nothing. After n rounds
+// those of height at most n are right.
+pub fn settle_heights(table: &mut [u16; TABLE])
+    requires { ⌜ Bounded (now table) × NowhereBelow (tableBy (now table)) (heightsOf (now table)) ⌝ }
+    ensures { λ r. ⌜ HeightsFound (now (table .entry)) (now (table .exit)) ⌝ }
+{
+    let all = types(table);
+    let mut n = 0;
+    while n < all {
+        if height_round(table) {
+            n += 1;
+        } else {
+            n = all;
+        }
+    }
+}
+
+// The heights of all types of a table.
 pub fn find_heights(table: &mut [u16; TABLE])
     requires { ⌜ Bounded (now table) ⌝ }
     ensures { λ r. ⌜ HeightsFound (now (table .entry)) (now (table .exit)) ⌝ }
 {
-    clear_heights(table);
-    let all = types(table);
-    let mut n = 0;
-    while n <= all {
-        if height_round(table) {
-            n += 1;
-        } else {
-            n = all + 1;
-        }
-    }
+    begin_heights(table);
+    settle_heights(table);
 }
 
 // ---- types without a finite instance

@@ -24,7 +24,7 @@ use Rattle.model.specs.Definitions.Heights.{heightOf, endlessType}
 use Rattle.model.specs.Definitions.TableChecks.{tableForm, tableLimits, tableOperands, tableRepeats}
 use Rattle.model.specs.Definitions.Refusals as refusals
 use Rattle.model.specs.Definitions.Refusals.{sound, has, faultAt, faultUnless, fits}
-use Rattle.model.specs.Definitions.Entries.{judgedTable}
+use Rattle.model.specs.Definitions.Entries.{checkedTable, judgedTable}
 use Rattle.model.specs.Theorems.Facts.{SoundTable}
 use Rattle.model.specs.Theorems.JudgedTables.{table-sound}
 
@@ -95,7 +95,7 @@ module _ (bs rows : List ℕ) (loaded : TableLoaded bs rows) where
         heights-kept = section-elsewhere 128 64 (inl (omega arith)) (fill .elsewhere)
 
         kept : SoundTable (tableOf bs) → Kept after (loaded_table.tableBy mid)
-        kept whole = record { height-at = λ t exists. rw heights-kept (ready .1 .height-at t); fill-at = fill .found (subst SoundTable (sym same) whole) .fill-at }
+        kept whole = record { height-at = λ t. rw heights-kept (ready .1 .height-at t); fill-at = fill .found (subst SoundTable (sym same) whole) .fill-at }
 
 -- ---- all checks
 
@@ -107,11 +107,11 @@ module _ (bs rows : List ℕ) where
   length-refused long = judging bs Fault.TooLong rows (unfold judgedTable faultUnless fits in rw (lt-leb (length bs) 60000 long))
 
   pub form-refused : (at : ℕ) → length bs ≤ 60000 → tableForm bs ≡ fails at → TableJudged bs (Judged.Has (Fault.BadForm at)) rows
-  form-refused at short e = judging bs (Fault.BadForm at) rows (unfold judgedTable faultUnless faultAt fits in rw (le-leb (length bs) 60000 short, e))
+  form-refused at short e = judging bs (Fault.BadForm at) rows (unfold judgedTable checkedTable faultUnless faultAt fits in rw (le-leb (length bs) 60000 short, e))
 
   pub limit-refused : (at : ℕ) → length bs ≤ 60000 → tableForm bs ≡ passes → tableLimits bs ≡ fails at → TableJudged bs (Judged.Has (Fault.OverLimit at)) rows
   limit-refused at short f e =
-      judging bs (Fault.OverLimit at) rows (unfold judgedTable faultUnless faultAt fits in rw (le-leb (length bs) 60000 short, f, e))
+      judging bs (Fault.OverLimit at) rows (unfold judgedTable checkedTable faultUnless faultAt fits in rw (le-leb (length bs) 60000 short, f, e))
 
 -- after the first three checks the others decide
 pub later-decides : (bs : List ℕ) (r : Judged) (rows : List ℕ) → length bs ≤ 60000 → tableForm bs ≡ passes → tableLimits bs ≡ passes → AfterLimits bs r rows → TableJudged bs r rows
@@ -119,4 +119,4 @@ later-decides bs r rows short f l h =
     record { judgement = h .judgement ∙ sym same; loaded = λ accepted. h .loaded (sym same ∙ accepted) (table-sound bs accepted) }
   where
     same : judgedTable bs ≡ laterChecks bs
-    same = unfold judgedTable laterChecks faultUnless faultAt fits in rw (le-leb (length bs) 60000 short, f, l)
+    same = unfold judgedTable checkedTable laterChecks faultUnless faultAt fits in rw (le-leb (length bs) 60000 short, f, l)

@@ -47,7 +47,7 @@ fn begin(table: &mut [u16; TABLE], types: usize, kind: usize) -> usize
 }
 
 // One member more of type t.
-fn join(table: &mut [u16; TABLE], t: usize, member: u8)
+pub fn join(table: &mut [u16; TABLE], t: usize, member: u8)
     requires { ⌜ (t < maxTypes) × (getD (countsOf (now table)) t 0 < maxMembers) ⌝ }
     ensures { λ r. ⌜ now (table .exit) ≡ set (set (now (table .entry)) (membersStart + memberPlace t (getD (countsOf (now (table .entry))) t 0)) member) (countsStart + t) (getD (countsOf (now (table .entry))) t 0 + 1) ⌝ }
 {

@@ -20,16 +20,21 @@ use Rattle.model.specs.Definitions.Refusals.{too-long, bad-form, over-li
 
 -- ---- each document by all its checks, in order
 
--- a table: 1 to 6
-unfoldable pub judgedTable : List ℕ → Judged
-judgedTable bs =
-    faultUnless too-long (fits bs) λ u.
+-- a table of any length: 2 to 6
+unfoldable pub checkedTable : List ℕ → Judged
+checkedTable bs =
     faultAt bad-form (tableForm bs) λ u.
     faultAt over-limit (tableLimits bs) λ u.
     faultAt bad-operand (tableOperands (length (tableOf bs)) bs) λ u.
     faultAt repeated-member (tableRepeats bs) λ u.
     faultAt no-finite-instance (endlessType (tableOf bs)) λ u.
     sound
+
+-- a table: 1 to 6
+unfoldable pub judgedTable : List ℕ → Judged
+judgedTable bs =
+    faultUnless too-long (fits bs) λ u.
+    checkedTable bs
 
 -- an embedding between accepted tables: 1 to 4, 7 to 10
 unfoldable pub judgedEmbedding : Table → Table → List ℕ → Judged

@@ -1,4 +1,5 @@
--- 01 "One patch, whole", of the program `carry`, with 02, N2: the line that a program prints for an answer.
+-- 01 "One patch, whole", of the program `carry`, with 02, N2: the lines that a program prints, for an answer and, of `extend` (02, N8),
+-- for a type.
 use mathlib.Core.Path.{_≡_}
 use mathlib.Core.List.{List, [], _∷_, _++_}
 use Prim.Native.Nat.{ℕ}
@@ -38,3 +39,14 @@ CarryLine a bs = AnswerLine carriedWord (a .value ∷ a .filler ∷ []) a bs
 -- `bring`, the program beside it: length of the source document
 abbrev pub BringLine : Answer → List ℕ → Type 0
 BringLine a bs = AnswerLine broughtWord (a .value ∷ []) a bs
+
+-- `extend` (02, N8), for an operation: the number of types
+abbrev pub typesWord : List ℕ
+typesWord = 0x74 ∷ 0x79 ∷ 0x70 ∷ 0x65 ∷ 0x73 ∷ []
+
+abbrev pub OperationLine : Answer → List ℕ → Type 0
+OperationLine a bs = AnswerLine typesWord (a .value ∷ []) a bs
+
+-- and for a type: its height, and the kept length of its filler
+abbrev pub KeptLine : ℕ → ℕ → List ℕ → Type 0
+KeptLine height fill bs = (text : List ℕ) × DecimalText height text × Line text (fill ∷ []) bs

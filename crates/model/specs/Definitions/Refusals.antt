@@ -1,4 +1,4 @@
--- 01 "Refusal answers": each refusal by a name, and for each its number, document and mark.
+-- 01 "Refusal answers", and of 02, N8 refusal 19: each refusal by a name, and for each its number, document and mark.
 use mathlib.Core.Bool.{Bool, true, false}
 use mathlib.Core.List.{List}
 use Prim.Native.Nat.{ℕ}
@@ -20,9 +20,9 @@ pub data Fault : Type 0 where
   path-clash : ℕ → Fault
   unexpected : ℕ → Fault
 
--- documents 1 to 5
+-- documents 1 to 5; 11 is the document of operations on a table, whose form is the program's own (02, N8)
 pub data Document : Type 0 where
-  source-table target-table embedding tree output : Document
+  source-table target-table embedding tree output operations : Document
 
 -- why an entry refuses
 pub data Refusal : Type 0 where
@@ -31,6 +31,7 @@ pub data Refusal : Type 0 where
   image-too-deep : Refusal
   image-too-long : Refusal
   output-too-short : Refusal
+  no-choice : Refusal
 
 unfoldable pub faultNumber : Fault → ℕ
 faultNumber too-long = 1
@@ -64,6 +65,7 @@ documentNumber target-table = 2
 documentNumber embedding = 3
 documentNumber tree = 4
 documentNumber output = 5
+documentNumber operations = 11
 
 -- 01's answer of refusal: a number, a document and a mark
 pub record Numbers : Type 0 where
@@ -77,6 +79,7 @@ numbersOf no-image = record { number = 15; document = documentNumber tree; mark 
 numbersOf image-too-deep = record { number = 12; document = documentNumber output; mark = 0 }
 numbersOf image-too-long = record { number = 13; document = documentNumber output; mark = 0 }
 numbersOf output-too-short = record { number = 14; document = documentNumber output; mark = 0 }
+numbersOf no-choice = record { number = 19; document = documentNumber source-table; mark = 0 }
 
 -- ---- judging by checks in order
 

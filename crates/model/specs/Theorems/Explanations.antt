@@ -17,7 +17,7 @@ use Rattle.model.specs.Definitions.EmbeddingChecks.{Reason, clashReason,
 use Rattle.model.specs.Definitions.ValidEmbedding.{NoClash}
 use Rattle.model.specs.Definitions.Marks.{Earlier, ClashesWithNone, FirstWrong}
 use Rattle.model.specs.Definitions.Refusals.{Fault, too-long, bad-form, over-limit, bad-operand, repeated-member, no-finite-instance, root-moved, wrong-end, wrong-steps, path-clash, unexpected, faultNumber, Document, source-table, target-table, embedding, faulty, numbersOf, Judged, sound, has, faultAt, faultUnless}
-use Rattle.model.specs.Definitions.Entries.{judgedTable, judgedEmbedding, Result, refused, accepted, answerOf, unlessFaulty, edgeCount, judgeEmbedding}
+use Rattle.model.specs.Definitions.Entries.{checkedTable, judgedTable, judgedEmbedding, Result, refused, accepted, answerOf, unlessFaulty, edgeCount, judgeEmbedding}
 use Rattle.model.specs.Definitions.Explanation.{Clash, clashFor, pairClash, clashBefore, clashOfType, clashOf, Explanation, explained, unexplained, explanation, explain, explanationNumbers, ReasonHolds, SharesSteps, Explains}
 use Rattle.model.specs.Theorems.Facts.{Walks}
 use Rattle.model.specs.Theorems.Tools.{pick-true, pick-false, some-none, entry-at, at-entry, first-there, first-nowhere}
@@ -254,7 +254,7 @@ past-test f other false later {at} e = absurd (other (unfold faultNumber in (let
 
 -- no table is refused for a clash
 table-no-clash : (bs : List ℕ) {at : ℕ} → judgedTable bs ≡ has (path-clash at) → ⊥
-unfolding judgedTable faultNumber
+unfolding judgedTable checkedTable faultNumber
 table-no-clash bs {at} e =
     let r1 = past-test too-long (λ n. omega arith) _ _ e in
     let r2 = past-check bad-form (λ i n. omega arith) _ _ (r1 .1) in

@@ -53,7 +53,7 @@ filled-members hs (choice optional ms) chooses m here = absurd (List·Memᴰ·no
 filled-members hs (list n) chooses m here = absurd (List·Memᴰ·not-nil here)
 
 -- and the kind is one higher than the highest of them
-filled-height : (hs : List ℕ) (κ : Kind) → Chooses κ → heightOfKind hs κ ≡ suc (highest hs (filled hs κ))
+pub filled-height : (hs : List ℕ) (κ : Kind) → Chooses κ → heightOfKind hs κ ≡ suc (highest hs (filled hs κ))
 unfolding filled heightOfKind highest
 filled-height hs text chooses = refl
 filled-height hs empty chooses = refl
@@ -87,7 +87,7 @@ module _ (T : Table) (wf : WellFormed T) where
 -- ---- the equation of filler
 
 -- filler of members depends only on what filler of each of them holds
-fill-same : {A : Type 0} (B : Builder A) (fs gs : List A) (ms : List ℕ)
+pub fill-same : {A : Type 0} (B : Builder A) (fs gs : List A) (ms : List ℕ)
     → ((m : ℕ) → List·Memᴰ m ms → known B fs m ≡ known B gs m) → fillMembers B fs ms ≡ fillMembers B gs ms
 unfolding fillMembers
 fill-same B fs gs [] same = refl

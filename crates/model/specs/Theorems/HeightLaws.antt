@@ -66,7 +66,7 @@ module _ (n : ℕ) (hs later : List ℕ) (held : (t : ℕ) → heightIn hs t ≡
   lowest-held (m ∷ []) = held m
   lowest-held (m ∷ n′ ∷ ms) = ap₂ min (held m) (lowest-held (n′ ∷ ms)) ∙ held-min n (heightIn later m) (lowest later (n′ ∷ ms))
 
-  kind-held : (κ : Kind) → heightOfKind hs κ ≡ min (suc n) (heightOfKind later κ)
+  pub kind-held : (κ : Kind) → heightOfKind hs κ ≡ min (suc n) (heightOfKind later κ)
   unfolding heightOfKind
   kind-held text = omega arith
   kind-held empty = omega arith

@@ -18,7 +18,7 @@ use Rattle.model.specs.Definitions.Heights.{heightIn, heights, heightOf,
 use Rattle.model.specs.Definitions.TableChecks.{TableState, noType, whole, members, tableEnded, begins, joins, finishes, unknown, tableRole, tableMove, tableStep, tableComplete, tableForm, tableLimits, namesType, tableOperands, Chosen, elsewhere, among, chooses, repeatStep, tableRepeats}
 use Rattle.model.specs.Definitions.TreeChecks.{treeForm, treeLevels, treeOperands, treeExpected}
 use Rattle.model.specs.Definitions.Refusals.{Fault, Judged, sound, has, faultAt, faultUnless, fits}
-use Rattle.model.specs.Definitions.Entries.{judgedTable, judgedTree}
+use Rattle.model.specs.Definitions.Entries.{checkedTable, judgedTable, judgedTree}
 use Rattle.model.specs.Theorems.Facts.{WellFormed, SoundTable, All, all-none, all-more}
 use Rattle.model.specs.Theorems.Runs.{goes-stops, passes-fails}
 use Rattle.model.specs.Theorems.Tools.{true-false, some-none}
@@ -95,10 +95,10 @@ abbrev pub Enough : Kind → Type 0
 Enough κ = leastMembers κ ≤ length (membersOf κ)
 
 -- what the rest of a table of the right form has, from a state of its machine on
-record Formed (s : TableState) (r : TableTail) : Type 0 where
+pub record Formed (s : TableState) (r : TableTail) : Type 0 where
   enough-members : neededMembers s ≤ length (r .members)
-  enough-types : neededTypes s ≤ length (r .kinds)
-  all-enough : All Enough (r .kinds)
+  pub enough-types : neededTypes s ≤ length (r .kinds)
+  pub all-enough : All Enough (r .kinds)
 
 -- what each kind of move needs of the state before it
 pub move-begins : (s first : TableState) {then : TableState} → tableMove s (begins first) ≡ goes then → (first ≡ then) × (neededMembers s ≡ 0)
@@ -172,13 +172,13 @@ formed-end (members k) e = true-false e refl
 formed-end tableEnded e = record { enough-members = omega arith; enough-types = omega arith; all-enough = all-none }
 
 -- a table of the right form has a type, and each of its kinds has enough members
-form-holds : (bs : List ℕ) → tableForm bs ≡ passes → Formed noType (tableTail (tableCommands bs))
+pub form-holds : (bs : List ℕ) → tableForm bs ≡ passes → Formed noType (tableTail (tableCommands bs))
 unfolding tableForm tableTail
 form-holds bs e =
     run-holds tableWidth tableStep tableComplete (λ s cs. Formed s (tableTail cs)) formed-end
     (λ s then c cs. formed-step s then c (tableTail cs)) noType 0 (tableCommands bs) e
 
-pub enough-members-at : (bs : List ℕ) → tableForm bs ≡ passes → (t : ℕ) → Enough (kindOf (tableOf bs) t)
+enough-members-at : (bs : List ℕ) → tableForm bs ≡ passes → (t : ℕ) → Enough (kindOf (tableOf bs) t)
 unfolding kindOf tableOf membersOf
 enough-members-at bs e t = all-at {P = Enough} empty (omega arith) (form-holds bs e .all-enough) t
 
@@ -191,15 +191,15 @@ enough-choose optional ms enough = enough
 -- ---- check 4, operands
 
 -- every type in a list is one of so many
-abbrev Known : ℕ → List ℕ → Type 0
+abbrev pub Known : ℕ → List ℕ → Type 0
 Known types ms = (m : ℕ) → List·Memᴰ m ms → m < types
 
 -- the rest of a table names known types only
-record Names (types : ℕ) (r : TableTail) : Type 0 where
+pub record Names (types : ℕ) (r : TableTail) : Type 0 where
   members-known : Known types (r .members)
-  all-known : All (λ κ. Known types (membersOf κ)) (r .kinds)
+  pub all-known : All (λ κ. Known types (membersOf κ)) (r .kinds)
 
-none-known : (types : ℕ) → Known types []
+pub none-known : (types : ℕ) → Known types []
 none-known types m i = absurd (List·Memᴰ·not-nil i)
 
 more-known : (types t : ℕ) (ms : List ℕ) → t < types → Known types ms → Known types (t ∷ ms)
@@ -224,7 +224,7 @@ names-step types u then (member t) r e h =
 names-step types u then tableEnd r e h = h
 names-step types u then alien r e h = h
 
-operands-hold : (types : ℕ) (bs : List ℕ) → tableOperands types bs ≡ passes → Names types (tableTail (tableCommands bs))
+pub operands-hold : (types : ℕ) (bs : List ℕ) → tableOperands types bs ≡ passes → Names types (tableTail (tableCommands bs))
 unfolding tableOperands tableTail
 operands-hold types bs e =
     run-holds tableWidth (namesType types) (λ u. true) (λ u cs. Names types (tableTail cs))
@@ -234,7 +234,7 @@ operands-hold types bs e =
 -- ---- check 5, repeated members
 
 -- no entry of a list is one before it, nor one of some earlier numbers
-data Unrepeated : List ℕ → List ℕ → Type 0 where
+pub data Unrepeated : List ℕ → List ℕ → Type 0 where
   no-more : {earlier : List ℕ} → Unrepeated earlier []
   one-more : {earlier : List ℕ} {m : ℕ} {ms : List ℕ} → memberOf m earlier ≡ false → Unrepeated (m ∷ earlier) ms → Unrepeated earlier (m ∷ ms)
 
@@ -243,7 +243,7 @@ FreshFrom elsewhere ms = Unit {0}
 FreshFrom (among earlier) ms = Unrepeated earlier ms
 
 -- what holds of the members of a kind that is a choice
-abbrev IfChoice : (List ℕ → Type 0) → Kind → Type 0
+abbrev pub IfChoice : (List ℕ → Type 0) → Kind → Type 0
 IfChoice P text = Unit {0}
 IfChoice P empty = Unit {0}
 IfChoice P (sequence ms) = Unit {0}
@@ -251,9 +251,9 @@ IfChoice P (choice need ms) = P ms
 IfChoice P (list m) = Unit {0}
 
 -- the rest of a table repeats no member of a choice
-record Fresh (s : Chosen) (r : TableTail) : Type 0 where
+pub record Fresh (s : Chosen) (r : TableTail) : Type 0 where
   members-fresh : FreshFrom s (r .members)
-  all-fresh : All (IfChoice (Unrepeated [])) (r .kinds)
+  pub all-fresh : All (IfChoice (Unrepeated [])) (r .kinds)
 
 none-fresh : (s : Chosen) → FreshFrom s []
 none-fresh elsewhere = tt
@@ -281,7 +281,7 @@ fresh-step s then (member t) r e h =
 fresh-step s then tableEnd r e h = let same : then ≡ s = cc in rw same at h
 fresh-step s then alien r e h = let same : then ≡ s = cc in rw same at h
 
-repeats-hold : (bs : List ℕ) → tableRepeats bs ≡ passes → Fresh elsewhere (tableTail (tableCommands bs))
+pub repeats-hold : (bs : List ℕ) → tableRepeats bs ≡ passes → Fresh elsewhere (tableTail (tableCommands bs))
 unfolding tableRepeats tableTail
 repeats-hold bs e =
     run-holds tableWidth repeatStep (λ s. true) (λ s cs. Fresh s (tableTail cs))
@@ -310,7 +310,7 @@ first-once {earlier = earlier} {n = n} u q m same e =
     true-false (eq-eqb m n (sym same)) (neither (eqb m n) (memberOf m earlier) (entry-fresh u q m e) .0)
 
 -- a type stands at one position of an unrepeated list only
-entry-once : {earlier ms : List ℕ} → Unrepeated earlier ms → (p q m : ℕ) → entry p ms ≡ some m → entry q ms ≡ some m → p ≡ q
+pub entry-once : {earlier ms : List ℕ} → Unrepeated earlier ms → (p q m : ℕ) → entry p ms ≡ some m → entry q ms ≡ some m → p ≡ q
 unfolding entry
 entry-once no-more zero q m e f = some-none e refl
 entry-once no-more (suc p) q m e f = some-none e refl
@@ -325,7 +325,7 @@ entry-once (one-more new later) (suc (suc p)) (suc (suc q)) m e f = ap suc (entr
 -- ---- checks 2, 4 and 5 together
 
 -- a fact about the choices of a table, at a type that is a choice
-choice-at : {P : List ℕ → Type 0} {S : Table} → All (IfChoice P) S → (t : ℕ) (need : Need) (ms : List ℕ) → kindOf S t ≡ choice need ms → P ms
+pub choice-at : {P : List ℕ → Type 0} {S : Table} → All (IfChoice P) S → (t : ℕ) (need : Need) (ms : List ℕ) → kindOf S t ≡ choice need ms → P ms
 unfolding kindOf
 choice-at {P} all t need ms e = let holds = all-at empty tt all t in rw e at holds
 
@@ -389,7 +389,7 @@ pub record PassedTable (bs : List ℕ) : Type 0 where
   pub instances : endlessType (tableOf bs) ≡ passes
 
 pub table-checks : (bs : List ℕ) → judgedTable bs ≡ sound → PassedTable bs
-unfolding judgedTable
+unfolding judgedTable checkedTable
 table-checks bs e =
     let r1 = no-fault-unless _ _ _ e in
     let r2 = no-fault-at _ _ _ (r1 .1) in
@@ -401,7 +401,7 @@ table-checks bs e =
 
 -- a table that passes the checks is accepted
 pub table-accepted : {bs : List ℕ} → PassedTable bs → judgedTable bs ≡ sound
-unfolding judgedTable faultUnless faultAt
+unfolding judgedTable checkedTable faultUnless faultAt
 table-accepted a = rw (a .short, a .form, a .limits, a .operands, a .repeats, a .instances)
 
 -- an accepted table is sound

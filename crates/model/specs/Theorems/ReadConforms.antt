@@ -27,7 +27,7 @@ use Rattle.model.specs.Theorems.ImageConforms.{is-text, text-anywhere, l
 -- ---- one path
 
 -- something handed on was there
-and-then : {A B : Type 0} (o : Option A) (f : A → Option B) {b : B} → andThen o f ≡ some b → (a : A) × (o ≡ some a) × (f a ≡ some b)
+pub and-then : {A B : Type 0} (o : Option A) (f : A → Option B) {b : B} → andThen o f ≡ some b → (a : A) × (o ≡ some a) × (f a ≡ some b)
 unfolding andThen
 and-then none f e = some-none e refl
 and-then (some a) f e = (a, refl, e)

@@ -139,7 +139,7 @@ module _ (T : Table) (sound : SoundTable T) (t : ℕ) (exists : t < length T) wh
 
 -- ---- which symbols rows have
 
-all-append : {A : Type 0} {P : A → Type 0} {xs ys : List A} → All P xs → All P ys → All P (xs ++ ys)
+pub all-append : {A : Type 0} {P : A → Type 0} {xs ys : List A} → All P xs → All P ys → All P (xs ++ ys)
 all-append all-none q = q
 all-append (all-more h p) q = all-more h (all-append p q)
 

@@ -1,8 +1,10 @@
 -- Valid tables and their bytes: a byte string is accepted as a table exactly where it is `tableBytes` of a valid table, and that
--- table is the one it is read to.
+-- table is the one it is read to. Each of checks 2 to 5 is said exactly, by its own part of what is valid, of a table's bytes, and
+-- checks 4 and 5 also of one type's.
 use mathlib.Core.Path.{_≡_, refl, sym, ap, _∙_}
 use mathlib.Core.Bool.{Bool, true, false, _||_}
-use mathlib.Core.List.{List, [], _∷_, _++_, List·Memᴰ, List·Memᴰ·head, List·Memᴰ·tail}
+use mathlib.Core.List.{List, [], _∷_, _++_, append-nil, List·Memᴰ·head, List·Memᴰ·tail, List·Memᴰ·eq-of-singleton}
+use mathlib.Core.Logic.{_↔_}
 use mathlib.Core.Option.{some}
 use Prim.Native.Nat.{ℕ, zero, suc, _+_, _*_, _≤_, _<_}
 use native.Mathlib.Omega.{arith}
@@ -10,7 +12,7 @@ use lib.ListN.{length, getD, length-append}
 use lib.Dec.{eqb, leb}
 use borrow.Author.Tests.{ltb-true, lt-ltb, le-leb, eqb-true}
 use Rattle.model.specs.Definitions.Basics.{passes, Next, goes, stops, goesIf, run, pick, memberOf, entry, followed, reach}
-use Rattle.model.specs.Definitions.Commands.{Need, needed, optional, TableCommand, textType, emptyType, sequenceType, choiceType, listType, member, tableEnd, alien, tableCommands, tableWidth}
+use Rattle.model.specs.Definitions.Commands.{needed, optional, TableCommand, textType, emptyType, sequenceType, choiceType, listType, member, tableEnd, alien, tableCommands, tableWidth}
 use Rattle.model.specs.Definitions.Table.{Kind, text, empty, sequence, choice, list, Table, kindOf, membersOf, TableTail, withCommand, tableTail, tableOf}
 use Rattle.model.specs.Definitions.Heights.{heightIn, heights, heightOf, hasInstance, firstEndless, endlessType}
 use Rattle.model.specs.Definitions.TableChecks.{TableState, noType, whole, members, tableEnded, begins, joins, finishes, tableRole, tableMove, tableStep, tableComplete, tableForm, maxTypes, maxMembers, TableCount, oneTypeMore, limitStep, tableLimits, namesType, tableOperands, Chosen, elsewhere, among, chooses, repeatStep, tableRepeats}
@@ -18,14 +20,14 @@ use Rattle.model.specs.Definitions.Conformance.{Instance}
 use Rattle.model.specs.Definitions.ValidTable.{ValidMembers, Distinct, ValidKind, ValidTable, memberBytes, kindBytes, tableBytes}
 use Rattle.model.specs.Definitions.Refusals.{sound, maxLength, fits}
 use Rattle.model.specs.Definitions.Entries.{judgedTable}
-use Rattle.model.specs.Theorems.Facts.{All, all-none, all-more}
+use Rattle.model.specs.Theorems.Facts.{SoundTable, All, all-none, all-more}
 use Rattle.model.specs.Theorems.Tools.{true-false, some-none}
 use Rattle.model.specs.Theorems.Runs.{goes-stops, run-passes, passes-run}
 use Rattle.model.specs.Theorems.Bytes.{encodeBy, commands-encode, encode-commands}
 use Rattle.model.specs.Theorems.Spellings.{tableSpelled, table-spelling}
 use Rattle.model.specs.Theorems.HeightLaws.{heights-length, instance-finite}
 use Rattle.model.specs.Theorems.FillerLaws.{instance-of}
-use Rattle.model.specs.Theorems.JudgedTables.{goes-if, run-holds, all-at, all-from, leastMembers, move-begins, move-unknown, enough-members-at, table-checks, table-accepted, table-sound}
+use Rattle.model.specs.Theorems.JudgedTables.{goes-if, run-holds, all-at, all-from, leastMembers, Enough, Formed, move-begins, move-unknown, form-holds, Known, none-known, operands-hold, Unrepeated, no-more, one-more, IfChoice, repeats-hold, entry-once, table-checks, table-accepted, table-sound}
 
 -- ---- a table as commands
 
@@ -71,6 +73,10 @@ commands-of-table : (T : Table) → tableCommands (tableBytes T) ≡ tableComman
 unfolding tableCommands
 commands-of-table T = ap tableCommands (sym (encode-table T)) ∙ commands-encode table-spelling (tableCommandsOf T)
 
+commands-of-kind : (κ : Kind) → tableCommands (kindBytes κ) ≡ kindThen κ []
+unfolding tableCommands encodeBy
+commands-of-kind κ = ap tableCommands (sym (encode-kind κ [] ∙ append-nil (kindBytes κ))) ∙ commands-encode table-spelling (kindThen κ [])
+
 -- ---- reading what was written gives the table back
 
 -- commands that say these types, and no member of the type before them
@@ -98,9 +104,17 @@ tail-table [] = refl
 tail-table (κ ∷ T) = tail-kind κ (tableCommandsOf T) (tail-table T)
 
 -- so reading a table's bytes gives the table
+tail-of-bytes : (T : Table) → tableTail (tableCommands (tableBytes T)) ≡ onlyTypes T
+tail-of-bytes T = ap tableTail (commands-of-table T) ∙ tail-table T
+
 pub table-of-bytes : (T : Table) → tableOf (tableBytes T) ≡ T
 unfolding tableOf
-table-of-bytes T = ap (λ (r : TableTail). r .kinds) (ap tableTail (commands-of-table T) ∙ tail-table T)
+table-of-bytes T = ap (λ (r : TableTail). r .kinds) (tail-of-bytes T)
+
+-- and reading one type's own bytes gives that type
+tail-of-kind : (κ : Kind) → tableTail (tableCommands (kindBytes κ)) ≡ onlyTypes (κ ∷ [])
+unfolding tableTail
+tail-of-kind κ = ap tableTail (commands-of-kind κ) ∙ tail-kind κ [] refl
 
 -- ---- bytes of the right form are those of a table
 
@@ -249,40 +263,6 @@ limits-hold bs e =
     (λ n done. record { members-within = λ within. omega arith; types-within = λ within. omega arith; all-within = all-none })
     (λ n then c cs. within-step n then c (tableTail cs)) (counted 0 0) 0 (tableCommands bs) e
 
--- ---- an accepted table is valid
-
--- a kind is valid by its members, where those of a choice are distinct
-kind-valid : {types : ℕ} (κ : Kind) → ValidMembers types (leastMembers κ) (membersOf κ) → ((need : Need) (ms : List ℕ) → κ ≡ choice need ms → Distinct ms)
-    → ValidKind types κ
-unfolding ValidKind membersOf
-kind-valid text v distinct = tt
-kind-valid empty v distinct = tt
-kind-valid (sequence ms) v distinct = v
-kind-valid (choice needed ms) v distinct = (v, distinct needed ms refl)
-kind-valid (choice optional ms) v distinct = (v, distinct optional ms refl)
-kind-valid (list m) v distinct = v .exist m (List·Memᴰ·head refl)
-
--- every check gives a part of what is valid
-pub accepted-table-valid : (bs : List ℕ) → judgedTable bs ≡ sound → ValidTable (tableOf bs)
-unfolding tableOf kindOf membersOf Distinct
-accepted-table-valid bs e =
-    let checks = table-checks bs e in
-    let right = table-sound bs e in
-    let within = limits-hold bs (checks .limits) in
-    record {
-      has-type = right .well-formed .has-root;
-      at-most-64 = omega (arith, within .types-within (omega arith));
-      valid-kinds = λ t exists.
-          kind-valid (kindOf (tableOf bs) t)
-          (record {
-            enough = enough-members-at bs (checks .form) t;
-            at-most-16 = all-at {P = λ κ. length (membersOf κ) ≤ 16} empty (omega arith) (within .all-within) t;
-            exist = right .well-formed .members-exist t;
-          })
-          (right .well-formed .choices-distinct t);
-      instances = instance-of (tableOf bs) right;
-    }
-
 -- ---- members pass the checks
 
 -- a machine takes all of some commands
@@ -306,12 +286,12 @@ limits-members t k [] cs few later = later k
 limits-members t k (m ∷ ms) cs few later = rw (lt-ltb k maxMembers (omega arith)) (limits-members t (suc k) ms cs (omega arith) later)
 
 -- the operands may be types of the table
-names-members : (types : ℕ) (ms : List ℕ) (cs : List TableCommand) → ((m : ℕ) → List·Memᴰ m ms → m < types)
+names-members : (types : ℕ) (ms : List ℕ) (cs : List TableCommand) → Known types ms
     → reach (namesType types) tt (membersThen ms cs) ≡ reach (namesType types) tt cs
 unfolding reach followed namesType goesIf membersThen
-names-members types [] cs exist = refl
-names-members types (m ∷ ms) cs exist =
-    rw (lt-ltb m types (exist m (List·Memᴰ·head refl))) (names-members types ms cs (λ n later. exist n (List·Memᴰ·tail later)))
+names-members types [] cs known = refl
+names-members types (m ∷ ms) cs known =
+    rw (lt-ltb m types (known m (List·Memᴰ·head refl))) (names-members types ms cs (λ n later. known n (List·Memᴰ·tail later)))
 
 -- members may repeat where they are not in a choice
 sequence-members : (ms : List ℕ) (cs : List TableCommand) → reach repeatStep elsewhere (membersThen ms cs) ≡ reach repeatStep elsewhere cs
@@ -342,132 +322,260 @@ distinct-apart earlier m ms d apart (suc p) n e = go (eqb n m) refl
         absurd (omega (arith, d 1 (suc (suc p)) n first e))
     go false q = rw q (apart (suc (suc p)) n e)
 
--- members of a choice may be distinct types, apart from those so far
-choice-members : (earlier ms : List ℕ) (cs : List TableCommand) → Distinct ms → NoneAmong earlier ms
-    → ((s : Chosen) → Taken repeatStep s cs) → Taken repeatStep (among earlier) (membersThen ms cs)
-unfolding reach followed repeatStep chooses goesIf membersThen entry
-choice-members earlier [] cs d apart later = later (among earlier)
-choice-members earlier (m ∷ ms) cs d apart later =
-    rw (apart 1 m refl) (choice-members (m ∷ earlier) ms cs (distinct-later m ms d) (distinct-apart earlier m ms d apart) later)
+-- so distinct types, apart from those so far, repeat none
+distinct-unrepeated : (earlier ms : List ℕ) → Distinct ms → NoneAmong earlier ms → Unrepeated earlier ms
+unfolding entry
+distinct-unrepeated earlier [] d apart = no-more
+distinct-unrepeated earlier (m ∷ ms) d apart =
+    one-more (apart 1 m refl) (distinct-unrepeated (m ∷ earlier) ms (distinct-later m ms d) (distinct-apart earlier m ms d apart))
 
--- ---- the types of a valid table pass the checks
+distinct-once : (ms : List ℕ) → Distinct ms ↔ Unrepeated [] ms
+unfolding Distinct memberOf
+distinct-once ms = (λ d. distinct-unrepeated [] ms d (λ p m e. refl), entry-once)
+
+-- members of a choice may be types that repeat none so far
+choice-members : {earlier ms : List ℕ} (cs : List TableCommand) → Unrepeated earlier ms
+    → ((s : Chosen) → Taken repeatStep s cs) → Taken repeatStep (among earlier) (membersThen ms cs)
+unfolding reach followed repeatStep chooses goesIf membersThen
+choice-members {earlier} cs no-more later = later (among earlier)
+choice-members cs (one-more new rest) later = rw new (choice-members cs rest later)
+
+-- ---- types pass the checks, each by its own part of what is valid
+
+-- at most 16 members
+abbrev pub Short : Kind → Type 0
+Short κ = length (membersOf κ) ≤ 16
+
+-- where it is a choice, no member twice
+abbrev pub ChoosesOnce : Kind → Type 0
+ChoosesOnce = IfChoice (Unrepeated [])
+
+-- the form takes these commands to its end, from either state that is reached behind a type
+abbrev Ends : List TableCommand → Type 0
+Ends cs = (reach tableStep whole cs ≡ goes tableEnded) × (reach tableStep (members 0) cs ≡ goes tableEnded)
+
+-- and with a type before them it does, from a state in which a type may begin
+form-kind : (s : TableState) → ((first : TableState) → tableMove s (begins first) ≡ goes first) → (κ : Kind) → Enough κ → (cs : List TableCommand)
+    → Ends cs → reach tableStep s (kindThen κ cs) ≡ goes tableEnded
+unfolding reach followed tableStep tableRole kindThen membersOf
+form-kind s ready text enough cs later = rw ready (later .0)
+form-kind s ready empty enough cs later = rw ready (later .0)
+form-kind s ready (sequence ms) enough cs later = rw ready (form-members _ ms cs (omega (arith, enough)) ∙ later .1)
+form-kind s ready (choice needed ms) enough cs later = rw ready (form-members _ ms cs (omega (arith, enough)) ∙ later .1)
+form-kind s ready (choice optional ms) enough cs later = rw ready (form-members _ ms cs (omega (arith, enough)) ∙ later .1)
+form-kind s ready (list m) enough cs later = rw ready (later .0)
+
+form-types : {T : Table} → All Enough T → Ends (tableCommandsOf T)
+unfolding reach followed tableStep tableRole tableMove tableCommandsOf
+form-types all-none = (refl, refl)
+form-types (all-more {a = κ} {xs = T} enough more) =
+    let later = form-types more in
+    (form-kind whole (λ first. refl) κ enough (tableCommandsOf T) later, form-kind (members 0) (λ first. refl) κ enough (tableCommandsOf T) later)
+
+form-table : {T : Table} → 1 ≤ length T → All Enough T → reach tableStep noType (tableCommandsOf T) ≡ goes tableEnded
+unfolding tableMove tableCommandsOf
+form-table one all-none = absurd (omega arith)
+form-table one (all-more {a = κ} {xs = T} enough more) = form-kind noType (λ first. refl) κ enough (tableCommandsOf T) (form-types more)
+
+-- the limits take a type that has at most 63 before it
+limits-kind : (κ : Kind) → Short κ → (t k : ℕ) (cs : List TableCommand) → t < 64
+    → ((n : ℕ) → Taken limitStep (counted (suc t) n) cs) → Taken limitStep (counted t k) (kindThen κ cs)
+unfolding reach followed limitStep oneTypeMore goesIf kindThen membersOf
+limits-kind text short t k cs few later = rw (lt-ltb t maxTypes (omega arith)) (later 0)
+limits-kind empty short t k cs few later = rw (lt-ltb t maxTypes (omega arith)) (later 0)
+limits-kind (sequence ms) short t k cs few later = rw (lt-ltb t maxTypes (omega arith)) (limits-members (suc t) 0 ms cs (omega arith) later)
+limits-kind (choice need ms) short t k cs few later = rw (lt-ltb t maxTypes (omega arith)) (limits-members (suc t) 0 ms cs (omega arith) later)
+limits-kind (list m) short t k cs few later = rw (lt-ltb t maxTypes (omega arith)) (later 0)
+
+limits-table : {T : Table} → All Short T → (t k : ℕ) → t + length T ≤ 64 → Taken limitStep (counted t k) (tableCommandsOf T)
+unfolding reach followed limitStep tableCommandsOf
+limits-table all-none t k few = (counted t k, refl)
+limits-table (all-more {a = κ} {xs = T} short more) t k few =
+    limits-kind κ short t k (tableCommandsOf T) (omega arith) (λ n. limits-table more (suc t) n (omega arith))
+
+-- the operands of a type exist
+names-kind : (types : ℕ) (κ : Kind) → Known types (membersOf κ) → (cs : List TableCommand)
+    → reach (namesType types) tt (kindThen κ cs) ≡ reach (namesType types) tt cs
+unfolding reach followed namesType goesIf kindThen membersOf
+names-kind types text known cs = refl
+names-kind types empty known cs = refl
+names-kind types (sequence ms) known cs = names-members types ms cs known
+names-kind types (choice need ms) known cs = names-members types ms cs known
+names-kind types (list m) known cs = rw (lt-ltb m types (known m (List·Memᴰ·head refl)))
+
+names-table : (types : ℕ) {T : Table} → All (λ κ. Known types (membersOf κ)) T → reach (namesType types) tt (tableCommandsOf T) ≡ goes tt
+unfolding reach followed namesType tableCommandsOf
+names-table types all-none = refl
+names-table types (all-more {a = κ} {xs = T} known more) = names-kind types κ known (tableCommandsOf T) ∙ names-table types more
+
+-- no choice repeats a member
+repeats-kind : (κ : Kind) → ChoosesOnce κ → (s : Chosen) (cs : List TableCommand)
+    → ((next : Chosen) → Taken repeatStep next cs) → Taken repeatStep s (kindThen κ cs)
+unfolding reach followed repeatStep kindThen
+repeats-kind text once s cs later = later elsewhere
+repeats-kind empty once s cs later = later elsewhere
+repeats-kind (sequence ms) once s cs later = rw (sequence-members ms cs) (later elsewhere)
+repeats-kind (choice need ms) once s cs later = choice-members cs once later
+repeats-kind (list m) once s cs later = later elsewhere
+
+repeats-table : {T : Table} → All ChoosesOnce T → (s : Chosen) → Taken repeatStep s (tableCommandsOf T)
+unfolding reach followed repeatStep tableCommandsOf
+repeats-table all-none s = (s, refl)
+repeats-table (all-more {a = κ} {xs = T} once more) s = repeats-kind κ once s (tableCommandsOf T) (repeats-table more)
+
+-- ---- checks 2 to 5 exactly
+
+-- bytes whose commands a machine takes pass its check
+taken-passes : {S : Type 0} (step : S → TableCommand → Next S) (complete : S → Bool) (s : S) (bs : List ℕ) {cs : List TableCommand} {last : S}
+    → tableCommands bs ≡ cs → reach step s cs ≡ goes last → complete last ≡ true → run tableWidth step complete s 0 (tableCommands bs) ≡ passes
+taken-passes step complete s bs are e done = passes-run tableWidth step complete s 0 (tableCommands bs) (rw are e) done
+
+-- what the types are that bytes which pass check 4 or 5 are read to
+module _ (bs : List ℕ) {T : Table} (reads : tableTail (tableCommands bs) ≡ onlyTypes T) where
+  operands-told : (types : ℕ) → tableOperands types bs ≡ passes → All (λ κ. Known types (membersOf κ)) T
+  operands-told types e = (rw reads at (operands-hold types bs e)) .all-known
+
+  repeats-told : tableRepeats bs ≡ passes → All ChoosesOnce T
+  repeats-told e = (rw reads at (repeats-hold bs e)) .all-fresh
+
+-- a type or more, with enough members each
+pub form-exactly : (T : Table) → (tableForm (tableBytes T) ≡ passes) ↔ ((1 ≤ length T) × All Enough T)
+unfolding tableForm tableComplete
+form-exactly T = (
+  λ e. let formed : Formed noType (onlyTypes T) = rw (tail-of-bytes T) at (form-holds (tableBytes T) e) in (formed .enough-types, formed .all-enough),
+  λ h. taken-passes tableStep tableComplete noType (tableBytes T) (commands-of-table T) (form-table (h .0) (h .1)) refl,
+)
+
+-- at most 64 types, of at most 16 members
+pub limits-exactly : (T : Table) → (tableLimits (tableBytes T) ≡ passes) ↔ ((length T ≤ 64) × All Short T)
+unfolding tableLimits
+limits-exactly T = (
+  λ e.
+      let within : Within (counted 0 0) (onlyTypes T) = rw (tail-of-bytes T) at (limits-hold (tableBytes T) e) in
+      (omega (arith, within .types-within (omega arith)), within .all-within),
+  λ h. taken-passes limitStep (λ n. true) (counted 0 0) (tableBytes T) (commands-of-table T) (limits-table (h .1) 0 0 (omega (arith, h .0)) .1) refl,
+)
+
+-- members that are types
+pub operands-exactly : (types : ℕ) (T : Table) → (tableOperands types (tableBytes T) ≡ passes) ↔ All (λ κ. Known types (membersOf κ)) T
+unfolding tableOperands
+operands-exactly types T = (
+  operands-told (tableBytes T) (tail-of-bytes T) types,
+  λ h. taken-passes (namesType types) (λ u. true) tt (tableBytes T) (commands-of-table T) (names-table types h) refl,
+)
+
+-- choices with no member twice
+pub repeats-exactly : (T : Table) → (tableRepeats (tableBytes T) ≡ passes) ↔ All ChoosesOnce T
+unfolding tableRepeats
+repeats-exactly T = (
+  repeats-told (tableBytes T) (tail-of-bytes T),
+  λ h. taken-passes repeatStep (λ s. true) elsewhere (tableBytes T) (commands-of-table T) (repeats-table h elsewhere .1) refl,
+)
+
+-- of one type's own bytes, which have no table's end, the same
+only-one : {P : Kind → Type 0} {κ : Kind} → All P (κ ∷ []) → P κ
+only-one (all-more p ps) = p
+
+pub kind-operands : (types : ℕ) (κ : Kind) → (tableOperands types (kindBytes κ) ≡ passes) ↔ Known types (membersOf κ)
+unfolding tableOperands reach
+kind-operands types κ = (
+  λ e. only-one (operands-told (kindBytes κ) (tail-of-kind κ) types e),
+  λ h. taken-passes (namesType types) (λ u. true) tt (kindBytes κ) (commands-of-kind κ) (names-kind types κ h []) refl,
+)
+
+pub kind-repeats : (κ : Kind) → (tableRepeats (kindBytes κ) ≡ passes) ↔ ChoosesOnce κ
+unfolding tableRepeats reach
+kind-repeats κ = (
+  λ e. only-one (repeats-told (kindBytes κ) (tail-of-kind κ) e),
+  λ h. taken-passes repeatStep (λ s. true) elsewhere (kindBytes κ) (commands-of-kind κ) (repeats-kind κ h elsewhere [] (λ next. (next, refl)) .1) refl,
+)
+
+-- ---- what is valid, by its parts
+
+-- a kind is valid exactly where its members are, and no choice has one twice
+kind-parts : {types : ℕ} (κ : Kind) → ValidKind types κ ↔ (ValidMembers types (leastMembers κ) (membersOf κ) × ChoosesOnce κ)
+unfolding ValidKind membersOf
+kind-parts {types} text = (λ v. (record { enough = omega arith; at-most-16 = omega arith; exist = none-known types }, tt), λ h. tt)
+kind-parts {types} empty = (λ v. (record { enough = omega arith; at-most-16 = omega arith; exist = none-known types }, tt), λ h. tt)
+kind-parts (sequence ms) = (λ v. (v, tt), λ h. h .0)
+kind-parts (choice needed ms) = (λ v. (v .0, distinct-once ms .0 (v .1)), λ h. (h .0, distinct-once ms .1 (h .1)))
+kind-parts (choice optional ms) = (λ v. (v .0, distinct-once ms .0 (v .1)), λ h. (h .0, distinct-once ms .1 (h .1)))
+kind-parts (list m) =
+    (λ v. (record { enough = omega arith; at-most-16 = omega arith; exist = λ n i. rw (List·Memᴰ·eq-of-singleton i) v }, tt), λ h. h .0 .exist m (List·Memᴰ·head refl))
+
+-- what each check asks of the kinds of a table
+pub record Kinds (T : Table) : Type 0 where
+  pub enough : All Enough T
+  pub short : All Short T
+  pub known : All (λ κ. Known (length T) (membersOf κ)) T
+  pub once : All ChoosesOnce T
+
+-- those of a valid table have it
+pub valid-parts : {T : Table} → ValidTable T → Kinds T
+unfolding kindOf
+valid-parts {T} valid =
+    record {
+      enough = all-from empty T (λ t exists. parts t exists .0 .enough);
+      short = all-from empty T (λ t exists. parts t exists .0 .at-most-16);
+      known = all-from empty T (λ t exists. parts t exists .0 .exist);
+      once = all-from empty T (λ t exists. parts t exists .1);
+    }
+  where
+    parts : (t : ℕ) → t < length T → ValidMembers (length T) (leastMembers (kindOf T t)) (membersOf (kindOf T t)) × ChoosesOnce (kindOf T t)
+    parts t exists = kind-parts (kindOf T t) .0 (valid .valid-kinds t exists)
+
+-- and a sound table whose bytes pass the checks is valid: each gives its part
+pub passed-valid : (T : Table) → tableForm (tableBytes T) ≡ passes → tableLimits (tableBytes T) ≡ passes
+    → tableRepeats (tableBytes T) ≡ passes → SoundTable T → ValidTable T
+unfolding kindOf membersOf
+passed-valid T form limits repeats right =
+    record {
+      has-type = form-exactly T .0 form .0;
+      at-most-64 = limits-exactly T .0 limits .0;
+      valid-kinds = λ t exists.
+          kind-parts (kindOf T t) .1 (
+            record {
+              enough = all-at {P = Enough} empty (omega arith) (form-exactly T .0 form .1) t;
+              at-most-16 = all-at {P = Short} empty (omega arith) (limits-exactly T .0 limits .1) t;
+              exist = right .well-formed .members-exist t;
+            },
+            all-at {P = ChoosesOnce} empty tt (repeats-exactly T .0 repeats) t,
+          );
+      instances = instance-of T right;
+    }
+
+-- so an accepted table is valid
+pub accepted-table-valid : (bs : List ℕ) → judgedTable bs ≡ sound → ValidTable (tableOf bs)
+accepted-table-valid bs e =
+    let checks = table-checks bs e in
+    let same : tableBytes (tableOf bs) ≡ bs = sym (accepted-table-written bs (checks .form)) in
+    passed-valid (tableOf bs) (rw same (checks .form)) (rw same (checks .limits)) (rw same (checks .repeats)) (table-sound bs e)
+
+-- ---- the bytes of a valid table are accepted
 
 member-bytes : (ms : List ℕ) → length (memberBytes ms) ≡ length ms + length ms
 unfolding memberBytes
 member-bytes [] = refl
 member-bytes (m ∷ ms) = omega (arith, member-bytes ms)
 
--- the form takes these commands to its end, from either state that is reached behind a type
-abbrev Ends : List TableCommand → Type 0
-Ends cs = (reach tableStep whole cs ≡ goes tableEnded) × (reach tableStep (members 0) cs ≡ goes tableEnded)
+-- a type takes at most 33 bytes
+kind-short : (κ : Kind) → Short κ → length (kindBytes κ) ≤ 33
+unfolding kindBytes membersOf
+kind-short text short = omega arith
+kind-short empty short = omega arith
+kind-short (sequence ms) short = omega (arith, member-bytes ms)
+kind-short (choice needed ms) short = omega (arith, member-bytes ms)
+kind-short (choice optional ms) short = omega (arith, member-bytes ms)
+kind-short (list m) short = omega arith
 
-module _ (types : ℕ) where
-  -- the members of a valid choice of either kind
-  choice-valid : (need : Need) (ms : List ℕ) → ValidKind types (choice need ms) → ValidMembers types (leastMembers (choice need ms)) ms × Distinct ms
-  unfolding ValidKind
-  choice-valid needed ms v = v
-  choice-valid optional ms v = v
-
-  -- a type takes at most 33 bytes
-  kind-short : (κ : Kind) → ValidKind types κ → length (kindBytes κ) ≤ 33
-  unfolding kindBytes ValidKind
-  kind-short text v = omega arith
-  kind-short empty v = omega arith
-  kind-short (sequence ms) v = omega (arith, member-bytes ms, v .at-most-16)
-  kind-short (choice needed ms) v = omega (arith, member-bytes ms, v .0 .at-most-16)
-  kind-short (choice optional ms) v = omega (arith, member-bytes ms, v .0 .at-most-16)
-  kind-short (list m) v = omega arith
-
-  table-short : {T : Table} → All (ValidKind types) T → length (tableBytes T) ≤ 33 * length T + 1
-  unfolding tableBytes
-  table-short all-none = omega arith
-  table-short (all-more {a = κ} {xs = T} v later) = omega (arith, length-append (kindBytes κ) (tableBytes T), kind-short κ v, table-short later)
-
-  -- and with a type before them it does, from a state in which a type may begin
-  form-kind : (s : TableState) → ((first : TableState) → tableMove s (begins first) ≡ goes first) → (κ : Kind) → ValidKind types κ → (cs : List TableCommand)
-      → Ends cs → reach tableStep s (kindThen κ cs) ≡ goes tableEnded
-  unfolding reach followed tableStep tableRole kindThen ValidKind
-  form-kind s ready text v cs later = rw ready (later .0)
-  form-kind s ready empty v cs later = rw ready (later .0)
-  form-kind s ready (sequence ms) v cs later = rw ready (form-members _ ms cs (omega (arith, v .enough)) ∙ later .1)
-  form-kind s ready (choice needed ms) v cs later = rw ready (form-members _ ms cs (omega (arith, v .0 .enough)) ∙ later .1)
-  form-kind s ready (choice optional ms) v cs later = rw ready (form-members _ ms cs (omega (arith, v .0 .enough)) ∙ later .1)
-  form-kind s ready (list m) v cs later = rw ready (later .0)
-
-  form-types : {T : Table} → All (ValidKind types) T → Ends (tableCommandsOf T)
-  unfolding reach followed tableStep tableRole tableMove tableCommandsOf
-  form-types all-none = (refl, refl)
-  form-types (all-more {a = κ} {xs = T} v vs) =
-      let later = form-types vs in
-      (form-kind whole (λ first. refl) κ v (tableCommandsOf T) later, form-kind (members 0) (λ first. refl) κ v (tableCommandsOf T) later)
-
-  form-table : {T : Table} → 1 ≤ length T → All (ValidKind types) T → reach tableStep noType (tableCommandsOf T) ≡ goes tableEnded
-  unfolding tableMove tableCommandsOf
-  form-table one all-none = absurd (omega arith)
-  form-table one (all-more {a = κ} {xs = T} v vs) = form-kind noType (λ first. refl) κ v (tableCommandsOf T) (form-types vs)
-
-  -- the limits take a type that has at most 63 before it
-  limits-kind : (κ : Kind) → ValidKind types κ → (t k : ℕ) (cs : List TableCommand) → t < 64
-      → ((n : ℕ) → Taken limitStep (counted (suc t) n) cs) → Taken limitStep (counted t k) (kindThen κ cs)
-  unfolding reach followed limitStep oneTypeMore goesIf kindThen ValidKind
-  limits-kind text v t k cs few later = rw (lt-ltb t maxTypes (omega arith)) (later 0)
-  limits-kind empty v t k cs few later = rw (lt-ltb t maxTypes (omega arith)) (later 0)
-  limits-kind (sequence ms) v t k cs few later =
-      rw (lt-ltb t maxTypes (omega arith)) (limits-members (suc t) 0 ms cs (omega (arith, v .at-most-16)) later)
-  limits-kind (choice need ms) v t k cs few later =
-      rw (lt-ltb t maxTypes (omega arith)) (limits-members (suc t) 0 ms cs (omega (arith, choice-valid need ms v .0 .at-most-16)) later)
-  limits-kind (list m) v t k cs few later = rw (lt-ltb t maxTypes (omega arith)) (later 0)
-
-  limits-table : {T : Table} → All (ValidKind types) T → (t k : ℕ) → t + length T ≤ 64 → Taken limitStep (counted t k) (tableCommandsOf T)
-  unfolding reach followed limitStep tableCommandsOf
-  limits-table all-none t k few = (counted t k, refl)
-  limits-table (all-more {a = κ} {xs = T} v vs) t k few =
-      limits-kind κ v t k (tableCommandsOf T) (omega arith) (λ n. limits-table vs (suc t) n (omega arith))
-
-  -- the operands of a type exist
-  names-kind : (κ : Kind) → ValidKind types κ → (cs : List TableCommand) → reach (namesType types) tt (kindThen κ cs) ≡ reach (namesType types) tt cs
-  unfolding reach followed namesType goesIf kindThen ValidKind
-  names-kind text v cs = refl
-  names-kind empty v cs = refl
-  names-kind (sequence ms) v cs = names-members types ms cs (v .exist)
-  names-kind (choice need ms) v cs = names-members types ms cs (choice-valid need ms v .0 .exist)
-  names-kind (list m) v cs = rw (lt-ltb m types v)
-
-  names-table : {T : Table} → All (ValidKind types) T → reach (namesType types) tt (tableCommandsOf T) ≡ goes tt
-  unfolding reach followed namesType tableCommandsOf
-  names-table all-none = refl
-  names-table (all-more {a = κ} {xs = T} v vs) = names-kind κ v (tableCommandsOf T) ∙ names-table vs
-
-  -- no choice repeats a member
-  repeats-kind : (κ : Kind) → ValidKind types κ → (s : Chosen) (cs : List TableCommand)
-      → ((next : Chosen) → Taken repeatStep next cs) → Taken repeatStep s (kindThen κ cs)
-  unfolding reach followed repeatStep kindThen memberOf
-  repeats-kind text v s cs later = later elsewhere
-  repeats-kind empty v s cs later = later elsewhere
-  repeats-kind (sequence ms) v s cs later = rw (sequence-members ms cs) (later elsewhere)
-  repeats-kind (choice need ms) v s cs later = choice-members [] ms cs (choice-valid need ms v .1) (λ p m e. refl) later
-  repeats-kind (list m) v s cs later = later elsewhere
-
-  repeats-table : {T : Table} → All (ValidKind types) T → (s : Chosen) → Taken repeatStep s (tableCommandsOf T)
-  unfolding reach followed repeatStep tableCommandsOf
-  repeats-table all-none s = (s, refl)
-  repeats-table (all-more {a = κ} {xs = T} v vs) s = repeats-kind κ v s (tableCommandsOf T) (repeats-table vs)
-
--- ---- the bytes of a valid table are accepted
-
--- the kinds of a valid table
-all-valid : {T : Table} → ValidTable T → All (ValidKind (length T)) T
-unfolding kindOf
-all-valid {T} valid = all-from empty T (valid .valid-kinds)
+table-short : {T : Table} → All Short T → length (tableBytes T) ≤ 33 * length T + 1
+unfolding tableBytes
+table-short all-none = omega arith
+table-short (all-more {a = κ} {xs = T} short more) = omega (arith, length-append (kindBytes κ) (tableBytes T), kind-short κ short, table-short more)
 
 -- 64 types of 33 bytes, and 1F
 pub valid-table-short : (T : Table) → ValidTable T → length (tableBytes T) ≤ 2113
-valid-table-short T valid = omega (arith, table-short (length T) (all-valid valid), valid .at-most-64)
-
--- a machine that takes a table's commands passes its bytes
-taken-passes : {S : Type 0} (step : S → TableCommand → Next S) (complete : S → Bool) (s : S) (T : Table) {last : S}
-    → reach step s (tableCommandsOf T) ≡ goes last → complete last ≡ true → run tableWidth step complete s 0 (tableCommands (tableBytes T)) ≡ passes
-taken-passes step complete s T e done = passes-run tableWidth step complete s 0 (tableCommands (tableBytes T)) (rw (commands-of-table T) e) done
+valid-table-short T valid = omega (arith, table-short (valid-parts valid .short), valid .at-most-64)
 
 -- heights that are all at most the number of types pass
 low-passes : (types t : ℕ) (hs : List ℕ) → ((i : ℕ) → i < length hs → leb (getD hs i 0) types ≡ true) → firstEndless types t hs ≡ passes
@@ -476,22 +584,22 @@ low-passes types t [] low = refl
 low-passes types t (h ∷ hs) low = rw (low 0 (omega arith)) (low-passes types (suc t) hs (λ i less. low (suc i) (omega arith)))
 
 -- so do types that have finite instances
-instances-pass : (T : Table) → ((t : ℕ) → t < length T → Instance T t) → endlessType T ≡ passes
+pub instances-pass : (T : Table) → ((t : ℕ) → t < length T → Instance T t) → endlessType T ≡ passes
 unfolding endlessType hasInstance heightOf heightIn
 instances-pass T each = low-passes (length T) 0 (heights T) (λ t exists. instance-finite T t (each t (rw heights-length at exists)))
 
 -- every check passes
 pub valid-table-accepted : (T : Table) → ValidTable T → judgedTable (tableBytes T) ≡ sound
-unfolding fits tableForm tableLimits tableOperands tableRepeats tableComplete
+unfolding fits
 valid-table-accepted T valid =
-    let all = all-valid valid in
+    let kinds = valid-parts valid in
     let read : tableOf (tableBytes T) ≡ T = table-of-bytes T in
     table-accepted
     (record {
       short = le-leb (length (tableBytes T)) maxLength (omega (arith, valid-table-short T valid));
-      form = taken-passes tableStep tableComplete noType T (form-table (length T) (valid .has-type) all) refl;
-      limits = taken-passes limitStep (λ n. true) (counted 0 0) T (limits-table (length T) all 0 0 (omega (arith, valid .at-most-64)) .1) refl;
-      operands = rw read (taken-passes (namesType (length T)) (λ u. true) tt T (names-table (length T) all) refl);
-      repeats = taken-passes repeatStep (λ s. true) elsewhere T (repeats-table (length T) all elsewhere .1) refl;
+      form = form-exactly T .1 (valid .has-type, kinds .enough);
+      limits = limits-exactly T .1 (valid .at-most-64, kinds .short);
+      operands = rw read (operands-exactly (length T) T .1 (kinds .known));
+      repeats = repeats-exactly T .1 (kinds .once);
       instances = rw read (instances-pass T (valid .instances));
     })

@@ -8,7 +8,7 @@ use lib.ListN.{length, set}
 use Rattle.loaded_table.specs.Loaded.{heightsOf, tableBy, length-of, section-long, section-set}
 use Rattle.table_heights.specs.Sections.{Elsewhere, elsewhere-same, elsewhere-set, types-elsewhere, table-elsewhere, bounded-elsewhere}
 use Rattle.table_heights.specs.Heights.{nextHeight}
-use Rattle.table_heights.proofs.Rounds.{Raising, raising-starts, raising-changed, raising-kept, raising-ends, next-is}
+use Rattle.table_heights.proofs.Rounds.{Raising, raising-starts, raising-changed, raising-kept, raising-ends}
 use Rattle.table_heights.proofs.height_round.Statement.{statement}
 use Rattle.table_heights.proofs.height_round.Tie as tie
 
@@ -37,42 +37,41 @@ loop-holds c =
     let rows = before c in
     (elsewhere-same 128 64 rows, subst (λ k. Raising (tableBy rows) (heightsOf rows) k (heightsOf rows) _) (long c) (raising-starts (tableBy rows) (heightsOf rows) (section-long 128 64 rows (omega (arith, c .before .before .pre .size)))))
 
-height-of-requires : tie.Need-height-of-requires Inv-loop μ-loop
-height-of-requires c κs =
+next-height-requires : tie.Need-next-height-requires Inv-loop μ-loop
+next-height-requires c κs =
     let l = c .before .before in
     let n = l .before in
     let kept = l .loop .inv .0 in
     (bounded-elsewhere (omega arith) (omega arith) kept (n .before .before .pre), omega (arith, here (c .before), n .types .ensures .0, types-elsewhere (omega arith) (omega arith) kept))
 
 height-requires : tie.Need-height-requires Inv-loop μ-loop
-height-requires c κs = omega (arith, here (c .before .before .before .before), few (c .before .before .before .before .before .before))
+height-requires c κs = omega (arith, here (c .before .before .before), few (c .before .before .before .before .before))
 
 -- the height found is the next
-next : (c : tie.After-held-height Inv-loop μ-loop)
-    → c .held-height .result ≡ nextHeight (tableBy (before (c .before .before .before .before .before))) (heightsOf (c .before .before .before .before .loop .table)) (c .before .before .before .before .loop .t - 1)
+next : (c : tie.After-next-height Inv-loop μ-loop)
+    → let l = c .before .before .before in
+    c .next-height .result ≡ nextHeight (tableBy (before (l .before))) (heightsOf (l .loop .table)) (l .loop .t - 1)
 next c =
-    let l = c .before .before .before .before in
-    next-is (tableBy (before (l .before))) (l .loop .table) (l .loop .t - 1) (table-elsewhere (omega arith) (omega arith) (l .loop .inv .0)) (long (l .before)) (c .before .height-of .ensures) (c .held-height .ensures)
+    let l = c .before .before .before in
+    c .next-height .ensures ∙ ap (λ T. nextHeight T (heightsOf (l .loop .table)) (l .loop .t - 1)) (table-elsewhere (omega arith) (omega arith) (l .loop .inv .0))
 
 cast-set-height : tie.Need-cast-set-height Inv-loop μ-loop
-cast-set-height c =
-    let n = c .before .before .before .before .before .before .before .before .before in
-    record { fits = omega (arith, c .before .before .before .before .held-height .ensures, few n) }
+cast-set-height c = record { fits = omega (arith, next (c .before .before .before .before), long (c .before .before .before .before .before .before .before .before), few (c .before .before .before .before .before .before .before .before)) }
 
 set-height-requires : tie.Need-set-height-requires Inv-loop μ-loop
 set-height-requires c κs =
-    let i = c .before .before .before .before .before .before .before in
+    let i = c .before .before .before .before .before .before in
     omega (arith, here i, few (i .before .before))
 
 loop-less : tie.Need-loop-less Inv-loop μ-loop
-loop-less c = omega (arith, c .before .before .before .before .before .before .before .before .loop-test .taken)
+loop-less c = omega (arith, c .before .before .before .before .before .before .before .loop-test .taken)
 
 loop-again : tie.Need-loop-again Inv-loop μ-loop
 loop-again c =
-    let i = c .before .before .before .before .before .before .before .before in
+    let i = c .before .before .before .before .before .before .before in
     let l = i .before in
     let rows = before (l .before) in
-    let h = c .before .before .before .before .before .held-height .result in
+    let h = c .before .before .before .before .before .next-height .result in
     let low : l .loop .t - 1 < 64 = omega (arith, here i, few (l .before)) in
     let stored : heightsOf (c .set-height .last .0) ≡ set (heightsOf (l .loop .table)) (l .loop .t - 1) h = ap heightsOf (c .set-height .ensures) ∙ section-set 128 64 (l .loop .table) (l .loop .t - 1) h low in (
       elsewhere-set (l .loop .t - 1) h low (c .set-height .ensures) (l .loop .inv .0),
@@ -81,7 +80,7 @@ loop-again c =
 
 loop-again-2 : tie.Need-loop-again-2 Inv-loop μ-loop
 loop-again-2 c =
-    let i = c .before .before .before .before .before .before in
+    let i = c .before .before .before .before .before in
     let l = i .before in
     (l .loop .inv .0, raising-kept (l .loop .t) (i .loop-test .taken) (next (c .before .before .before)) (sym (c .before .height .ensures .0) ∙ c .if1 .left) (l .loop .inv .1))
 
@@ -97,13 +96,12 @@ height-round-spec =
     (λ c κs. tt)
     loop-holds
     (λ c. omega (arith, c .loop-test .taken))
-    height-of-requires
-    (λ c κs. few (c .before .before .before .before))
+    next-height-requires
     height-requires
     cast-set-height
     set-height-requires
     loop-less
     loop-again
-    (λ c. omega (arith, c .before .before .before .before .before .before .loop-test .taken))
+    (λ c. omega (arith, c .before .before .before .before .before .loop-test .taken))
     loop-again-2
     returns)
