@@ -34,3 +34,5 @@ check-definitions: reference
 	@tools/check-definitions --most 1500 --all tests/data/cases-01.txt --all tests/data/cases-n3.txt --all tests/data/cases-n6.txt --all tests/data/cases-n5.txt tests/data/base.txt tests/data/n3.txt tests/data/n6.txt tests/data/n5.txt target/generated.txt
 	@target/cargo/release/reference generate 1 600 clashes > target/generated-clashes.txt
 	@tools/check-definitions --most 700 --longest 200 tests/data/n9.txt target/generated-clashes.txt
+	@target/cargo/release/reference generate 1 600 operations > target/generated-operations.txt
+	@tools/check-definitions --most 900 --longest 300 tests/data/n8.txt target/generated-operations.txt

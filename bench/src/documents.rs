@@ -1,5 +1,8 @@
 //! Documents that are timed, or that inputs are made of.
 
+use lafindry_reference::extension::Operation;
+use lafindry_reference::table::ContentModel;
+use lafindry_reference::vectors::operations::Row;
 use lafindry_reference::{MOST_BYTES, MOST_LEVELS, MOST_MEMBERS, MOST_STEPS, MOST_TYPES};
 
 // The patch of paper 01.
@@ -253,4 +256,34 @@ pub fn bottom_heavy(items: usize) -> Vec<u8> {
     let above = MOST_LEVELS / 2 - 1;
     let after = [&[0x32], &lists[3..], &[0x32]].concat();
     [[0x30, 0, 0x30, 1].repeat(above), item.repeat(items), after.repeat(above), vec![0x3F]].concat()
+}
+
+/// The operation that appends a type.
+fn append_type(model: ContentModel) -> Operation {
+    Operation::AppendType(model.to_bytes())
+}
+
+/// An optional choice of itself; 63 more, each of the first one; then to each all
+/// the members that it has room for.
+pub fn many_members() -> Row {
+    let types = (1..MOST_TYPES).map(|_| append_type(ContentModel::OptionalChoice(vec![0])));
+    let types_extended = 0..MOST_TYPES as u8;
+    let members = types_extended.flat_map(|extended| {
+        (1..MOST_MEMBERS as u8).map(move |member| Operation::AppendMember { extended, member })
+    });
+    Row { table: vec![0x17, 0x15, 0, 0x1F], operations: types.chain(members).collect() }
+}
+
+/// An empty type; 15 sequences, each of the type before; 48 choices, each between
+/// the type before and itself; then to each choice in turn the highest sequence
+/// that is lower than all its members, until they have no room. Each of these
+/// members moves numbers.
+pub fn lower_members() -> Row {
+    let (height, types) = (MOST_MEMBERS as u8, MOST_TYPES as u8);
+    let sequences = (1..height).map(|t| append_type(ContentModel::Sequence(vec![t - 1])));
+    let choices = (height..types).map(|t| append_type(ContentModel::Choice(vec![t - 1, t])));
+    let lower = (1..height - 1).rev();
+    let members = lower
+        .flat_map(|member| (height..types).map(move |extended| Operation::AppendMember { extended, member }));
+    Row { table: vec![0x11, 0x1F], operations: sequences.chain(choices).chain(members).collect() }
 }

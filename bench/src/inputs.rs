@@ -1,10 +1,12 @@
 //! What is timed: documents of the patch of paper 01, of a table of records, of
-//! one with optional settings, near the limits, and a thousand different
-//! patches.
+//! one with optional settings, near the limits, a thousand different patches, and
+//! rows of operations on a table.
 
 use crate::documents::*;
 use crate::images;
+use lafindry_reference::extension::MOST_REPORT;
 use lafindry_reference::vectors::explanations::Question;
+use lafindry_reference::vectors::operations::{Extension, Row};
 use lafindry_reference::vectors::{Case, Entry};
 use lafindry_reference::MOST_BYTES;
 
@@ -34,6 +36,8 @@ fn tables() -> Vec<Input> {
         table("patch", PATCH_SOURCE),
         table("records", RECORDS_SOURCE),
         table("64 types, 16 members each", &chain()),
+        table("64 optional choices", &last_table(&many_members())),
+        table("48 choices, 16 sequences", &last_table(&lower_members())),
         table("59,999 types", &many),
     ]
 }
@@ -67,6 +71,32 @@ pub fn questions() -> Vec<Asked> {
         asked("1,008 paths, none clashes", [&chain, &wide, &free]),
         asked("1,008 paths, the last clashes", [&chain, &wide, &last_clashing(free.clone())]),
     ]
+}
+
+/// Operations on a table, and what to call them.
+pub struct Operated {
+    pub name: &'static str,
+    pub extension: Extension,
+}
+
+/// Rows of operations that make a table of 64 types from one, and the tables that
+/// they end with, loaded at once.
+pub fn operated() -> Vec<Operated> {
+    let operated = |name, row: &Row| Operated { name, extension: row.lent(MOST_REPORT) };
+    let loaded = |name, row: &Row| operated(name, &Row { table: last_table(row), operations: Vec::new() });
+    let (many, lower) = (many_members(), lower_members());
+    vec![
+        operated("63 types, 15 members each", &many),
+        loaded("64 optional choices, loaded", &many),
+        operated("63 types, 672 lower members", &lower),
+        loaded("48 choices, loaded", &lower),
+    ]
+}
+
+/// The table that a row of operations ends with.
+fn last_table(row: &Row) -> Vec<u8> {
+    let tables = row.tables().expect("the table is accepted");
+    tables[row.operations.len()].table.to_bytes()
 }
 
 fn trees() -> Vec<Input> {

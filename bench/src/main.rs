@@ -1,19 +1,21 @@
 //! Times the library and the reference on the same inputs, in one run: the five
-//! entries, and the explanation of clashes. First each input's answer and output
-//! bytes are compared. A line has the length of the last document and of what is
-//! written, both times of one call in microseconds, and the library's time
-//! divided by the reference's. Where an input has many cases, all these are
-//! means.
+//! entries, the explanation of clashes, and operations on tables. First each
+//! input's answer and output bytes are compared. A line has the length of the last
+//! document, for operations with that of the table, and of what is written, both
+//! times of one call in microseconds, and the library's time divided by the
+//! reference's. Where an input has many cases, all these are means.
 
 mod documents;
 mod images;
 mod inputs;
 
-use inputs::{Asked, Input};
-use lafindry_entries::{call, call_explain, ensure, Explanations, Failure, Tally};
+use inputs::{Asked, Input, Operated};
+use lafindry_entries::{call, call_explain, call_extend, ensure, Explanations, Extensions, Failure, Tally};
 use lafindry_reference::vectors::explanations::EXPLAIN;
+use lafindry_reference::vectors::operations::EXTEND;
 use lafindry_reference::vectors::{Answer, Case, Entry};
-use lafindry_reference::{bring_back, carry, judge_embedding, judge_table, judge_tree, Refusal, MOST_BYTES};
+use lafindry_reference::{bring_back, carry, extend_table, judge_embedding, judge_table, judge_tree};
+use lafindry_reference::{Refusal, MOST_BYTES};
 use std::hint::black_box;
 use std::process::ExitCode;
 use std::time::{Duration, Instant};
@@ -31,7 +33,7 @@ fn main() -> ExitCode {
     match time_all() {
         Ok(rows) => {
             let entries = Entry::ALL.map(Entry::name);
-            entries.iter().chain(&[EXPLAIN]).for_each(|entry| print_highest(entry, &rows));
+            entries.iter().chain(&[EXPLAIN, EXTEND]).for_each(|entry| print_highest(entry, &rows));
             ExitCode::SUCCESS
         }
         Err(failure) => {
@@ -44,8 +46,9 @@ fn main() -> ExitCode {
 /// Times all inputs and prints each.
 fn time_all() -> Result<Vec<Row>, Failure> {
     print_row(["entry", "input", "bytes", "written", "library", "reference", "ratio", "answer"]);
-    let (inputs, questions) = (inputs::all(), inputs::questions());
+    let (inputs, questions, operated) = (inputs::all(), inputs::questions(), inputs::operated());
     let rows = inputs.iter().map(time_input).chain(questions.iter().map(time_question));
+    let rows = rows.chain(operated.iter().map(time_operations));
     rows.inspect(|row| row.iter().for_each(Row::print)).collect()
 }
 
@@ -139,6 +142,23 @@ fn time_question(Asked { name, question }: &Asked) -> Result<Row, Failure> {
     Ok(Row { entry: EXPLAIN, name, bytes, written: 0, library, reference, answer: explanation.to_string() })
 }
 
+/// Compares the reports of operations on a table, then times both sides.
+fn time_operations(Operated { name, extension }: &Operated) -> Result<Row, Failure> {
+    let answer = Extensions::default().compare(extension)?;
+    let (mut output, mut other) = (vec![0; extension.output_length], vec![0; extension.output_length]);
+    let (library, reference) = best_times(
+        || _ = black_box(call_extend(black_box(&extension.documents), &mut output)),
+        || {
+            let [table, operations] = black_box(&extension.documents);
+            let _ = black_box(extend_table(table, operations, &mut other));
+        },
+    );
+    ensure(output == other, "after the timing the outputs differ")?;
+    let bytes = extension.documents.iter().map(Vec::len).sum();
+    let (written, answer) = (written(&answer), summary(&answer));
+    Ok(Row { entry: EXTEND, name, bytes, written, library, reference, answer })
+}
+
 /// How many bytes an answer wrote.
 fn written(answer: &Answer) -> usize {
     match answer {
@@ -211,12 +231,27 @@ fn time(function: &mut impl FnMut(), calls: u32) -> Duration {
 #[cfg(test)]
 mod tests {
     use super::*;
+    use lafindry_reference::clauses::operations::{shown, OperationClause};
 
     /// The benchmark can be built, and times nothing but equal answers.
     #[test]
     fn both_sides_answer_alike() -> Result<(), Failure> {
-        let mut explanations = Explanations::default();
+        let (mut explanations, mut extensions) = (Explanations::default(), Extensions::default());
         inputs::all().iter().try_for_each(|input| answers(input).map(drop))?;
-        inputs::questions().iter().try_for_each(|asked| explanations.compare(&asked.question).map(drop))
+        inputs::questions().iter().try_for_each(|asked| explanations.compare(&asked.question).map(drop))?;
+        inputs::operated().iter().try_for_each(|operated| extensions.compare(&operated.extension).map(drop))
+    }
+
+    /// All operations of the benchmark are accepted, and so many move numbers.
+    #[test]
+    fn operations_are_accepted() -> Result<(), Failure> {
+        for (row, expected) in [(documents::many_members(), 0), (documents::lower_members(), 672)] {
+            let report = row.run().map_err(|refusal| Failure(refusal.to_string()))?;
+            ensure(report.answers.iter().all(Result::is_ok), row.line(&report))?;
+            let shown = shown(&row, &report).concat();
+            let moving = shown.iter().filter(|clause| **clause == OperationClause::LowerMember).count();
+            ensure(moving == expected, format!("{moving} members move numbers"))?;
+        }
+        Ok(())
     }
 }

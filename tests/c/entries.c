@@ -1,7 +1,7 @@
 /*
- * Calls the five entries, lafindry_explain_clash and lafindry_decimal through include/lafindry.h, with buffers lent as
- * lend.h says. Prints one line for each group, for changes of one byte how often the reference and the library gave
- * each answer, and last 'N passed, M failed'.
+ * Calls the five entries, lafindry_explain_clash, lafindry_extend_table and lafindry_decimal through
+ * include/lafindry.h, with buffers lent as lend.h says. Prints one line for each group, for changes of one byte how
+ * often the reference and the library gave each answer, and last 'N passed, M failed'.
  */
 #include "lend.h"
 
@@ -58,6 +58,11 @@ static struct call bring_back(struct document source, struct document target, st
                               struct document tree, size_t room)
 {
     return (struct call){.entry = BRING_BACK, .documents = {source, target, embedding, tree}, .room = room};
+}
+
+static struct call extend(struct document table, struct document operations, size_t room)
+{
+    return (struct call){.entry = EXTEND_TABLE, .documents = {table, operations}, .room = room};
 }
 
 static struct call decimal(uint64_t number, size_t room)
@@ -194,7 +199,7 @@ static struct expected explained_clash(uint64_t mark, struct clash clash)
     return (struct expected){.answer = refused(LAFINDRY_PATH_CLASH, LAFINDRY_EMBEDDING, mark), .clash = clash};
 }
 
-/* A document is written, with so many filler elements. */
+/* A document is written, with so many filler elements, or a report, with none. */
 #define EXPECT_WRITTEN(document, filler, call) \
     expect_at("entries.c line", __LINE__, written_document((document), (filler)), (call))
 
@@ -350,12 +355,35 @@ static void output_lengths(void)
     end_group();
 }
 
-/* The patch with one of its documents replaced. */
+/* A table and operations on it; paper 02, N8. Type 0 is a sequence of type 1, 1 a choice of types 0 and 2, 2 a sequence
+   of type 3, which is empty. */
+static const struct document TABLE =
+    BYTES(0x12, 0x15, 0x01, 0x13, 0x15, 0x00, 0x15, 0x02, 0x12, 0x15, 0x03, 0x11, 0x1F);
+
+/* Type 1 gets type 3; then type 4, an optional choice of 1 and 4; type 4 gets 3. Refused: a sequence that would get 3
+   (19), a type of no bytes (2), type 1 gets 3 again (5), a sequence of itself (6), type 1 gets 5 (4). */
+static const struct document OPERATIONS =
+    BYTES(0x52, 0x01, 0x03, 0x51, 0x05, 0x17, 0x15, 0x01, 0x15, 0x04, 0x52, 0x04, 0x03, 0x52, 0x00, 0x03, 0x51, 0x00,
+          0x52, 0x01, 0x03, 0x51, 0x03, 0x12, 0x15, 0x05, 0x52, 0x01, 0x05);
+
+/* What is kept of the types at first, and when type 1 has got type 3. */
+static const struct document KEPT_FIRST =
+    BYTES(4, 4, 0, 12, 3, 0, 9, 2, 0, 6, 1, 0, 3);
+static const struct document KEPT_LOWER =
+    BYTES(4, 3, 0, 9, 2, 0, 6, 2, 0, 6, 1, 0, 3);
+
+/* The report: what is kept in the end, in KEPT_LAST bytes, then an answer for each operation. */
+static const struct document REPORT =
+    BYTES(5, 3, 0, 9, 2, 0, 6, 2, 0, 6, 1, 0, 3, 1, 0, 3,
+          0, 4, 0, 5, 0, 5, 19, 0, 2, 0, 5, 0, 6, 0, 4, 0);
+enum { KEPT_LAST = 16 };
+
+/* The patch, or that table, with one of its documents replaced. */
 
 /* Answers counted by refusal (0: accepted) and document, the sums of their other fields, and of the bytes written, each
    byte multiplied by its place from 1; clashes counted by reason. */
 struct tally {
-    uint64_t count[LAFINDRY_NO_IMAGE + 1][LAFINDRY_OUTPUT + 1], marks, values, fillers, bytes;
+    uint64_t count[LAFINDRY_NO_IMAGE + 1][LAFINDRY_OPERATIONS + 1], marks, values, fillers, bytes;
     uint64_t reasons[LAFINDRY_PARTS_AT_SEQUENCE + 1];
 };
 
@@ -366,9 +394,10 @@ static const struct document *const SETTING[] = {&SOURCE, &TARGET, &EMBEDDING};
 static const struct document *const SOURCE_TREE[] = {&SOURCE, &TREE};
 static const struct document *const PATCH[] = {&SOURCE, &TARGET, &EMBEDDING, &TREE};
 static const struct document *const PATCH_IMAGE[] = {&SOURCE, &TARGET, &EMBEDDING, &IMAGE};
+static const struct document *const OPERATED[] = {&TABLE, &OPERATIONS};
 
-/* A document of the patch, given to an entry in the place `at`, and what is expected: the number of the document, and
-   the answer for the patch itself. */
+/* A document of the patch, or that table or its operations, given to an entry in the place `at`, and what is expected:
+   the number of the document, and the answer for the documents as they are. */
 static const struct place {
     const char *name;
     enum entry entry;
@@ -392,6 +421,8 @@ static const struct place {
     {"bring back, target table", BRING_BACK, PATCH_IMAGE, 1, LAFINDRY_TARGET_TABLE, 15, 0, &TREE},
     {"bring back, embedding", BRING_BACK, PATCH_IMAGE, 2, LAFINDRY_EMBEDDING, 15, 0, &TREE},
     {"bring back, tree", BRING_BACK, PATCH_IMAGE, 3, LAFINDRY_TREE, 15, 0, &TREE},
+    {"extend, table", EXTEND_TABLE, OPERATED, 0, LAFINDRY_SOURCE_TABLE, 32, 0, &REPORT},
+    {"extend, operations", EXTEND_TABLE, OPERATED, 1, LAFINDRY_OPERATIONS, 32, 0, &REPORT},
     {"explain, source table", EXPLAIN_CLASH, SETTING, 0, LAFINDRY_SOURCE_TABLE, 5, 0, NULL},
     {"explain, target table", EXPLAIN_CLASH, SETTING, 1, LAFINDRY_TARGET_TABLE, 5, 0, NULL},
     {"explain, embedding", EXPLAIN_CLASH, SETTING, 2, LAFINDRY_EMBEDDING, 5, 0, NULL},
@@ -416,13 +447,21 @@ static const struct tally *stored_tally(int place)
     return &by_reference[place < TALLIES ? place : place - TALLIES + FIRST_OF_EMBEDDING];
 }
 
-/* The length of output lent with changed documents; some of their images are longer. */
-enum { PLACE_ROOM = 22 };
+/* The length of output lent with changed documents, and with a changed table or operations; some of their images and
+   reports are longer. */
+enum { PLACE_ROOM = 22, REPORT_ROOM = 33 };
+
+static size_t room_of(enum entry entry)
+{
+    if (!writes(entry))
+        return 0;
+    return entry == EXTEND_TABLE ? REPORT_ROOM : PLACE_ROOM;
+}
 
 /* The call of a place with another document there. */
 static struct call call_with(const struct place *place, struct document document)
 {
-    struct call call = {.entry = place->entry, .room = writes(place->entry) ? PLACE_ROOM : 0};
+    struct call call = {.entry = place->entry, .room = room_of(place->entry)};
     for (int i = 0; i < documents_of(place->entry); i++)
         call.documents[i] = *place->documents[i];
     call.documents[place->at] = document;
@@ -432,7 +471,8 @@ static struct call call_with(const struct place *place, struct document document
 /* Whether the document of a place is an image to bring back. */
 static int is_image(const struct place *place) { return place->entry == BRING_BACK && place->at == 3; }
 
-static struct expected whole_patch(const struct place *place)
+/* What is expected of the documents as they are. */
+static struct expected as_they_are(const struct place *place)
 {
     struct lafindry_answer answer = accepted(place->value);
     answer.filler = place->filler;
@@ -455,14 +495,16 @@ static size_t whole_commands(struct document document)
 }
 
 /* A beginning lacks the command that ends the document; it is refused where its bytes run out. The first one of each
-   document is empty, and lent as a pointer to an inaccessible page. */
+   document is empty, and lent as a pointer to an inaccessible page. Operations have no such command. */
 static void beginnings(void)
 {
-    begin_group("beginnings of the patch's documents");
+    begin_group("beginnings of the documents");
     for (int i = 0; i < PLACES; i++) {
         const struct place *place = &places[i];
         struct document beginning = *place->documents[place->at];
-        expect_at(place->name, beginning.length, whole_patch(place), call_with(place, beginning));
+        expect_at(place->name, beginning.length, as_they_are(place), call_with(place, beginning));
+        if (place->number == LAFINDRY_OPERATIONS)
+            continue;
         while (beginning.length > 0) {
             beginning.length--;
             changed_images += is_image(place);
@@ -496,6 +538,8 @@ static void null_pointers(void)
          lafindry_bring_back(NULL, 0, NULL, 0, NULL, 0, NULL, 0, NULL, 0)},
         {refused(LAFINDRY_OUTPUT_TOO_SHORT, LAFINDRY_OUTPUT, 0),
          lafindry_bring_back(s, sn, t, tn, e, en, IMAGE.bytes, IMAGE.length, NULL, 0)},
+        {refused(LAFINDRY_BAD_FORM, LAFINDRY_SOURCE_TABLE, 0), lafindry_extend_table(NULL, 0, NULL, 0, NULL, 0)},
+        {refused(LAFINDRY_OUTPUT_TOO_SHORT, LAFINDRY_OUTPUT, 0), lafindry_extend_table(s, sn, NULL, 0, NULL, 0)},
         {accepted(0), accepted(lafindry_decimal(0, NULL, 0))},
         {accepted(0), accepted(lafindry_decimal(UINT64_MAX, NULL, 0))},
     };
@@ -524,6 +568,13 @@ static int is_explained_right(enum entry entry, const struct result *result)
            clash.shared <= 12;
 }
 
+/* Whether an entry can refuse a document of this number. */
+static int is_document(enum entry entry, uint64_t number)
+{
+    return (number >= LAFINDRY_SOURCE_TABLE && number <= LAFINDRY_OUTPUT) ||
+           (entry == EXTEND_TABLE && number == LAFINDRY_OPERATIONS);
+}
+
 /* Whether the fields that don't apply are 0, and the others in their ranges. */
 static int is_well_formed(enum entry entry, const struct result *result)
 {
@@ -532,8 +583,8 @@ static int is_well_formed(enum entry entry, const struct result *result)
         return 0;
     if (answer.refusal == LAFINDRY_ACCEPTED)
         return answer.document == 0 && answer.mark == 0 && answer.value > 0 && (answer.filler == 0 || entry == CARRY);
-    return answer.refusal <= LAFINDRY_NO_IMAGE && answer.document >= LAFINDRY_SOURCE_TABLE &&
-           answer.document <= LAFINDRY_OUTPUT && answer.value == 0 && answer.filler == 0;
+    return answer.refusal <= LAFINDRY_NO_IMAGE && is_document(entry, answer.document) && answer.value == 0 &&
+           answer.filler == 0;
 }
 
 static void add_to_tally(struct tally *tally, const struct result *result)
@@ -581,7 +632,7 @@ static void compare_tallies(const struct place *place, const struct tally *refer
 {
     printf("\n  %s:", place->name);
     for (int refusal = 0; refusal <= LAFINDRY_NO_IMAGE; refusal++) {
-        for (int document = 0; document <= LAFINDRY_OUTPUT; document++) {
+        for (int document = 0; document <= LAFINDRY_OPERATIONS; document++) {
             const unsigned long long expected = reference->count[refusal][document];
             const unsigned long long counted = library->count[refusal][document];
             if (expected == 0 && counted == 0)
@@ -1103,7 +1154,7 @@ static void changed_paths(void)
     };
 
     begin_group("changes of one byte, reasons by hand/by the library");
-    expect_at(place.name, 0, whole_patch(&place), call_with(&place, FOUR_PATHS));
+    expect_at(place.name, 0, as_they_are(&place), call_with(&place, FOUR_PATHS));
     const struct tally tally = tally_changes(&place);
     for (int reason = LAFINDRY_EQUAL_PATHS; reason <= LAFINDRY_PARTS_AT_SEQUENCE; reason++) {
         printf("%d %llu/%llu; ", reason, (unsigned long long)reasons[reason],
@@ -1131,6 +1182,244 @@ static void explanations(void)
     without_clash();
     null_pointers_explained();
     changed_paths();
+}
+
+/* Operations on tables; paper 02, N8. */
+
+/* The offsets behind the operations of OPERATIONS, in order; before the first there is 0. */
+static const size_t operation_ends[] = {0, 3, 10, 13, 16, 18, 21, 26, 29};
+
+/* The report where only so many of them are carried out: the first lowers type 1, the second appends type 4, and the
+   others move nothing. */
+static struct document report_after(size_t operations)
+{
+    static struct made made;
+    const struct document kept_last = {REPORT.bytes, KEPT_LAST};
+    made.length = 0;
+    add(&made, 1, operations == 0 ? KEPT_FIRST : operations == 1 ? KEPT_LOWER : kept_last);
+    add(&made, 1, (struct document){REPORT.bytes + KEPT_LAST, 2 * operations});
+    return document_of(&made);
+}
+
+/* A beginning is carried out where its last operation is whole, and else refused where that begins. */
+static void beginnings_of_operations(void)
+{
+    size_t whole = 0;
+    begin_group("beginnings of operations");
+    for (struct document beginning = {OPERATIONS.bytes, 0}; beginning.length <= OPERATIONS.length; beginning.length++) {
+        if (whole + 1 < sizeof operation_ends / sizeof *operation_ends && operation_ends[whole + 1] == beginning.length)
+            whole++;
+        const struct lafindry_answer unread = refused(LAFINDRY_BAD_FORM, LAFINDRY_OPERATIONS, operation_ends[whole]);
+        expect_at("operations up to", beginning.length,
+                  operation_ends[whole] == beginning.length ? written_document(report_after(whole), 0) : only(unread),
+                  extend(TABLE, beginning, ROOM));
+    }
+    end_group();
+}
+
+/* An operation that is refused on a table of a choice of 1 and 2, a sequence of 2 and an empty type. */
+static const struct {
+    uint8_t refusal;
+    struct document operation;
+} refused_operations[] = {
+    /* Bytes that are not exactly one type's own commands: none, an end, two types, a member alone, too few members, an
+       operand that is missing, a byte too many, no command. */
+    {LAFINDRY_BAD_FORM, BYTES(0x51, 0)},
+    {LAFINDRY_BAD_FORM, BYTES(0x51, 1, 0x1F)},
+    {LAFINDRY_BAD_FORM, BYTES(0x51, 2, 0x11, 0x1F)},
+    {LAFINDRY_BAD_FORM, BYTES(0x51, 2, 0x11, 0x11)},
+    {LAFINDRY_BAD_FORM, BYTES(0x51, 2, 0x15, 0x00)},
+    {LAFINDRY_BAD_FORM, BYTES(0x51, 1, 0x12)},
+    {LAFINDRY_BAD_FORM, BYTES(0x51, 3, 0x13, 0x15, 0x00)},
+    {LAFINDRY_BAD_FORM, BYTES(0x51, 1, 0x17)},
+    {LAFINDRY_BAD_FORM, BYTES(0x51, 1, 0x14)},
+    {LAFINDRY_BAD_FORM, BYTES(0x51, 2, 0x12, 0x15)},
+    {LAFINDRY_BAD_FORM, BYTES(0x51, 3, 0x14, 0x00, 0x00)},
+    {LAFINDRY_BAD_FORM, BYTES(0x51, 1, 0x16)},
+    /* 17 members, none of which exists. */
+    {LAFINDRY_OVER_LIMIT, BYTES(0x51, 35, 0x13, 0x15, 9, 0x15, 9, 0x15, 9, 0x15, 9, 0x15, 9, 0x15, 9, 0x15, 9, 0x15, 9,
+                                0x15, 9, 0x15, 9, 0x15, 9, 0x15, 9, 0x15, 9, 0x15, 9, 0x15, 9, 0x15, 9, 0x15, 9)},
+    /* The new type is type 3; there is no type 4. */
+    {LAFINDRY_BAD_OPERAND, BYTES(0x51, 2, 0x14, 0x04)},
+    {LAFINDRY_BAD_OPERAND, BYTES(0x51, 5, 0x17, 0x15, 0x04, 0x15, 0x04)},
+    {LAFINDRY_REPEATED_MEMBER, BYTES(0x51, 5, 0x13, 0x15, 0x01, 0x15, 0x01)},
+    {LAFINDRY_REPEATED_MEMBER, BYTES(0x51, 5, 0x17, 0x15, 0x03, 0x15, 0x03)},
+    {LAFINDRY_NO_FINITE_INSTANCE, BYTES(0x51, 3, 0x12, 0x15, 0x03)},
+    /* A sequence, an empty type and two types that are not there; the last with a member that is not there either. */
+    {LAFINDRY_NO_CHOICE, BYTES(0x52, 0x01, 0x00)},
+    {LAFINDRY_NO_CHOICE, BYTES(0x52, 0x02, 0x00)},
+    {LAFINDRY_NO_CHOICE, BYTES(0x52, 0x03, 0x00)},
+    {LAFINDRY_NO_CHOICE, BYTES(0x52, 0xFF, 0xFF)},
+    {LAFINDRY_BAD_OPERAND, BYTES(0x52, 0x00, 0x03)},
+    {LAFINDRY_REPEATED_MEMBER, BYTES(0x52, 0x00, 0x02)},
+};
+
+/* Each alone, and one after the other; then a member that is accepted. */
+static void operations_refused(void)
+{
+    static struct made operations, report;
+    const struct document table = DOCUMENT(0x13, 0x15, 0x01, 0x15, 0x02, 0x12, 0x15, 0x02, 0x11, 0x1F);
+    const struct document kept = DOCUMENT(3, 2, 0, 6, 2, 0, 6, 1, 0, 3);
+    const size_t count = sizeof refused_operations / sizeof *refused_operations;
+
+    begin_group("refused operations");
+    add(&report, 1, kept);
+    for (size_t i = 0; i < count; i++) {
+        const uint8_t number = refused_operations[i].refusal;
+        expect_at("operation", i, written_document(DOCUMENT(3, 2, 0, 6, 2, 0, 6, 1, 0, 3, number, 0), 0),
+                  extend(table, refused_operations[i].operation, 12));
+        add(&operations, 1, refused_operations[i].operation);
+        add(&report, 1, DOCUMENT(number, 0));
+    }
+    add(&operations, 1, DOCUMENT(0x52, 0x00, 0x00));
+    add(&report, 1, DOCUMENT(0, 3));
+    EXPECT_WRITTEN(document_of(&report), 0, extend(table, document_of(&operations), ROOM));
+    end_group();
+}
+
+/* Four sequences of 16 members, each of the next type, and an empty type: the filler of the first, which is this type,
+   has more than 60,000 bytes. */
+static void add_tower(struct made *made, uint8_t first)
+{
+    for (int next = first + 1; next <= first + 4; next++) {
+        add(made, 1, DOCUMENT(0x12));
+        add(made, 16, DOCUMENT(0x15, (uint8_t)next));
+    }
+    add(made, 1, DOCUMENT(0x11));
+}
+
+/* What is kept is lower, longer or no longer held at 60,001; and nothing moves. */
+static void operations_accepted(void)
+{
+    static struct made held;
+    add(&held, 1, DOCUMENT(0x13, 0x15, 0x01, 0x15, 0x00));
+    add_tower(&held, 1);
+    add(&held, 1, DOCUMENT(0x1F));
+    /* Type 0 is a choice of 1 and 4; type 2, under type 1, a choice of 3 and 1. */
+    const struct document nested =
+        DOCUMENT(0x13, 0x15, 0x01, 0x15, 0x04, 0x12, 0x15, 0x02, 0x15, 0x06, 0x13, 0x15, 0x03, 0x15, 0x01, 0x12, 0x15,
+                 0x07, 0x12, 0x15, 0x05, 0x12, 0x15, 0x06, 0x11, 0x12, 0x15, 0x06, 0x1F);
+
+    begin_group("accepted operations");
+    EXPECT_WRITTEN(DOCUMENT(1, 1, 0, 3), 0, extend(EMPTY_ROOT, NO_BYTES, 4));
+    EXPECT_WRITTEN(DOCUMENT(5, 2, 0, 6, 1, 0, 3, 2, 0, 6, 1, 0, 3, 1, 0, 3, 0, 3, 0, 4, 0, 5), 0,
+                   extend(CHOICE_OF_ITSELF,
+                          DOCUMENT(0x51, 3, 0x12, 0x15, 0x01, 0x51, 1, 0x10, 0x51, 2, 0x14, 0x04), 22));
+    EXPECT_WRITTEN(DOCUMENT(8, 4, 0, 12, 5, 0, 18, 4, 0, 12, 3, 0, 9, 3, 0, 9, 2, 0, 6, 1, 0, 3, 2, 0, 6), 0,
+                   extend(nested, NO_BYTES, 25));
+    /* The height of type 0 stays, and its length grows. */
+    EXPECT_WRITTEN(DOCUMENT(8, 4, 0, 15, 3, 0, 12, 2, 0, 6, 3, 0, 9, 3, 0, 9, 2, 0, 6, 1, 0, 3, 2, 0, 6, 0, 8), 0,
+                   extend(nested, DOCUMENT(0x52, 0x02, 0x06), 27));
+    EXPECT_WRITTEN(DOCUMENT(6, 6, 0xEA, 0x61, 5, 0xEA, 0x61, 4, 0x33, 0x33, 3, 3, 0x33, 2, 0, 0x33, 1, 0, 3), 0,
+                   extend(document_of(&held), NO_BYTES, 19));
+    EXPECT_WRITTEN(DOCUMENT(6, 2, 0, 6, 5, 0xEA, 0x61, 4, 0x33, 0x33, 3, 3, 0x33, 2, 0, 0x33, 1, 0, 3, 0, 6), 0,
+                   extend(document_of(&held), DOCUMENT(0x52, 0x00, 0x05), 21));
+    end_group();
+}
+
+/* 64 types, and a 65th; 16 members of either kind of choice, and a 17th, which comes after 19. */
+static void limits_of_operations(void)
+{
+    static struct made operations, report, choice;
+    begin_group("limits of operations");
+    add(&report, 1, DOCUMENT(64));
+    add(&report, 64, DOCUMENT(1, 0, 3));
+    for (int types = 2; types <= 64; types++)
+        add(&report, 1, DOCUMENT(0, (uint8_t)types));
+    add(&report, 1, DOCUMENT(LAFINDRY_OVER_LIMIT, 0));
+    add(&operations, 64, DOCUMENT(0x51, 1, 0x11));
+    EXPECT_WRITTEN(document_of(&report), 0, extend(EMPTY_ROOT, document_of(&operations), ROOM));
+
+    for (int kind = 0x13; kind <= 0x17; kind += 4) {
+        operations.length = report.length = choice.length = 0;
+        add(&choice, 1, DOCUMENT((uint8_t)kind, 0x15, 0x01, 0x15, 0x02));
+        add(&choice, 17, DOCUMENT(0x11));
+        add(&choice, 1, DOCUMENT(0x1F));
+        add(&report, 1, kind == 0x13 ? DOCUMENT(18, 2, 0, 6) : DOCUMENT(18, 1, 0, 3));
+        add(&report, 17, DOCUMENT(1, 0, 3));
+        for (int member = 3; member <= 17; member++)
+            add(&operations, 1, DOCUMENT(0x52, 0x00, (uint8_t)member));
+        add(&report, 14, DOCUMENT(0, 18));
+        add(&report, 1, DOCUMENT(LAFINDRY_OVER_LIMIT, 0));
+        expect_at("members of kind", (size_t)kind, written_document(document_of(&report), 0),
+                  extend(document_of(&choice), document_of(&operations), ROOM));
+    }
+    EXPECT_WRITTEN(DOCUMENT(2, 2, 0, 51, 1, 0, 3, LAFINDRY_NO_CHOICE, 0), 0,
+                   extend(many_members(16), DOCUMENT(0x52, 0x00, 0x01), 9));
+    end_group();
+}
+
+/* The longest document of operations, types of no bytes, and with it the longest report. */
+static void greatest_report(void)
+{
+    static struct made operations, report;
+    add(&operations, LAFINDRY_MOST_BYTES / 2, DOCUMENT(0x51, 0));
+    add(&report, 1, DOCUMENT(64));
+    add(&report, 64, DOCUMENT(1, 0, 3));
+    add(&report, LAFINDRY_MOST_BYTES / 2, DOCUMENT(LAFINDRY_BAD_FORM, 0));
+
+    begin_group("the longest report");
+    EXPECT_WRITTEN(document_of(&report), 0,
+                   extend(many_types(64), document_of(&operations), LAFINDRY_MOST_REPORT));
+    EXPECT(refused(LAFINDRY_OUTPUT_TOO_SHORT, LAFINDRY_OUTPUT, 0),
+           extend(many_types(64), document_of(&operations), LAFINDRY_MOST_REPORT - 1));
+    /* The last operation without its length, and one byte more. */
+    operations.length--;
+    EXPECT(refused(LAFINDRY_BAD_FORM, LAFINDRY_OPERATIONS, LAFINDRY_MOST_BYTES - 2),
+           extend(many_types(64), document_of(&operations), ROOM));
+    add(&operations, 2, DOCUMENT(0));
+    EXPECT(refused(LAFINDRY_TOO_LONG, LAFINDRY_OPERATIONS, 0),
+           extend(many_types(64), document_of(&operations), ROOM));
+    end_group();
+}
+
+/* A table is judged before operations, and both before the output. */
+static void order_of_refusals(void)
+{
+    const struct {
+        uint64_t refusal, mark;
+        struct document table;
+    } tables[] = {
+        {LAFINDRY_BAD_FORM, 0, {NULL, 0}},
+        {LAFINDRY_BAD_OPERAND, 0, BYTES(0x14, 0x01, 0x1F)},
+        {LAFINDRY_REPEATED_MEMBER, 3, BYTES(0x13, 0x15, 0x01, 0x15, 0x01, 0x11, 0x1F)},
+        {LAFINDRY_NO_FINITE_INSTANCE, 0, BYTES(0x12, 0x15, 0x00, 0x1F)},
+    };
+    static struct made made;
+    add(&made, ROOM, DOCUMENT(0x52));
+    const struct document too_long = document_of(&made);
+
+    begin_group("refused tables and operations");
+    for (size_t i = 0; i < sizeof tables / sizeof tables[0]; i++)
+        expect_at("table", i, only(refused(tables[i].refusal, LAFINDRY_SOURCE_TABLE, tables[i].mark)),
+                  extend(tables[i].table, too_long, 0));
+    EXPECT(refused(LAFINDRY_OVER_LIMIT, LAFINDRY_SOURCE_TABLE, 64), extend(many_types(65), too_long, 0));
+    EXPECT(refused(LAFINDRY_TOO_LONG, LAFINDRY_SOURCE_TABLE, 0), extend(many_types(60000), too_long, 0));
+    EXPECT(refused(LAFINDRY_TOO_LONG, LAFINDRY_OPERATIONS, 0), extend(TABLE, too_long, 0));
+    EXPECT(refused(LAFINDRY_BAD_FORM, LAFINDRY_OPERATIONS, 3), extend(TABLE, DOCUMENT(0x52, 0x00, 0x00, 0x53), 0));
+    end_group();
+}
+
+/* The report into all lengths of output around its own, and longer ones. */
+static void lengths_for_reports(void)
+{
+    const struct expected too_short = only(refused(LAFINDRY_OUTPUT_TOO_SHORT, LAFINDRY_OUTPUT, 0));
+    begin_group("lengths of output for a report");
+    for (size_t room = 0; room <= ROOM; room += room < 40 ? 1 : 5005)
+        expect_at("reported into", room, room < REPORT.length ? too_short : written_document(REPORT, 0),
+                  extend(TABLE, OPERATIONS, room));
+    end_group();
+}
+
+static void operations_on_tables(void)
+{
+    beginnings_of_operations();
+    operations_refused();
+    operations_accepted();
+    limits_of_operations();
+    greatest_report();
+    order_of_refusals();
+    lengths_for_reports();
 }
 
 /* Numbers in decimal: those at which one digit more begins, the greatest length of a document, and the greatest numbers
@@ -1211,6 +1500,7 @@ int main(void)
     limits_of_levels();
     limits_of_length();
     explanations();
+    operations_on_tables();
     decimal_numbers();
     count_of_changed_images();
     printf("%lu passed, %lu failed\n", passed, failed);

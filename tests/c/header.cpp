@@ -1,8 +1,9 @@
-// The header in a C++ program: the patch's source table is judged through it, and the clash of paper 01's choice whose
-// paths part at a sequence is explained. Prints 'N passed, M failed'.
+// The header in a C++ program: the patch's source table is judged through it, the clash of paper 01's choice whose
+// paths part at a sequence is explained, and a table is extended. Prints 'N passed, M failed'.
 #include "lafindry.h"
 
 #include <cstdio>
+#include <cstring>
 
 static_assert(sizeof(lafindry_explanation) == 10 * sizeof(uint64_t), "an explanation is ten numbers");
 
@@ -26,9 +27,22 @@ static bool explains()
            e.later == 2 && e.shared == 0;
 }
 
+// A sequence of type 0 is appended to one empty type; a member of that sequence is refused.
+static bool extends()
+{
+    const uint8_t table[] = {0x11, 0x1F};
+    const uint8_t operations[] = {LAFINDRY_APPEND_TYPE, 3, 0x12, 0x15, 0x00, LAFINDRY_APPEND_MEMBER, 0x01, 0x00};
+    const uint8_t expected[] = {2, 1, 0, 3, 2, 0, 6, LAFINDRY_ACCEPTED, 2, LAFINDRY_NO_CHOICE, 0};
+    uint8_t report[sizeof expected];
+    const lafindry_answer answer =
+        lafindry_extend_table(table, sizeof table, operations, sizeof operations, report, sizeof report);
+    return answer.refusal == LAFINDRY_ACCEPTED && answer.value == sizeof expected &&
+           std::memcmp(report, expected, sizeof expected) == 0;
+}
+
 int main()
 {
-    const int passed = judges() + explains();
-    std::printf("%d passed, %d failed\n", passed, 2 - passed);
-    return passed == 2 ? 0 : 1;
+    const int passed = judges() + explains() + extends();
+    std::printf("%d passed, %d failed\n", passed, 3 - passed);
+    return passed == 3 ? 0 : 1;
 }

@@ -1,8 +1,8 @@
 /*
- * The entries, lafindry_explain_clash and lafindry_decimal, called in a thread whose stack has a megabyte, on the
- * deepest and longest documents and with tables of 64 types; and those that write with an output of more than 4 GiB,
- * mapped without reserve. Prints the most stack that each took, one line for each case that failed, and last
- * 'N passed, M failed'.
+ * The entries, lafindry_explain_clash, lafindry_extend_table and lafindry_decimal, called in a thread whose stack has a
+ * megabyte, on the deepest and longest documents and with tables of 64 types; and those that write with an output of
+ * more than 4 GiB, mapped without reserve. Prints the most stack that each took, one line for each case that failed,
+ * and last 'N passed, M failed'.
  */
 #define _DEFAULT_SOURCE
 #include "lafindry.h"
@@ -123,12 +123,101 @@ static struct document wide_embedding(void)
     return d;
 }
 
-static struct document source, target, map;
+/* As many operations as a document can have: types of no bytes. */
+static struct document most_operations(void)
+{
+    struct document d = {{0}, 0};
+    while (d.length < LAFINDRY_MOST_BYTES)
+        put_two(&d, LAFINDRY_APPEND_TYPE, 0);
+    return d;
+}
 
-/* The five entries, lafindry_explain_clash and lafindry_decimal; those that write are the last. */
-enum entry { JUDGE_TABLE, JUDGE_EMBEDDING, EXPLAIN_CLASH, JUDGE_TREE, CARRY, BRING_BACK, DECIMAL, ENTRIES };
+/* Behind an empty type 0, sequences of the type before up to type 61; type 62, a choice of itself and 61; type 63, a
+   sequence of 16 times 62. Then the choice gets 60, 59 and so on to 47, each lower than all it has. */
+static struct document growing_operations(void)
+{
+    struct document d = {{0}, 0};
+    for (int t = 1; t < 62; t++) {
+        put_two(&d, LAFINDRY_APPEND_TYPE, 3);
+        put(&d, 0x12);
+        put_two(&d, 0x15, t - 1);
+    }
+    put_two(&d, LAFINDRY_APPEND_TYPE, 5);
+    put(&d, 0x13);
+    put_two(&d, 0x15, 62);
+    put_two(&d, 0x15, 61);
+    put_two(&d, LAFINDRY_APPEND_TYPE, 33);
+    put(&d, 0x12);
+    for (int member = 1; member <= 16; member++)
+        put_two(&d, 0x15, 62);
+    for (int member = 60; member >= 47; member--) {
+        put(&d, LAFINDRY_APPEND_MEMBER);
+        put_two(&d, 62, member);
+    }
+    return d;
+}
+
+struct report {
+    uint8_t bytes[LAFINDRY_MOST_REPORT];
+    size_t length;
+};
+
+static void report_two(struct report *r, int first, int second)
+{
+    r->bytes[r->length++] = (uint8_t)first;
+    r->bytes[r->length++] = (uint8_t)second;
+}
+
+static void report_type(struct report *r, int height, int length)
+{
+    r->bytes[r->length++] = (uint8_t)height;
+    report_two(r, length / 256, length % 256);
+}
+
+/* The report of the most operations on table(): of each type height 1 and 3 bytes, and each operation is refused. */
+static struct report most_report(void)
+{
+    struct report r = {{64}, 1};
+    for (int t = 0; t < 64; t++)
+        report_type(&r, 1, 3);
+    for (int operation = 0; operation < LAFINDRY_MOST_BYTES / 2; operation++)
+        report_two(&r, LAFINDRY_BAD_FORM, 0);
+    return r;
+}
+
+/* The report of the growing operations: the choice takes type 47, of height 48, in the end. */
+static struct report growing_report(void)
+{
+    struct report r = {{64}, 1};
+    for (int height = 1; height <= 62; height++)
+        report_type(&r, height, 3 * height);
+    report_type(&r, 49, 3 * 49);
+    report_type(&r, 50, 3 + 16 * 3 * 49);
+    for (int types = 2; types <= 64; types++)
+        report_two(&r, LAFINDRY_ACCEPTED, types);
+    for (int member = 60; member >= 47; member--)
+        report_two(&r, LAFINDRY_ACCEPTED, 64);
+    return r;
+}
+
+static struct document source, target, map, operations;
+static struct report report;
+
+/* The five entries, lafindry_explain_clash, lafindry_extend_table and lafindry_decimal; those that write are the
+   last. */
+enum entry {
+    JUDGE_TABLE,
+    JUDGE_EMBEDDING,
+    EXPLAIN_CLASH,
+    JUDGE_TREE,
+    CARRY,
+    BRING_BACK,
+    EXTEND_TABLE,
+    DECIMAL,
+    ENTRIES
+};
 static const char *const NAMES[ENTRIES] = {"judge a table", "judge an embedding", "explain a clash", "judge a tree",
-                                           "carry",         "bring back",         "write a number"};
+                                           "carry",         "bring back",         "extend a table",  "write a number"};
 
 /* What lafindry_decimal answers is the `value` of an answer that accepts. An explanation has an answer of its own. */
 struct call {
@@ -169,6 +258,10 @@ static void *make_call(void *argument)
         c->answer = lafindry_carry(source.bytes, source.length, target.bytes, target.length, map.bytes, map.length,
                                    t->bytes, t->length, c->output, c->room);
         break;
+    case EXTEND_TABLE:
+        c->answer = lafindry_extend_table(source.bytes, source.length, operations.bytes, operations.length, c->output,
+                                          c->room);
+        break;
     case DECIMAL:
         c->answer = (struct lafindry_answer){.value = lafindry_decimal(UINT64_MAX, c->output, c->room)};
         break;
@@ -179,14 +272,23 @@ static void *make_call(void *argument)
     return NULL;
 }
 
-/* Whether a call wrote what it should: a document, which is its own image, or the greatest number. */
+static int wrote(const struct call *c, const void *written, size_t length)
+{
+    return c->answer.value == length && memcmp(c->output, written, length) == 0;
+}
+
+/* Whether a call wrote what it should: a document, which is its own image, the report, or the greatest number. */
 static int wrote_right(const struct call *c)
 {
     static const char greatest[] = "18446744073709551615";
-    int is_number = c->entry == DECIMAL;
-    size_t length = is_number ? strlen(greatest) : c->tree->length;
-    const void *written = is_number ? (const void *)greatest : c->tree->bytes;
-    return c->answer.value == length && memcmp(c->output, written, length) == 0;
+    switch (c->entry) {
+    case DECIMAL:
+        return wrote(c, greatest, strlen(greatest));
+    case EXTEND_TABLE:
+        return wrote(c, report.bytes, report.length);
+    default:
+        return wrote(c, c->tree->bytes, c->tree->length);
+    }
 }
 
 /* Makes a call in a thread on a stack of its own; how much of the stack was touched. */
@@ -225,9 +327,11 @@ static void measure(struct call *c)
         most[c->entry] = taken;
 }
 
+/* An output that is never too short. */
+static uint8_t enough[LAFINDRY_MOST_REPORT];
+
 static void small_stacks(void)
 {
-    static uint8_t output[LAFINDRY_MOST_BYTES];
     static struct document trees[4];
     trees[0] = tree(2, 6);
     trees[1] = tree(LEVELS, 0);
@@ -235,8 +339,8 @@ static void small_stacks(void)
     trees[3] = tree(LEVELS, LAFINDRY_MOST_BYTES);
     for (int i = 0; i < 4; i++) {
         for (int entry = 0; entry < ENTRIES; entry++) {
-            struct call c = {.entry = (enum entry)entry, .tree = &trees[i], .output = output, .room = sizeof output};
-            memset(output, UNTOUCHED, sizeof output);
+            struct call c = {.entry = (enum entry)entry, .tree = &trees[i], .output = enough, .room = sizeof enough};
+            memset(enough, UNTOUCHED, sizeof enough);
             measure(&c);
             expect(c.answer.refusal == LAFINDRY_ACCEPTED, NAMES[entry]);
             if (entry == EXPLAIN_CLASH)
@@ -268,6 +372,18 @@ static void last_clash(void)
            "the last paths are equal");
 }
 
+/* A table of one type grown to 64, its numbers moved again and again. */
+static void grown_table(void)
+{
+    source = (struct document){{0x11, 0x1F}, 2};
+    operations = growing_operations();
+    report = growing_report();
+    struct call c = {.entry = EXTEND_TABLE, .output = enough, .room = sizeof enough};
+    memset(enough, UNTOUCHED, sizeof enough);
+    measure(&c);
+    expect(c.answer.refusal == LAFINDRY_ACCEPTED && wrote_right(&c), "a table is grown");
+}
+
 static void large_outputs(void)
 {
     size_t room = ((size_t)1 << 32) + 123;
@@ -279,16 +395,17 @@ static void large_outputs(void)
         expect(0, "more than 4 GiB can't be mapped");
         return;
     }
-    const size_t probes[] = {document.length, LAFINDRY_MOST_BYTES, room / 2, ((size_t)1 << 32) - 1, (size_t)1 << 32, room - 1};
+    const size_t probes[] = {LAFINDRY_MOST_REPORT, room / 2, ((size_t)1 << 32) - 1, (size_t)1 << 32, room - 1};
     const size_t count = sizeof probes / sizeof *probes;
     for (size_t i = 0; i < count; i++)
         output[probes[i]] = UNTOUCHED;
     for (int entry = CARRY; entry <= DECIMAL; entry++) {
         struct call c = {.entry = (enum entry)entry, .tree = &document, .output = output, .room = room};
-        memset(output, 0, document.length);
+        memset(output, UNTOUCHED, LAFINDRY_MOST_REPORT);
         make_call(&c);
         expect(c.answer.refusal == LAFINDRY_ACCEPTED, "an output of more than 4 GiB");
         expect(wrote_right(&c), "what is written there");
+        expect(c.answer.value < room && output[c.answer.value] == UNTOUCHED, "the next byte stays");
         for (size_t i = 0; i < count; i++)
             expect(output[probes[i]] == UNTOUCHED, "a later byte stays");
     }
@@ -300,9 +417,12 @@ int main(void)
     source = table();
     target = table();
     map = embedding();
+    operations = most_operations();
+    report = most_report();
     small_stacks();
     large_outputs();
     last_clash();
+    grown_table();
     for (int entry = 0; entry < ENTRIES; entry++)
         printf("stack, %s: %zu bytes\n", NAMES[entry], most[entry]);
     printf("%lu passed, %lu failed\n", passed, failed);

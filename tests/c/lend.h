@@ -1,19 +1,19 @@
 /*
- * Documents and outputs lent to the five entries, documents to lafindry_explain_clash and outputs to lafindry_decimal,
- * so that every byte read or written outside them is noticed. A call is made twice: with each buffer ending where an
- * inaccessible page begins, so that going beyond it faults, and with each starting where one ends. The other bytes of
- * the buffers hold junk, which has to stay.
+ * Documents and outputs lent to the five entries and to lafindry_extend_table, documents to lafindry_explain_clash and
+ * outputs to lafindry_decimal, so that every byte read or written outside them is noticed. A call is made twice: with
+ * each buffer ending where an inaccessible page begins, so that going beyond it faults, and with each starting where
+ * one ends. The other bytes of the buffers hold junk, which has to stay.
  */
 #ifndef LEND_H
 #define LEND_H
 
 #include "lafindry.h"
 
-/* A byte that no document written by an entry has, and that is no digit. */
+/* A byte that no document written by an entry has, that is no digit, and that stands in no report expected here. */
 enum { JUNK = 0x95 };
 
 /* The greatest length of a document or output that can be lent. */
-enum { ROOM = LAFINDRY_MOST_BYTES + 100 };
+enum { ROOM = LAFINDRY_MOST_REPORT + 100 };
 
 struct document {
     const uint8_t *bytes;
@@ -26,11 +26,11 @@ struct document {
 
 static const struct document NO_BYTES = {NULL, 0};
 
-/* The five entries, lafindry_explain_clash and lafindry_decimal. */
-enum entry { JUDGE_TABLE, JUDGE_EMBEDDING, EXPLAIN_CLASH, JUDGE_TREE, CARRY, BRING_BACK, DECIMAL };
+/* The five entries, lafindry_explain_clash, lafindry_extend_table and lafindry_decimal. */
+enum entry { JUDGE_TABLE, JUDGE_EMBEDDING, EXPLAIN_CLASH, JUDGE_TREE, CARRY, BRING_BACK, EXTEND_TABLE, DECIMAL };
 
-/* An entry with its documents in paper 01's order, and the length of the output for those that write. DECIMAL has no
-   document but a number. */
+/* An entry with its documents in the order of their numbers, and the length of the output for those that write. DECIMAL
+   has no document but a number. */
 struct call {
     enum entry entry;
     struct document documents[4];

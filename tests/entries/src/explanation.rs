@@ -1,9 +1,9 @@
 //! `lafindry_explain_clash`, called as `include/lafindry.h` declares it, and
 //! compared with the explanations of the reference.
 
-use crate::sides::{Pair, Side, Sides};
+use crate::sides::{Side, Sides};
 use crate::tally::{refused_by, Refused};
-use crate::{call, ensure, read, report, CAnswer, Failure};
+use crate::{call, ensure, read, CAnswer, Failure};
 use lafindry_reference::explanation::{Clash, Explanation, Reason};
 use lafindry_reference::vectors::explanations::{Question, Stated};
 use lafindry_reference::vectors::{Answer, Case, Entry};
@@ -158,11 +158,6 @@ impl Explanations {
     /// Prints both counts of each answer after a title. Fails where they differ.
     pub fn finish(self, title: &str) -> Result<BTreeMap<Explained, usize>, Failure> {
         let total: usize = self.counts.iter().map(|(_, pair)| pair.library).sum();
-        let text = |(explained, Pair { reference, library }): (Explained, Pair)| {
-            format!("{reference}/{library} {}", explained.name())
-        };
-        let texts: Vec<String> = self.counts.iter().map(text).collect();
-        report(&format!("{title}: {total} questions: {}", texts.join("; ")));
-        self.counts.agreed(Explained::name).map_err(|failure| Failure(format!("{title}: {}", failure.0)))
+        self.counts.reported(&format!("{title}: {total} questions"), Explained::name)
     }
 }

@@ -3,16 +3,19 @@
 //!
 //! A [`Tally`] runs cases through both, compares, and counts the answers of each;
 //! every test of an entry is built on it. [`Explanations`] does the same for the
-//! explanations of clashes. [`decimal`] is no entry: it writes a number.
+//! explanations of clashes, and [`Extensions`] for operations on tables.
+//! [`decimal`] is no entry: it writes a number.
 
 mod decimal;
 mod explanation;
+mod extension;
 mod setting;
 mod sides;
 mod tally;
 
 pub use decimal::{decimal, MOST_DIGITS};
 pub use explanation::{call_explain, explain, read_explanation, CExplanation, Explained, Explanations};
+pub use extension::{call_extend, read_extension, Extended, Extensions};
 pub use setting::Setting;
 pub use sides::{Pair, Side, Sides};
 pub use tally::{answers_of, refused_by, Histogram, Kind, Refused, Tally, DAMAGED};
@@ -102,12 +105,23 @@ pub const WATCHED: usize = 64;
 /// says that a field which doesn't apply isn't 0, or that a byte changed which
 /// should have been kept: of the output, of those beside it, or of a document.
 pub fn run(case: &Case) -> Result<Answer, String> {
-    let before = junk(case);
-    let (mut after, documents) = (before.clone(), case.documents.clone());
-    let lent = WATCHED..WATCHED + case.output_length;
-    let given = call(case.entry, &documents, &mut after[lent.clone()]);
-    let answer = read(case, given, &after[lent.clone()])?;
-    if documents != case.documents {
+    watched(&case.documents, case.output_length, |documents, output| {
+        read(case, call(case.entry, documents, output), output)
+    })
+}
+
+/// Calls a function on documents and an output that holds junk. The error is the
+/// function's, or says that a byte changed which should have been kept.
+fn watched<D: AsRef<[Vec<u8>]> + Clone + PartialEq>(
+    documents: &D,
+    output_length: usize,
+    call: impl FnOnce(&D, &mut [u8]) -> Result<Answer, String>,
+) -> Result<Answer, String> {
+    let before = junk(documents.as_ref(), output_length);
+    let (mut after, given) = (before.clone(), documents.clone());
+    let lent = WATCHED..WATCHED + output_length;
+    let answer = call(&given, &mut after[lent.clone()])?;
+    if given != *documents {
         return Err(format!("{answer}, but a document changed"));
     }
     let expected = [&before[..lent.start], &answer.final_output(&before[lent.clone()]), &before[lent.end..]];
@@ -118,13 +132,13 @@ pub fn run(case: &Case) -> Result<Answer, String> {
 }
 
 /// What the lent output and the bytes beside it hold before a call: a byte that
-/// is in no document, any bytes, or the last document again and again. A case
-/// always gets the same.
-fn junk(case: &Case) -> Vec<u8> {
-    let length = case.output_length + 2 * WATCHED;
-    let seed = case.documents.iter().map(Vec::len).sum::<usize>() + length;
+/// is in no document, any bytes, or the last document again and again. The same
+/// documents and length always get the same.
+fn junk(documents: &[Vec<u8>], output_length: usize) -> Vec<u8> {
+    let length = output_length + 2 * WATCHED;
+    let seed = documents.iter().map(Vec::len).sum::<usize>() + length;
     let mut rng = Rng::new(seed as u64);
-    let last = case.documents.last().filter(|document| !document.is_empty());
+    let last = documents.last().filter(|document| !document.is_empty());
     match (rng.below(3), last) {
         (0, _) => (0..length).map(|_| rng.byte()).collect(),
         (1, Some(document)) => document.iter().copied().cycle().take(length).collect(),
@@ -135,18 +149,22 @@ fn junk(case: &Case) -> Vec<u8> {
 /// The answer that a C answer stands for, with the bytes written. The error
 /// says that a field which doesn't apply isn't 0.
 pub fn read(case: &Case, given: CAnswer, output: &[u8]) -> Result<Answer, String> {
+    read_answer(given, case.entry.writes().then_some(output), case.entry == Entry::Carry)
+}
+
+/// The same for a function that is lent an output or not, and answers a number of
+/// filler elements or not.
+fn read_answer(given: CAnswer, output: Option<&[u8]>, has_filler: bool) -> Result<Answer, String> {
     let CAnswer { refusal, document, mark, value, filler } = given;
     let answer = if refusal == 0 {
-        let written = if case.entry.writes() { value as usize } else { 0 };
-        if written > case.output_length {
-            return Err(format!("{given:?}: longer than the output"));
-        }
-        Answer::Ok { value, filler, output: output[..written].to_vec() }
+        let written = output.map_or(Some(&[][..]), |output| output.get(..value as usize));
+        let written = written.ok_or_else(|| format!("{given:?}: longer than the output"))?;
+        Answer::Ok { value, filler, output: written.to_vec() }
     } else {
         Answer::Refused(Refusal { number: refusal, document, mark })
     };
     let unused: &[u64] = match answer {
-        Answer::Ok { .. } if case.entry == Entry::Carry => &[document, mark],
+        Answer::Ok { .. } if has_filler => &[document, mark],
         Answer::Ok { .. } => &[document, mark, filler],
         Answer::Refused(_) => &[value, filler],
     };

@@ -59,17 +59,21 @@ impl<K: Ord + Copy> Sides<K> {
         ensure(texts.is_empty(), texts.join("\n"))?;
         Ok(self.0.into_iter().map(|(key, pair)| (key, pair.library)).collect())
     }
+
+    /// Prints both counts of each thing after a title, by the names that it is
+    /// given, and gives those on which both sides agree. Fails where they differ.
+    pub fn reported(self, title: &str, name: impl Fn(K) -> String) -> Result<BTreeMap<K, usize>, Failure> {
+        let text = |(key, Pair { reference, library })| format!("{reference}/{library} {}", name(key));
+        report(&format!("{title}: {}", self.iter().map(text).collect::<Vec<String>>().join("; ")));
+        self.agreed(name).map_err(|failure| Failure(format!("{title}: {}", failure.0)))
+    }
 }
 
 impl Sides<&'static str> {
     /// Prints both counts of each name after a title. Fails where they differ,
     /// and unless each is at least so much.
     pub fn finish(self, title: &str, least: usize) -> Result<(), Failure> {
-        let texts =
-            self.iter().map(|(name, Pair { reference, library })| format!("{reference}/{library} {name}"));
-        report(&format!("{title}: {}", texts.collect::<Vec<String>>().join("; ")));
-        let counts =
-            self.agreed(str::to_string).map_err(|failure| Failure(format!("{title}: {}", failure.0)))?;
+        let counts = self.reported(title, str::to_string)?;
         let rare = counts.iter().find(|(_, &count)| count < least);
         ensure(rare.is_none(), format!("{title}: {rare:?}, fewer than {least}"))
     }

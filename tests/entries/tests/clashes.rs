@@ -9,8 +9,7 @@ mod seed;
 use arbitrary::{arbitrary_case, long_case};
 use changes::changes;
 use lafindry_entries::{
-    answers_of, ensure, read_explanation, report, CExplanation, Explained, Explanations, Failure, Pair, Side,
-    Sides,
+    answers_of, ensure, read_explanation, CExplanation, Explained, Explanations, Failure, Side, Sides,
 };
 use lafindry_reference::clauses::clashes::{shown, ClashClause};
 use lafindry_reference::explanation::{Clash, Explanation, Reason};
@@ -79,12 +78,8 @@ impl Run {
     fn finish(self, title: &str) -> Result<BTreeMap<Explained, usize>, Failure> {
         let counts = self.explanations.finish(title)?;
         self.clauses.finish(&format!("{title}, clashes"), LEAST_CLAUSE)?;
-        let text = |((name, number), Pair { reference, library }): (Number, Pair)| {
-            format!("{reference}/{library} {name} {number}")
-        };
-        let texts: Vec<String> = self.numbers.iter().map(text).collect();
-        report(&format!("{title}, numbers: {}", texts.join("; ")));
-        let found = self.numbers.agreed(|(name, number)| format!("{name} {number}"))?;
+        let text = |(name, number): Number| format!("{name} {number}");
+        let found = self.numbers.reported(&format!("{title}, numbers"), text)?;
         let is_rare = |number: &Number| found.get(number).is_none_or(|&count| count < LEAST_NUMBER);
         let rare = numbers().into_iter().find(is_rare);
         ensure(rare.is_none(), format!("{title}: {rare:?}, fewer than {LEAST_NUMBER}"))?;

@@ -4,11 +4,11 @@
 
 mod page;
 
-use lafindry_entries::{ensure, report, Explained, Explanations, Failure, Tally};
+use lafindry_entries::{ensure, report, Explained, Explanations, Extended, Extensions, Failure, Tally};
 use lafindry_reference::explanation::Reason;
 use lafindry_reference::table::accept;
 use lafindry_reference::vectors::{Answer, Case, Entry};
-use lafindry_reference::{MOST_BYTES, TARGET};
+use lafindry_reference::{MOST_BYTES, SOURCE, TARGET};
 use page::examples::{Asked, Example, Examples};
 use page::terms::byte_of;
 use page::{drawings, spans, Page, PAGE};
@@ -25,12 +25,14 @@ fn page_text() -> Result<String, Failure> {
 }
 
 /// What a page has: its cases, the images among their answers brought back,
-/// explanations of clashes, drawings, and rows of bytes elsewhere.
+/// explanations of clashes, operations on tables, drawings, and rows of bytes
+/// elsewhere.
 #[derive(Default)]
 struct Seen {
     cases: Tally,
     returns: Tally,
     explanations: Explanations,
+    extensions: Extensions,
     drawings: usize,
     spans: usize,
 }
@@ -54,6 +56,7 @@ fn check_example(example: &Example, seen: &mut Seen) -> Result<(), Failure> {
     let (case, answer, heights) = match &example.asked {
         Asked::Entry { case, answer, heights } => (case, answer, heights),
         Asked::Explanation { question, stated } => return seen.explanations.compare_with(question, stated),
+        Asked::Extension { extension, answer } => return seen.extensions.compare_with(extension, answer),
     };
     seen.cases.compare_with(case, answer)?;
     if let Some(heights) = heights {
@@ -86,20 +89,26 @@ fn comes_back(case: &Case, image: &[u8], tally: &mut Tally) -> Result<(), Failur
 #[test]
 fn examples_of_the_page_agree() -> Result<(), Failure> {
     let text = page_text()?;
-    let Seen { cases, returns, explanations, drawings, spans } = check_page(&text)?;
+    let Seen { cases, returns, explanations, extensions, drawings, spans } = check_page(&text)?;
     let histogram = cases.finish(PAGE)?;
     returns.finish(&format!("{PAGE}, images brought back"))?;
     let explained = explanations.finish(&format!("{PAGE}, explanations"))?;
+    let documents = extensions.total();
+    let extended = extensions.finish(&format!("{PAGE}, operations"))?;
     report(&format!("{PAGE}: {drawings} drawings and {spans} rows of bytes stand in their documents"));
     let blocks = text.lines().filter(|line| line.trim_start().starts_with("```case")).count();
-    let total = histogram.total() + explained.values().sum::<usize>();
+    let total = histogram.total() + explained.values().sum::<usize>() + documents;
     ensure(total == blocks, format!("{total} cases in {blocks} code blocks"))?;
-    ensure(blocks >= 117 && drawings >= 13 && spans >= 9, "fewer examples than the page had")?;
+    ensure(blocks >= 143 && drawings >= 18 && spans >= 9, "fewer examples than the page had")?;
     for number in 0..=15 {
         ensure(histogram.of_any(number) > 0, format!("no example of refusal {number} (0: accepted)"))?;
     }
     let missing = Reason::ALL.into_iter().find(|&reason| !explained.contains_key(&Explained::Clash(reason)));
-    ensure(missing.is_none(), format!("no example of a clash explained by {missing:?}"))
+    ensure(missing.is_none(), format!("no example of a clash explained by {missing:?}"))?;
+    let refuses_table = |extended: &Extended| matches!(extended, Extended::Document((_, SOURCE)));
+    let missing = Extended::all().find(|one| !refuses_table(one) && !extended.contains_key(one));
+    ensure(missing.is_none(), format!("no example of operations with {missing:?}"))?;
+    ensure(extended.keys().any(refuses_table), "no example of operations on a refused table")
 }
 
 /// The files of examples, and the documents of the page that they hold.
@@ -165,7 +174,9 @@ fn changed(line: &str, inside: Option<&str>) -> Vec<String> {
             return other_number(line).into_iter().chain(other_reason(line)).collect();
         }
         Some("case") if line.starts_with("heights: ") => other_number(line),
-        Some("case") if line.starts_with("output: ") => other_byte(line, "output: ".len(), 1),
+        Some("case") if line.starts_with("output: ") || line.starts_with("report: ") => {
+            other_byte(line, "output: ".len(), 1)
+        }
         Some("bytes") => {
             let offset = line.len() - line.trim_start().len() + line.trim_start().find(' ').unwrap_or(0);
             other_byte(line, offset, 1)
@@ -251,8 +262,64 @@ fn explanations_on_a_page_are_read() -> Result<(), Failure> {
         ("answer: none accepted 2", "room: 3\nanswer: none accepted 2"),
         ("answer: none accepted 2", "tree: 3F\nanswer: none accepted 2"),
     ];
-    let unnoticed = wrong.into_iter().find(|(right, other)| {
-        !EXPLAINING.contains(right) || check_page(&EXPLAINING.replacen(right, other, 1)).is_ok()
-    });
+    ensure_noticed(EXPLAINING, &wrong)
+}
+
+/// Fails where a part of a page is not there, or another one in its place is not
+/// noticed.
+fn ensure_noticed(page: &str, wrong: &[(&str, &str)]) -> Result<(), Failure> {
+    let unnoticed = wrong
+        .iter()
+        .find(|(right, other)| !page.contains(right) || check_page(&page.replacen(right, other, 1)).is_ok());
     ensure(unnoticed.is_none(), format!("{unnoticed:?} is not noticed"))
+}
+
+/// A page with operations on a table, accepted and refused.
+const EXTENDING: &str = "\
+```case
+name: lower
+entry: extend table
+table: 12 15 01 13 15 00 15 02 12 15 03 11 1F
+operations: 52 01 03
+answer: extended 15
+report: 04 03 00 09 02 00 06 02 00 06 01 00 03 00 04
+```
+
+```bytes
+lower.report (15 bytes)
+ 0 04       | four types
+ 1 03 00 09 | type 0 has height 3 and length 9
+ 4 02 00 06
+ 7 02 00 06
+10 01 00 03
+13 00 04    | a member was appended, and there are four types
+```
+
+```case
+like: lower
+entry: extend table
+operations: lower.operations 51
+room: 3
+answer: refused 2 11 3
+```
+";
+
+#[test]
+fn operations_on_a_page_are_read() -> Result<(), Failure> {
+    let seen = check_page(EXTENDING)?;
+    ensure(seen.extensions.total() == 2, "not two cases")?;
+    seen.extensions.finish("a page with operations")?;
+    let tried = try_changes(EXTENDING)?;
+    ensure(tried == 9, format!("{tried} changes tried"))?;
+    let wrong = [
+        ("extended 15", "accepted 15"),
+        ("extended 15", "carried 15 0"),
+        ("extended 15\nreport", "extended 15\noutput"),
+        ("extended 15", "extended 15\nheights: 3 2 2 1"),
+        ("operations: 52", "tree: 3F\noperations: 52"),
+        ("room: 3", "room: 3\nreport: 04"),
+        ("entry: extend table", "entry: judge table"),
+        ("entry: extend table", "entry: extend"),
+    ];
+    ensure_noticed(EXTENDING, &wrong)
 }

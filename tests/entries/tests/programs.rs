@@ -1,6 +1,7 @@
 //! The programs: `carry` and `bring` print the line of their answer, just as
-//! Rust formats it and by one write, and `cases` does so for each of its cases.
-//! They are looked for in the folder that LAFINDRY_PROGRAM_DIR names, else in
+//! Rust formats it and by one write, and `cases` does so for each of its cases;
+//! `extend` prints a line for each operation on a table and for each type. They
+//! are looked for in the folder that LAFINDRY_PROGRAM_DIR names, else in
 //! `target/bin`; both are taken from the root of the repository unless absolute.
 //! LAFINDRY_SEED sets another seed.
 
@@ -11,8 +12,10 @@ mod writes;
 
 use counts::Counts;
 use lafindry_entries::{ensure, report, Failure, Setting};
-use lafindry_reference::generate::{Rng, TableSize, World};
+use lafindry_reference::extension::{report as report_of, Kept};
+use lafindry_reference::generate::{random_extension, Rng, TableSize, World};
 use lafindry_reference::vectors::explanations::is_question;
+use lafindry_reference::vectors::operations::{self, is_row};
 use lafindry_reference::vectors::{is_skipped, parse_line, Answer, Case, Entry};
 use lafindry_reference::{Refusal, MOST_BYTES};
 use lines::{answer_to, at, case_of, place, program, Folder, Run, ENTRIES, FILES};
@@ -20,7 +23,7 @@ use seed::seed;
 use std::collections::{BTreeMap, BTreeSet};
 use std::fs::{self, File};
 use std::path::{Path, PathBuf};
-use std::process::Stdio;
+use std::process::{Command, Stdio};
 use writes::writes_of;
 
 /// How many cases of each answer are taken from a file of vectors.
@@ -28,12 +31,13 @@ const MOST_OF_EACH: usize = 4;
 
 /// The cases of carrying and bringing back of a file of vectors with their
 /// answers, at most [`MOST_OF_EACH`] of an entry with the same refusal of the
-/// same document. No program explains clashes.
+/// same document. No program explains clashes; rows of operations go to another
+/// one.
 fn some_vectors(path: &Path) -> Result<Vec<(Case, Answer)>, Failure> {
     let text = fs::read_to_string(path).map_err(at(path))?;
     let mut taken: BTreeMap<_, usize> = BTreeMap::new();
     let mut vectors = Vec::new();
-    for line in text.lines().filter(|line| !is_skipped(line) && !is_question(line)) {
+    for line in text.lines().filter(|line| !is_skipped(line) && !is_question(line) && !is_row(line)) {
         let (case, answer) = parse_line(line).map_err(|message| Failure(format!("{line}: {message}")))?;
         let refusal = match answer {
             Answer::Ok { .. } => (0, 0),
@@ -240,4 +244,80 @@ fn lines_of_worked_cases() -> Result<(), Failure> {
     ensure(writes == lines, format!("cases wrote {} lines by {} writes", lines.len(), writes.len()))?;
     report(&format!("lines of worked cases: {} agree", lines.len()));
     ensure(lines.len() >= 165, "too few lines")
+}
+
+/// The files that the program `extend` reads.
+const TABLE_AND_OPERATIONS: [&str; 2] = ["s1", "op"];
+
+/// The lines that it prints: for each operation the number of types or the
+/// refusal, then for each type what is kept of it; or the refusal of a document.
+fn lines_of_report([table, operations]: &[Vec<u8>; 2]) -> String {
+    match report_of(table, operations) {
+        Ok(report) => {
+            let answers = report.answers.iter().map(|answer| match answer {
+                Ok(types) => format!("types {types}\n"),
+                Err(refusal) => format!("{refusal}\n"),
+            });
+            let kept = report.kept.iter().map(|Kept { height, length }| format!("{height} {length}\n"));
+            answers.chain(kept).collect()
+        }
+        Err(refusal) => format!("{refusal}\n"),
+    }
+}
+
+/// Fails unless `extend` prints the lines of the reference's report, where the
+/// files of some documents are left out. Gives these lines.
+fn ensure_extends(folder: &Folder, documents: &[Vec<u8>; 2], left_out: &[usize]) -> Result<String, Failure> {
+    folder.put(&TABLE_AND_OPERATIONS, documents, left_out)?;
+    let given = [0, 1].map(|at| if left_out.contains(&at) { Vec::new() } else { documents[at].clone() });
+    let (lines, extend) = (lines_of_report(&given), program("extend")?);
+    let ended = Command::new(&extend).current_dir(folder.path()).output().map_err(at(&extend))?;
+    match ended.status.success() && ended.stdout == lines.as_bytes() {
+        true => Ok(lines),
+        false => Err(Failure(format!("{given:02x?}\nextend: {ended:?}\nnot {lines}"))),
+    }
+}
+
+/// Every third vector.
+#[test]
+fn lines_of_operations() -> Result<(), Failure> {
+    let (folder, path) = (Folder::new("operations")?, place("tests/data/n8.txt"));
+    let text = fs::read_to_string(&path).map_err(at(&path))?;
+    let (mut count, mut kinds) = (0, BTreeSet::new());
+    for line in text.lines().filter(|line| !is_skipped(line)).step_by(3) {
+        let (row, _) =
+            operations::parse_line(line).map_err(|message| Failure(format!("{line}: {message}")))?;
+        let lines = ensure_extends(&folder, &row.lent(0).documents, &[])?;
+        kinds.extend(lines.lines().filter_map(|line| line.strip_prefix("refused ")).map(str::to_string));
+        count += lines.lines().count();
+    }
+    report(&format!("lines of operations: {count}, refused: {kinds:?}"));
+    let refused = ["19 1 0", "2 1 0", "3 1 0", "4 1 0", "5 1 0", "6 1 0"].map(str::to_string);
+    ensure(kinds == refused.into(), "a refusal is missing")
+}
+
+/// Random rows of which some are damaged, files that aren't there, and as many
+/// operations as there may be.
+#[test]
+fn lines_of_damaged_operations() -> Result<(), Failure> {
+    let mut rng = Rng::new(seed().wrapping_add(1300));
+    let (folder, mut counts) = (Folder::new("damaged")?, Counts::default());
+    for _ in 0..150 {
+        let lines = ensure_extends(&folder, &random_extension(&mut rng).documents, &[])?;
+        let words: Vec<&str> = lines.split_whitespace().collect();
+        counts.add("refused tables", matches!(words[..], ["refused", _, "1", _]));
+        counts.add("refused operations", matches!(words[..], ["refused", _, "11", _]));
+        counts.add("with a refused operation", lines.contains(" 1 0\n"));
+        counts.add("with an accepted one", lines.contains("types "));
+    }
+    let documents = [vec![0x13, 0x15, 1, 0x15, 0, 0x11, 0x1F], vec![0x52, 0, 2, 0x51, 1, 0x10]];
+    for left_out in [&[][..], &[0], &[1], &[0, 1]] {
+        ensure_extends(&folder, &documents, left_out)?;
+    }
+    for length in [MOST_BYTES, MOST_BYTES + 1] {
+        let documents = [vec![0x11, 0x1F], [0x51, 0].repeat(MOST_BYTES)[..length].to_vec()];
+        let lines = ensure_extends(&folder, &documents, &[])?;
+        counts.add("too long", lines == "refused 1 11 0\n");
+    }
+    counts.finish("lines of damaged operations", 1)
 }

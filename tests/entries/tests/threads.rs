@@ -1,8 +1,12 @@
 //! Threads call the entries at once, with the same documents, each with an
 //! output and a stack of its own: every answer is the one that is stated.
 
-use lafindry_entries::{call, call_explain, ensure, read, read_explanation, report, Failure};
+use lafindry_entries::{
+    call, call_explain, call_extend, ensure, read, read_explanation, read_extension, report, Failure,
+};
+use lafindry_reference::extension::Report;
 use lafindry_reference::vectors::explanations::{self, Question, Stated};
+use lafindry_reference::vectors::operations::{self, Row};
 use lafindry_reference::vectors::{is_skipped, parse_line, Answer, Case, JUNK};
 use std::thread;
 
@@ -37,6 +41,18 @@ fn ask((question, stated): &(Question, Stated)) -> Result<(), Failure> {
     ensure(Stated::of(&explanation) == *stated, format!("{question} -> {explanation}\nstated: {stated}"))
 }
 
+/// Carries out the operations of a row.
+fn extend((row, stated): &(Row, Report)) -> Result<(), Failure> {
+    let written = stated.to_bytes();
+    let extension = row.lent(written.len() + 1);
+    let mut output = vec![JUNK; extension.output_length];
+    let answer = read_extension(call_extend(&extension.documents, &mut output), &output);
+    let answer = answer.map_err(|message| Failure(format!("{extension}: {message}")))?;
+    let expected = Answer::Ok { value: written.len() as u64, filler: 0, output: written };
+    let kept = expected.final_output(&vec![JUNK; extension.output_length]) == output;
+    ensure(answer == expected && kept, format!("{extension} -> {answer}\nstated: {expected}"))
+}
+
 /// Runs all lines of a kind, beginning in each thread with another one.
 fn run_from<T>(lines: &[T], thread: usize, run: fn(&T) -> Result<(), Failure>) -> Result<(), Failure> {
     let (before, behind) = lines.split_at(thread * lines.len() / THREADS);
@@ -47,13 +63,15 @@ fn run_from<T>(lines: &[T], thread: usize, run: fn(&T) -> Result<(), Failure>) -
 fn threads_at_once_agree() -> Result<(), Failure> {
     let cases = lines("base.txt", parse_line)?;
     let questions = lines("n9.txt", explanations::parse_line)?;
+    let rows = lines("n8.txt", operations::parse_line)?;
     let ended: Vec<Result<(), Failure>> = thread::scope(|scope| {
         let begin = |number: usize| {
-            let (cases, questions) = (&cases, &questions);
+            let (cases, questions, rows) = (&cases, &questions, &rows);
             let thread = thread::Builder::new().stack_size(STACK);
             thread.spawn_scoped(scope, move || {
                 run_from(cases, number, run_case)?;
-                run_from(questions, number, ask)
+                run_from(questions, number, ask)?;
+                run_from(rows, number, extend)
             })
         };
         let begun: Vec<_> = (0..THREADS).map(begin).collect();
@@ -64,7 +82,10 @@ fn threads_at_once_agree() -> Result<(), Failure> {
         begun.into_iter().map(end).collect()
     });
     let count = ended.into_iter().collect::<Result<Vec<()>, Failure>>()?.len();
-    let (cases, questions) = (cases.len(), questions.len());
-    report(&format!("{cases} cases and {questions} questions in each of {count} threads at once"));
-    ensure(count == THREADS && cases >= 3851 && questions >= 1013, "too few threads, cases or questions")
+    let lines = [cases.len(), questions.len(), rows.len()];
+    let [cases, questions, rows] = lines;
+    report(&format!(
+        "{cases} cases, {questions} questions and {rows} rows in each of {count} threads at once"
+    ));
+    ensure(count == THREADS && lines == [3851, 1013, 929], "too few threads or lines")
 }

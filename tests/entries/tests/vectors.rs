@@ -1,9 +1,9 @@
 //! The vector files agree with the C entries. Where they come from, a program
 //! written independently for most, is said at `lafindry_reference::vectors`.
 
-use lafindry_entries::{ensure, Explained, Explanations, Failure, Tally};
+use lafindry_entries::{ensure, Explained, Explanations, Extended, Extensions, Failure, Tally};
 use lafindry_reference::explanation::Reason;
-use lafindry_reference::vectors::{explanations, is_skipped, parse_line, Entry};
+use lafindry_reference::vectors::{explanations, is_skipped, operations, parse_line, Entry};
 
 /// Runs every line of a file under tests/data by a check.
 fn run_lines(name: &str, mut check: impl FnMut(&str) -> Result<(), Failure>) -> Result<(), Failure> {
@@ -80,4 +80,18 @@ fn explanation_vectors_agree() -> Result<(), Failure> {
     ensure(counts.values().sum::<usize>() == 1013, "n9.txt: not 1013 lines")?;
     let rare = Reason::ALL.into_iter().find(|&reason| !counts.contains_key(&Explained::Clash(reason)));
     ensure(rare.is_none(), format!("n9.txt: no clash because of {rare:?}"))
+}
+
+#[test]
+fn operation_vectors_agree() -> Result<(), Failure> {
+    let mut extensions = Extensions::default();
+    run_lines("n8.txt", |line| {
+        let (row, stated) = operations::parse_line(line).map_err(Failure)?;
+        extensions.compare_row_with(&row, &stated)
+    })?;
+    ensure(extensions.total() == 929, "n8.txt: not 929 lines")?;
+    let counts = extensions.finish("n8.txt")?;
+    let mut of_operations = Extended::all().filter(|extended| !matches!(extended, Extended::Document(_)));
+    let missing = of_operations.find(|extended| !counts.contains_key(extended));
+    ensure(missing.is_none(), format!("n8.txt: {missing:?} did not occur"))
 }

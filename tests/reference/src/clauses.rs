@@ -1,7 +1,8 @@
 //! Which clause about optional choices decides the answer to a case; in
 //! [`lists`], which clause about lists on the paths of choices; in
 //! [`characters`], which clause about characters; in [`clashes`], what the
-//! explanation of a clash shows.
+//! explanation of a clash shows; in [`operations`], what an operation on a table
+//! shows.
 //!
 //! A refusal is given a clause where the other clauses of the same check hold
 //! at the place that it marks, so that the clause is seen apart.
@@ -12,6 +13,7 @@ mod embeddings;
 mod images;
 pub mod lists;
 mod marked;
+pub mod operations;
 mod repair;
 
 use crate::embedding;

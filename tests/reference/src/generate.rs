@@ -20,6 +20,7 @@
 //! | [`bunches`] | paths of one source type with what they go through, some clashing |
 //! | [`clashes`] | clashing embeddings, and questions why they clash |
 //! | [`cases`] | an entry with all its documents |
+//! | [`operations`] | rows of operations on a table, and such rows as documents |
 
 pub mod bunches;
 pub mod cases;
@@ -27,6 +28,7 @@ pub mod clashes;
 pub mod damage;
 pub mod detours;
 pub mod embeddings;
+pub mod operations;
 pub mod tables;
 pub mod trees;
 
@@ -36,6 +38,7 @@ pub use cases::{
 };
 pub use clashes::{random_question, random_small_question};
 pub use embeddings::{random_embedded, Embedded};
+pub use operations::{random_extension, random_row, random_small_extension, random_small_row};
 pub use tables::{random_table, TableSize};
 pub use trees::{random_tree, Shape};
 

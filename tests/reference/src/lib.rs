@@ -1,7 +1,8 @@
 //! A reference for the five entries of paper 01, with the optional choices of
 //! paper 02 (N3), its lists on the paths of choices (N6) and its accents (N5),
-//! and for its explanation of clashing paths (N9), written from these papers and
-//! the lists of readings alone, in plain Rust.
+//! for its explanation of clashing paths (N9) and for its operations on a table
+//! (N8), written from these papers and the lists of readings alone, in plain
+//! Rust.
 //!
 //! | Entry | Function |
 //! |---|---|
@@ -11,6 +12,7 @@
 //! | carry | [`carry`] |
 //! | bring back | [`bring_back`] |
 //! | explain a clash | [`explain_clash`] |
+//! | extend a table | [`extend_table`] |
 //!
 //! Every function answers on arbitrary bytes. A refusal changes no byte of the
 //! output; an answer changes none after those it writes.
@@ -18,6 +20,7 @@
 pub mod clauses;
 pub mod embedding;
 pub mod explanation;
+pub mod extension;
 pub mod generate;
 pub mod image;
 pub mod inverse;
@@ -28,6 +31,7 @@ pub mod tree;
 pub mod vectors;
 
 pub use explanation::explain_clash;
+pub use extension::extend_table;
 
 use image::Mapping;
 
@@ -52,6 +56,8 @@ pub const EMBEDDING: u64 = 3;
 pub const TREE: u64 = 4;
 /// Document 5: the output.
 pub const OUTPUT: u64 = 5;
+/// Document 11: the operations on a table.
+pub const OPERATIONS: u64 = 11;
 
 /// An answer of refusal: number, document and mark, as paper 01 lists them.
 #[derive(Debug, Clone, Copy, PartialEq, Eq)]

@@ -10,29 +10,39 @@
 //!   from A0 to FF, spread over the answers and the clauses about characters.
 //! - `reference generate SEED COUNT clashes` prints small questions why paths
 //!   clash, spread over the reasons, the kinds of types and the other answers.
+//! - `reference generate SEED COUNT operations` prints small rows of operations
+//!   on a table, spread over what the last one shows, and small documents of
+//!   operations, spread over the answers.
 //! - `reference ENTRY FILE.. [OUTLEN]` runs one entry on documents in files.
 //! - `reference explain SOURCE TARGET EMBEDDING` says why paths clash, for
+//!   documents in files.
+//! - `reference extend TABLE OPERATIONS` carries out operations on a table, for
 //!   documents in files.
 
 use lafindry_reference::clauses::characters::{self, CharacterClause};
 use lafindry_reference::clauses::clashes::{self, ClashClause};
 use lafindry_reference::clauses::lists::{self, ListClause};
+use lafindry_reference::clauses::operations::{self as operation_clauses, OperationClause};
 use lafindry_reference::clauses::{self, Clause};
 use lafindry_reference::explanation::Explanation;
+use lafindry_reference::extension::{Operation, Report, MOST_REPORT};
 use lafindry_reference::generate::{
-    random_case, random_small_accented_case, random_small_case, random_small_listed_case,
-    random_small_optional_case, random_small_question, Rng,
+    random_case, random_small_accented_case, random_small_case, random_small_extension,
+    random_small_listed_case, random_small_optional_case, random_small_question, random_small_row, Rng,
 };
 use lafindry_reference::vectors::explanations::{self, is_question, Question, EXPLAIN};
+use lafindry_reference::vectors::operations::{self, is_extension, is_row, Extension, Row};
 use lafindry_reference::vectors::{check_line, is_skipped, Answer, Case, Entry};
+use lafindry_reference::Refusal;
 use std::collections::BTreeMap;
 use std::io::Write;
 use std::process::ExitCode;
 
 const USAGE: &str = "usage: reference vectors FILE..
-       reference generate SEED COUNT [small|optional|lists|accents|clashes]
+       reference generate SEED COUNT [small|optional|lists|accents|clashes|operations]
        reference ENTRY FILE.. [OUTLEN]
-       reference explain SOURCE TARGET EMBEDDING";
+       reference explain SOURCE TARGET EMBEDDING
+       reference extend TABLE OPERATIONS";
 
 fn main() -> ExitCode {
     let arguments: Vec<String> = std::env::args().skip(1).collect();
@@ -45,7 +55,9 @@ fn main() -> ExitCode {
         ["generate", seed, count, "lists"] => generate_spread(seed, count, LISTS),
         ["generate", seed, count, "accents"] => generate_spread(seed, count, ACCENTS),
         ["generate", seed, count, "clashes"] => generate_spread(seed, count, CLASHES),
+        ["generate", seed, count, "operations"] => generate_spread(seed, count, ON_TABLES),
         [EXPLAIN, source, target, embedding] => explain([source, target, embedding]),
+        ["extend", table, operations] => extend([table, operations]),
         [entry, ref files @ ..] => run_entry(entry, files),
         [] => Err(USAGE.to_string()),
     };
@@ -91,12 +103,30 @@ fn run_vectors(files: &[&str]) -> Result<bool, String> {
     Ok(failed == 0)
 }
 
-/// Runs a line of either form and gives the kind of its answer. The error says
-/// how they disagree.
+/// Runs a line of any form and gives the kind of its answer. The error says how
+/// they disagree.
 fn kind_of_line(line: &str) -> Result<Kind, String> {
-    match is_question(line) {
-        true => explanations::check_line(line).map(|(_, explanation)| explained_kind(&explanation)),
-        false => check_line(line).map(|(case, answer)| kind(&case, &answer)),
+    if is_question(line) {
+        explanations::check_line(line).map(|(_, explanation)| explained_kind(&explanation))
+    } else if is_row(line) {
+        operations::check_line(line).map(|(row, report)| row_kind(&row, &report))
+    } else if is_extension(line) {
+        operations::check_extension(line).map(|(_, answer)| extended_kind(&answer))
+    } else {
+        check_line(line).map(|(case, answer)| kind(&case, &answer))
+    }
+}
+
+/// The kind of the answer to the last operation of a row, after all others.
+fn row_kind(row: &Row, report: &Report) -> Kind {
+    let (place, name) = match row.operations.last() {
+        None => return (200, 0, "no operation".to_string()),
+        Some(Operation::AppendType(_)) => (200, "type"),
+        Some(Operation::AppendMember { .. }) => (300, "member"),
+    };
+    match report.answers.last() {
+        Some(Err(refusal)) => (place, refusal.number, format!("{name} refused {}", refusal.number)),
+        _ => (place, 1, format!("{name} ok")),
     }
 }
 
@@ -110,6 +140,16 @@ fn explained_kind(explanation: &Explanation) -> Kind {
         Explanation::Nothing(Err(refusal)) => {
             let (number, document) = (refusal.number, refusal.document);
             (101 + number, document, format!("none refused {number} {document}"))
+        }
+    }
+}
+
+/// The kind of the answer to operations as a document, after those to rows.
+fn extended_kind(answer: &Answer) -> Kind {
+    match answer {
+        Answer::Ok { .. } => (400, 0, "extended".to_string()),
+        Answer::Refused(Refusal { number, document, .. }) => {
+            (400 + number, *document, format!("not extended: refused {number} {document}"))
         }
     }
 }
@@ -174,6 +214,19 @@ fn drawn_question(question: Question) -> Result<Drawn<ClashClause>, String> {
     Ok(Drawn { line: format!("{question} -> {explanation}"), kind: explained_kind(&explanation), clause })
 }
 
+/// A row of operations, grouped by what the last one shows.
+fn drawn_row(row: Row) -> Result<Drawn<OperationClause>, String> {
+    let report = row.run().map_err(|refusal| refusal.to_string())?;
+    let clause = operation_clauses::shown(&row, &report).last().and_then(|shown| shown.last().copied());
+    Ok(Drawn { line: row.line(&report), kind: row_kind(&row, &report), clause })
+}
+
+/// Operations as a document.
+fn drawn_extension(extension: Extension) -> Result<Drawn<OperationClause>, String> {
+    let answer = extension.run()?;
+    Ok(Drawn { line: format!("{extension} -> {answer}"), kind: extended_kind(&answer), clause: None })
+}
+
 /// Those with an optional choice.
 const OPTIONAL: Spread<Clause> = Spread {
     word: "optional",
@@ -212,6 +265,19 @@ const CLASHES: Spread<ClashClause> = Spread {
 # reference's.",
     draw: |rng| drawn_question(random_small_question(rng)),
     clauses: &ClashClause::ALL,
+};
+
+/// Operations on a table, as rows and as documents.
+const ON_TABLES: Spread<OperationClause> = Spread {
+    word: "operations",
+    text: "random rows of operations on a table,
+# spread over what the last one shows, and such rows as documents, some damaged; the answers are
+# the reference's.",
+    draw: |rng| match rng.chance(75) {
+        true => drawn_row(random_small_row(rng)),
+        false => drawn_extension(random_small_extension(rng)),
+    },
+    clauses: &OperationClause::ALL,
 };
 
 /// Cases by the kind of their answer and by a clause that they show.
@@ -265,6 +331,14 @@ fn run_entry(name: &str, words: &[&str]) -> Result<bool, String> {
 fn explain(files: [&str; 3]) -> Result<bool, String> {
     let [source, target, embedding] = files.map(read);
     println!("{}", Question { documents: [source?, target?, embedding?] }.run());
+    Ok(true)
+}
+
+/// Carries out operations on a table, for documents in files.
+fn extend(files: [&str; 2]) -> Result<bool, String> {
+    let [table, operations] = files.map(read);
+    let extension = Extension { documents: [table?, operations?], output_length: MOST_REPORT };
+    println!("{}", extension.run()?);
     Ok(true)
 }
 

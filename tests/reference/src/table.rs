@@ -52,6 +52,20 @@ impl ContentModel {
     pub fn is_list(&self) -> bool {
         matches!(self, ContentModel::List(_))
     }
+
+    /// The commands of a type of this model.
+    pub fn to_bytes(&self) -> Vec<u8> {
+        let code = match self {
+            ContentModel::Text => 0x10,
+            ContentModel::Empty => 0x11,
+            ContentModel::Sequence(_) => 0x12,
+            ContentModel::Choice(_) => 0x13,
+            ContentModel::OptionalChoice(_) => 0x17,
+            ContentModel::List(item) => return vec![0x14, *item],
+        };
+        let members = self.named().iter().flat_map(|&member| [0x15, member]);
+        [code].into_iter().chain(members).collect()
+    }
 }
 
 /// A table. The root is type 0.
@@ -95,23 +109,8 @@ impl Table {
 
     /// The document of this table.
     pub fn to_bytes(&self) -> Vec<u8> {
-        let mut bytes = Vec::new();
-        for model in &self.types {
-            match model {
-                ContentModel::Text => bytes.push(0x10),
-                ContentModel::Empty => bytes.push(0x11),
-                ContentModel::Sequence(_) => bytes.push(0x12),
-                ContentModel::Choice(_) => bytes.push(0x13),
-                ContentModel::OptionalChoice(_) => bytes.push(0x17),
-                ContentModel::List(item) => {
-                    bytes.extend([0x14, *item]);
-                    continue;
-                }
-            }
-            model.named().iter().for_each(|&member| bytes.extend([0x15, member]));
-        }
-        bytes.push(0x1F);
-        bytes
+        let commands = self.types.iter().flat_map(ContentModel::to_bytes);
+        commands.chain([0x1F]).collect()
     }
 }
 
@@ -144,6 +143,14 @@ fn read(bytes: &[u8]) -> Result<Vec<Written>, usize> {
     }
     reader.end(0x1F)?;
     Ok(types)
+}
+
+/// The content model that some bytes write, if they are exactly one type's own
+/// commands.
+pub fn read_one(bytes: &[u8]) -> Option<ContentModel> {
+    let mut reader = Reader::new(bytes);
+    let written = read_type(&mut reader).ok()?;
+    reader.peek().is_none().then(|| model(&written))
 }
 
 /// Reads one type with its members.

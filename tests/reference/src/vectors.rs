@@ -6,15 +6,17 @@
 //! ```
 //!
 //! Documents and OUTPUT are in hexadecimal, `-` for no bytes. Lines that ask why
-//! paths clash have a form of their own, in [`explanations`].
+//! paths clash, and lines of operations on a table, have forms of their own, in
+//! [`explanations`] and [`operations`].
 //!
-//! The vectors of `tests/data`, `base.txt`, `n3.txt`, `n6.txt`, `n5.txt` and
-//! `n9.txt`, were computed by another program, written independently, from the
-//! papers alone. 10 of `base.txt` and 30 of `n3.txt` have the reference's answers
-//! since N6. The files `cases-*.txt` are worked cases, and cases that the
-//! reference made.
+//! The vectors of `tests/data`, `base.txt`, `n3.txt`, `n6.txt`, `n5.txt`,
+//! `n9.txt` and `n8.txt`, were computed by another program, written
+//! independently, from the papers alone. 10 of `base.txt` and 30 of `n3.txt`
+//! have the reference's answers since N6. The files `cases-*.txt` are worked
+//! cases, and cases that the reference made.
 
 pub mod explanations;
+pub mod operations;
 
 use crate::{bring_back, carry, judge_embedding, judge_table, judge_tree, Refusal};
 use std::fmt;
@@ -100,13 +102,7 @@ impl Case {
     /// Runs the reference on an output filled with [`JUNK`]. The error says
     /// that a byte of the output changed that should have been kept.
     pub fn run(&self) -> Result<Answer, String> {
-        let before = vec![JUNK; self.output_length];
-        let mut after = before.clone();
-        let answer = self.run_into(&mut after);
-        if answer.final_output(&before) != after {
-            return Err(format!("{}: the output changed beyond what is written", self.entry.name()));
-        }
-        Ok(answer)
+        run_on_junk(self.entry.name(), self.output_length, |output| self.run_into(output))
     }
 
     /// Runs the reference on a given output.
@@ -131,6 +127,22 @@ impl Case {
     }
 }
 
+/// Runs what has a name on an output filled with [`JUNK`]. The error says that a
+/// byte of the output changed that should have been kept.
+fn run_on_junk(
+    name: &str,
+    output_length: usize,
+    run: impl FnOnce(&mut [u8]) -> Answer,
+) -> Result<Answer, String> {
+    let before = vec![JUNK; output_length];
+    let mut after = before.clone();
+    let answer = run(&mut after);
+    match answer.final_output(&before) == after {
+        true => Ok(answer),
+        false => Err(format!("{name}: the output changed beyond what is written")),
+    }
+}
+
 impl fmt::Display for Case {
     fn fmt(&self, f: &mut fmt::Formatter) -> fmt::Result {
         write!(f, "{}", self.entry.name())?;
@@ -148,10 +160,15 @@ impl fmt::Display for Answer {
     fn fmt(&self, f: &mut fmt::Formatter) -> fmt::Result {
         match self {
             Answer::Ok { value, filler, output } => write!(f, "ok {value} {filler} {}", to_hex(output)),
-            Answer::Refused(Refusal { number, document, mark }) => {
-                write!(f, "refused {number} {document} {mark}")
-            }
+            Answer::Refused(refusal) => refusal.fmt(f),
         }
+    }
+}
+
+impl fmt::Display for Refusal {
+    fn fmt(&self, f: &mut fmt::Formatter) -> fmt::Result {
+        let Refusal { number, document, mark } = self;
+        write!(f, "refused {number} {document} {mark}")
     }
 }
 
@@ -209,12 +226,20 @@ fn parse_answer(text: &str) -> Result<Answer, String> {
             filler: parse_number(filler)?,
             output: from_hex(output)?,
         }),
-        ["refused", number, document, mark] => Ok(Answer::Refused(Refusal {
+        ["refused", ref numbers @ ..] => Ok(Answer::Refused(parse_refusal(numbers)?)),
+        _ => Err("no such answer".to_string()),
+    }
+}
+
+/// Reads the numbers of a refusal.
+fn parse_refusal(words: &[&str]) -> Result<Refusal, String> {
+    match *words {
+        [number, document, mark] => Ok(Refusal {
             number: parse_number(number)?,
             document: parse_number(document)?,
             mark: parse_number(mark)?,
-        })),
-        _ => Err("no such answer".to_string()),
+        }),
+        _ => Err("not three numbers of a refusal".to_string()),
     }
 }
 

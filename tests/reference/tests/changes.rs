@@ -1,12 +1,15 @@
 //! The stored tallies with which the C tests compare their own: what the
-//! reference answers when one byte of one of the patch's documents takes each
-//! other value.
+//! reference answers when one byte of one of the patch's documents, of a table or
+//! of operations on it takes each other value.
 
-use lafindry_reference::vectors::{Answer, Case, Entry};
+use lafindry_reference::vectors::operations::Extension;
+use lafindry_reference::vectors::{from_hex, Answer, Case, Entry};
 use std::collections::BTreeMap;
 
-/// The length of output that the C tests lend with changed documents.
+/// The length of output that the C tests lend with changed documents, and with a
+/// changed table or changed operations.
 const ROOM: usize = 22;
+const REPORT_ROOM: usize = 33;
 
 /// The bytes of a file of the repository.
 fn read(name: &str) -> Vec<u8> {
@@ -67,15 +70,24 @@ fn places() -> Vec<(&'static str, Case, usize)> {
     places
 }
 
-/// The tally of all changes of one byte of a document, as an initializer in C.
-fn tally(name: &str, patch: &Case, at: usize) -> String {
+/// The table and the operations of the C tests.
+fn operated() -> Extension {
+    let table = "1215011315001502121503111f";
+    let operations = "520103 51051715011504 520403 520003 5100 520103 5103121505 520105";
+    let hex = |text: &str| from_hex(&text.replace(' ', "")).expect("hexadecimal");
+    Extension { documents: [hex(table), hex(operations)], output_length: REPORT_ROOM }
+}
+
+/// The tally of all changes of one byte of a document, given what answers to each,
+/// as an initializer in C.
+fn tally(name: &str, document: &[u8], answer: impl Fn(Vec<u8>) -> Result<Answer, String>) -> String {
     let mut counts: BTreeMap<(u64, u64), u64> = BTreeMap::new();
     let [mut marks, mut values, mut fillers, mut bytes] = [0; 4];
-    let offsets = 0..patch.documents[at].len();
+    let offsets = 0..document.len();
     for (offset, change) in offsets.flat_map(|offset| (1..=0xFF).map(move |change| (offset, change))) {
-        let mut case = patch.clone();
-        case.documents[at][offset] ^= change;
-        match case.run().expect("the output is kept") {
+        let mut changed = document.to_vec();
+        changed[offset] ^= change;
+        match answer(changed).expect("the output is kept") {
             Answer::Ok { value, filler, output } => {
                 *counts.entry((0, 0)).or_default() += 1;
                 values += value;
@@ -96,9 +108,29 @@ fn tally(name: &str, patch: &Case, at: usize) -> String {
     )
 }
 
+/// The tally of a place of the patch.
+fn tally_of_patch((name, patch, at): (&str, Case, usize)) -> String {
+    tally(name, &patch.documents[at], |changed| {
+        let mut case = patch.clone();
+        case.documents[at] = changed;
+        case.run()
+    })
+}
+
+/// The tally of a place of the table and its operations.
+fn tally_of_operated((name, at): (&str, usize)) -> String {
+    tally(name, &operated().documents[at], |changed| {
+        let mut extension = operated();
+        extension.documents[at] = changed;
+        extension.run()
+    })
+}
+
 #[test]
 fn stored_tallies_are_the_references() {
-    let text: String = places().iter().map(|(name, patch, at)| tally(name, patch, *at)).collect();
+    let of_patch = places().into_iter().map(tally_of_patch);
+    let of_operated = [("extend, table", 0), ("extend, operations", 1)].map(tally_of_operated);
+    let text: String = of_patch.chain(of_operated).collect();
     let stored = String::from_utf8(read("tests/c/changes.inc")).expect("text");
     assert!(text == stored, "tests/c/changes.inc should be:\n{text}");
 }

@@ -1,14 +1,15 @@
 //! The clauses about optional choices, those about lists on the paths of
-//! choices, those about characters and what explanations of clashes show are
-//! told apart as they should be: cases worked by hand, each with its answer and
-//! what it shows.
+//! choices, those about characters, what explanations of clashes show and what
+//! operations on tables show are told apart as they should be: cases worked by
+//! hand, each with its answer and what it shows.
 
 use lafindry_reference::clauses::characters::{self, has_accent, is_tree_judged, CharacterClause};
 use lafindry_reference::clauses::clashes::{self, ClashClause};
 use lafindry_reference::clauses::lists::{self, has_list_on_choice, ListClause};
+use lafindry_reference::clauses::operations::{self as operation_clauses, OperationClause};
 use lafindry_reference::clauses::{has_optional, shown, Clause};
 use lafindry_reference::vectors::check_line;
-use lafindry_reference::vectors::explanations;
+use lafindry_reference::vectors::{explanations, operations};
 
 /// An optional choice of a text and an empty type, and a needed one.
 const OPTIONAL: &str = "171501150210111f";
@@ -519,4 +520,143 @@ fn lists_on_clashing_paths() {
     let both = [optional, "14011715021403111f", "2000212201220121220122012201200220032f"];
     let shows = [ClashClause::OptionalEarlierBegins, ClashClause::ListShared, ClashClause::ListBehind];
     assert_explains(both, "clash 0 1 2 2 earlier-begins-later", &shows);
+}
+
+/// Asserts a row of operations and what its last one shows.
+fn assert_last(line: &str, clauses: &[OperationClause]) {
+    let (row, report) = operations::check_line(line).unwrap_or_else(|message| panic!("{line}: {message}"));
+    assert_eq!(operation_clauses::shown(&row, &report).last().unwrap(), clauses, "{line}");
+}
+
+/// Asserts an operation on a table of one empty type that appends a type.
+fn assert_type(commands: &str, answer: &str, kept: &str, clauses: &[OperationClause]) {
+    assert_last(&format!("keep 111f | type {commands} -> {answer} | kept 1/3{kept}"), clauses);
+}
+
+#[test]
+fn types_of_each_kind() {
+    assert_type("10", "ok 2", " 1/3", &[OperationClause::Text]);
+    assert_type("11", "ok 2", " 1/3", &[OperationClause::Empty]);
+    assert_type("1400", "ok 2", " 1/3", &[OperationClause::List]);
+    assert_type("121500", "ok 2", " 2/6", &[OperationClause::Sequence]);
+    assert_type("171500", "ok 2", " 1/3", &[OperationClause::OptionalChoice]);
+    let itself = OperationClause::NamesItself;
+    assert_type("1315011500", "ok 2", " 2/6", &[OperationClause::Choice, itself]);
+    assert_type("171501", "ok 2", " 1/3", &[OperationClause::OptionalChoice, itself]);
+    let (table, kept) = ("11".repeat(63), " 1/3".repeat(64));
+    let last = [OperationClause::Text, OperationClause::LastType];
+    assert_last(&format!("keep {table}1f | type 10 -> ok 64 | kept{kept}"), &last);
+    // A tower of four sequences of 16 and an empty type.
+    let tower: String = (1..5).map(|next| format!("12{}", format!("15{next:02x}").repeat(16))).collect();
+    let kept = "5/60001 4/13107 3/819 2/51 1/3";
+    let held = [OperationClause::Sequence, OperationClause::HeldType];
+    assert_last(&format!("keep {tower}111f | type 121500 -> ok 6 | kept {kept} 6/60001"), &held);
+}
+
+#[test]
+fn refused_types() {
+    assert_type("-", "refused 2 1 0", "", &[OperationClause::NotOneType]);
+    assert_type("1111", "refused 2 1 0", "", &[OperationClause::NotOneType]);
+    let too_many = |operand: &str| format!("12{}", operand.repeat(17));
+    assert_type(&too_many("1500"), "refused 3 1 0", "", &[OperationClause::TypeOfTooMany]);
+    let both = [OperationClause::TypeOfTooMany, OperationClause::LimitFirst];
+    assert_type(&too_many("1502"), "refused 3 1 0", "", &both);
+    let (table, kept) = ("11".repeat(64), " 1/3".repeat(64));
+    let more = |operand: &str| format!("keep {table}1f | type 14{operand} -> refused 3 1 0 | kept{kept}");
+    assert_last(&more("40"), &[OperationClause::OneTypeMore]);
+    assert_last(&more("41"), &[OperationClause::OneTypeMore, OperationClause::LimitFirst]);
+    assert_type("1402", "refused 4 1 0", "", &[OperationClause::NoSuchType]);
+    let both = [OperationClause::NoSuchType, OperationClause::OperandFirst];
+    assert_type("1715021502", "refused 4 1 0", "", &both);
+    assert_type("1315001500", "refused 5 1 0", "", &[OperationClause::RepeatedType]);
+    let both = [OperationClause::RepeatedType, OperationClause::RepeatFirst];
+    assert_type("1315011501", "refused 5 1 0", "", &both);
+    assert_type("1215001501", "refused 6 1 0", "", &[OperationClause::NoInstance]);
+}
+
+#[test]
+fn refused_members() {
+    let refused = |extended: u8, member: u8, number: u8, clauses: &[OperationClause]| {
+        let (table, kept) = ("1315011502121502111f", "2/6 2/6 1/3");
+        let line = format!("keep {table} | member {extended} {member} -> refused {number} 1 0 | kept {kept}");
+        assert_last(&line, clauses);
+    };
+    refused(3, 0, 19, &[OperationClause::NothingToExtend]);
+    refused(3, 3, 19, &[OperationClause::NothingToExtend, OperationClause::ChoiceFirst]);
+    refused(1, 0, 19, &[OperationClause::NoChoice]);
+    refused(2, 255, 19, &[OperationClause::NoChoice, OperationClause::ChoiceFirst]);
+    refused(0, 3, 4, &[OperationClause::NoSuchMember]);
+    refused(0, 1, 5, &[OperationClause::RepeatedMember]);
+    let members: String = (1..=16).map(|member| format!("15{member:02x}")).collect();
+    let (table, kept) = (format!("13{members}{}", "11".repeat(16)), " 1/3".repeat(16));
+    let full = |member: u8| format!("keep {table}1f | member 0 {member} -> refused 3 1 0 | kept 2/6{kept}");
+    assert_last(&full(1), &[OperationClause::OneMemberMore]);
+    assert_last(&full(17), &[OperationClause::OneMemberMore, OperationClause::LimitFirst]);
+}
+
+#[test]
+fn members_that_move_nothing() {
+    let table = "131501150211101f";
+    let itself = [OperationClause::HigherMember, OperationClause::Itself];
+    assert_last(&format!("keep {table} | member 0 0 -> ok 3 | kept 2/6 1/3 1/3"), &itself);
+    let optional = "1715011111".to_string();
+    assert_last(
+        &format!("keep {optional}1f | member 0 2 -> ok 3 | kept 1/3 1/3 1/3"),
+        &[OperationClause::OptionalMember],
+    );
+    let members: String = (1..=15).map(|member| format!("15{member:02x}")).collect();
+    let (table, kept) = (format!("13{members}{}", "11".repeat(16)), " 1/3".repeat(16));
+    let last = [OperationClause::HigherMember, OperationClause::LastMember];
+    assert_last(&format!("keep {table}1f | member 0 16 -> ok 17 | kept 2/6{kept}"), &last);
+}
+
+/// The first two are examples of the list of readings.
+#[test]
+fn members_that_move_numbers() {
+    let lower = OperationClause::LowerMember;
+    assert_last(
+        "keep 1215011315001502121503111f | member 1 3 -> ok 4 | kept 3/9 2/6 2/6 1/3",
+        &[lower, OperationClause::MovedAbove, OperationClause::BothFall],
+    );
+    assert_last(
+        "keep 131501150412150215061315031501121507121505121506111215061f | member 2 6 -> ok 8 | \
+         kept 4/15 3/12 2/6 3/9 3/9 2/6 1/3 2/6",
+        &[lower, OperationClause::MovedAbove, OperationClause::BothFall, OperationClause::OnlyLengthGrows],
+    );
+    // The new member of the choice 0 holds two elements, the old ones three.
+    assert_last(
+        "keep 1315011500121502121503111215031f | member 0 4 -> ok 5 | kept 3/9 3/9 2/6 1/3 2/6",
+        &[lower, OperationClause::MovedAlone, OperationClause::BothFall],
+    );
+    // It holds as many elements, on fewer levels; then more.
+    let narrow = "13150115001215021215031112";
+    assert_last(
+        &format!("keep {narrow}150315031f | member 0 4 -> ok 5 | kept 3/12 3/9 2/6 1/3 2/9"),
+        &[lower, OperationClause::MovedAlone, OperationClause::LengthStays],
+    );
+    assert_last(
+        &format!("keep {narrow}1503150315031f | member 0 4 -> ok 5 | kept 3/15 3/9 2/6 1/3 2/12"),
+        &[lower, OperationClause::MovedAlone, OperationClause::LengthGrows],
+    );
+}
+
+/// The choice 0 of a tower of sequences of 16, and one that takes the tower where
+/// it had a higher chain.
+#[test]
+fn held_lengths() {
+    let tower = |first: usize| -> String {
+        (first..first + 4).map(|next| format!("12{}", format!("15{next:02x}").repeat(16))).collect()
+    };
+    let lower = OperationClause::LowerMember;
+    let kept = "5/60001 4/13107 3/819 2/51 1/3";
+    assert_last(
+        &format!("keep 1315011500{}111f | member 0 5 -> ok 6 | kept 2/6 {kept}", tower(2)),
+        &[lower, OperationClause::MovedAlone, OperationClause::BothFall, OperationClause::HeldComesDown],
+    );
+    let chain: String = (2..8).map(|next| format!("1215{next:02x}")).collect();
+    let kept = "7/21 6/18 5/15 4/12 3/9 2/6 1/3 5/60001 4/13107 3/819 2/51 1/3";
+    assert_last(
+        &format!("keep 1315011500{chain}11{}111f | member 0 8 -> ok 13 | kept 6/60001 {kept}", tower(9)),
+        &[lower, OperationClause::MovedAlone, OperationClause::LengthGrows, OperationClause::ComesToBeHeld],
+    );
 }

@@ -1,8 +1,11 @@
 //! The vector files agree with the reference, and lines are read as written.
 //! Where they come from is said at `lafindry_reference::vectors`.
 
-use lafindry_reference::generate::{random_small_case, random_small_question, Rng};
+use lafindry_reference::generate::{
+    random_extension, random_row, random_small_case, random_small_question, Rng,
+};
 use lafindry_reference::vectors::explanations::{self, is_question, Stated};
+use lafindry_reference::vectors::operations::{self, is_extension, is_row};
 use lafindry_reference::vectors::{check_line, from_hex, is_skipped, parse_line, to_hex};
 
 /// Runs every line of a file under tests/data.
@@ -109,6 +112,77 @@ fn wrong_explanations_are_errors() {
     ];
     for line in lines {
         assert!(explanations::parse_line(&line).is_err(), "{line}");
+    }
+}
+
+#[test]
+fn operation_vectors_agree() {
+    let lines = run_lines("n8.txt", |line| {
+        assert!(is_row(line));
+        operations::check_line(line).map(|_| ())
+    });
+    assert_eq!(lines, 929);
+}
+
+#[test]
+fn a_printed_row_is_read_back() {
+    let mut rng = Rng::new(13);
+    for _ in 0..500 {
+        let row = random_row(&mut rng);
+        let report = row.run().unwrap();
+        let line = row.line(&report);
+        assert!(is_row(&line));
+        assert_eq!(operations::parse_line(&line), Ok((row, report)));
+        let extension = random_extension(&mut rng);
+        let answer = extension.run().unwrap();
+        let line = format!("{extension} -> {answer}");
+        assert!(is_extension(&line));
+        assert_eq!(operations::parse_extension(&line), Ok((extension, answer)));
+    }
+}
+
+#[test]
+fn wrong_rows_are_errors() {
+    let row = "keep 1315011502121502111f | member 0 0 -> ok 3 | type - -> refused 2 1 0";
+    assert!(operations::check_line(&format!("{row} | kept 2/6 2/6 1/3")).is_ok());
+    let wrong = [
+        format!("{row} | kept 2/6 2/6 1/6"),
+        format!("{row} | kept 2/6 3/6 1/3"),
+        format!("{row} | kept 2/6 2/6"),
+        format!("{row} | kept 2/6 2/6 1/3 1/3"),
+        format!("{} | kept 2/6 2/6 1/3", row.replace("ok 3", "ok 4")),
+        format!("{} | kept 2/6 2/6 1/3", row.replace("refused 2 1 0", "refused 3 1 0")),
+        format!("{} | kept 2/6 2/6 1/3", row.replace("refused 2 1 0", "refused 2 1 1")),
+        format!("{} | kept 2/6 2/6 1/3", row.replace("1f |", " |")),
+    ];
+    for line in wrong {
+        assert!(operations::parse_line(&line).is_ok() && operations::check_line(&line).is_err(), "{line}");
+    }
+    let lines = [
+        String::new(),
+        row.to_string(),
+        format!("{row} | kept"),
+        format!("{row} | kept 2 2 1"),
+        format!("{row} | 2/6 2/6 1/3"),
+        format!("{} | kept 2/6 2/6 1/3", row.replace("keep", "explain")),
+        format!("{} | kept 2/6 2/6 1/3", row.replace("member 0 0", "member 0")),
+        format!("{} | kept 2/6 2/6 1/3", row.replace("member 0 0", "member 0 256")),
+        format!("{} | kept 2/6 2/6 1/3", row.replace("type -", "type 1")),
+        format!("{} | kept 2/6 2/6 1/3", row.replace("ok 3", "ok")),
+        format!("{} | kept 2/6 2/6 1/3", row.replace("2 1 0", "2 1")),
+        format!("{} | kept 2/6 2/6 1/3", row.replace("-> refused 2 1 0", "refused 2 1 0")),
+    ];
+    for line in lines {
+        assert!(operations::parse_line(&line).is_err(), "{line}");
+    }
+}
+
+#[test]
+fn wrong_extensions_are_errors() {
+    let extension = "extend_table 111f 5101 9 -> refused 2 11 0";
+    assert!(operations::check_extension(extension).is_ok());
+    for (right, other) in [("2 11 0", "2 11 1"), (" 9", ""), ("extend_table", "carry"), ("->", "")] {
+        assert!(operations::check_extension(&extension.replace(right, other)).is_err(), "{other}");
     }
 }
 

@@ -4,7 +4,7 @@ use crate::writes::writes_of;
 use lafindry_entries::{ensure, refused_by, report, Failure, Histogram, Refused, Setting, Tally};
 use lafindry_reference::generate::cases::Made;
 use lafindry_reference::vectors::{Answer, Case, Entry};
-use lafindry_reference::{Refusal, MOST_BYTES};
+use lafindry_reference::MOST_BYTES;
 use std::collections::BTreeSet;
 use std::path::{Path, PathBuf};
 use std::process::Stdio;
@@ -40,9 +40,7 @@ fn line_of(entry: Entry, answer: &Answer) -> String {
     match answer {
         Answer::Ok { value, filler, .. } if entry == Entry::Carry => format!("carried {value} {filler}\n"),
         Answer::Ok { value, .. } => format!("brought {value}\n"),
-        Answer::Refused(Refusal { number, document, mark }) => {
-            format!("refused {number} {document} {mark}\n")
-        }
+        Answer::Refused(refusal) => format!("{refusal}\n"),
     }
 }
 
@@ -84,11 +82,11 @@ impl Folder {
         &self.0
     }
 
-    /// Writes documents into the files that the programs read; those that are
-    /// left out are not there.
-    fn put(&self, documents: &[Vec<u8>], left_out: &[usize]) -> Result<(), Failure> {
+    /// Writes documents into files that a program reads; those that are left out
+    /// are not there.
+    pub fn put(&self, files: &[&str], documents: &[Vec<u8>], left_out: &[usize]) -> Result<(), Failure> {
         for (number, document) in documents.iter().enumerate() {
-            let path = self.0.join(FILES[number]);
+            let path = self.0.join(files[number]);
             match left_out.contains(&number) {
                 true if path.exists() => fs::remove_file(&path),
                 true => Ok(()),
@@ -131,7 +129,7 @@ impl Run {
         case: &Case,
         answer: &Answer,
     ) -> Result<(), Failure> {
-        self.folder.put(&case.documents, left_out)?;
+        self.folder.put(&FILES, &case.documents, left_out)?;
         let name = if case.entry == Entry::Carry { "carry" } else { "bring" };
         let line = line_of(case.entry, answer);
         let writes = writes_of(&program(name)?, self.folder.path(), Stdio::null())?;

@@ -7,11 +7,12 @@
 //! |---|---|
 //! | `name` | the case's name; its documents are then `name.source` and so on |
 //! | `like` | an earlier case, which the documents not stated are taken from |
-//! | `entry` | `judge table`, `judge embedding`, `judge tree`, `carry`, `bring back` or `explain clash` |
-//! | `table`, `source`, `target`, `embedding`, `tree` | a document, see [`terms`](super::terms) |
+//! | `entry` | `judge table`, `judge embedding`, `judge tree`, `carry`, `bring back`, `explain clash` or `extend table` |
+//! | `table`, `source`, `target`, `embedding`, `tree`, `operations` | a document, see [`terms`](super::terms) |
 //! | `room` | length of the lent output; 60,000 where it is not stated |
-//! | `answer` | `accepted N`, `carried LENGTH FILLER`, `brought LENGTH` or `refused NUMBER DOCUMENT MARK` |
+//! | `answer` | `accepted N`, `carried LENGTH FILLER`, `brought LENGTH`, `extended LENGTH` or `refused NUMBER DOCUMENT MARK` |
 //! | `output` | the document written; stated where one is written |
+//! | `report` | the report written; stated where one is written |
 //! | `heights` | heights of the target table's types, in order |
 //!
 //! The answer of `explain clash` is `clash TYPE EARLIER LATER SHARED REASON`, with
@@ -22,14 +23,17 @@ use super::terms::{bytes_of, Named};
 use super::{Block, Line, Page};
 use lafindry_entries::Failure;
 use lafindry_reference::vectors::explanations::{parse_stated, Question, Stated};
+use lafindry_reference::vectors::operations::Extension;
 use lafindry_reference::vectors::{Answer, Case, Entry};
 use lafindry_reference::{Refusal, MOST_BYTES};
 use std::collections::BTreeMap;
 
 /// The keys that name documents which an entry is given.
-const DOCUMENTS: [&str; 5] = ["table", "source", "target", "embedding", "tree"];
+const DOCUMENTS: [&str; 6] = ["table", "source", "target", "embedding", "tree", "operations"];
 /// The other keys.
-const OTHERS: [&str; 7] = ["name", "like", "entry", "room", "answer", "output", "heights"];
+const OTHERS: [&str; 8] = ["name", "like", "entry", "room", "answer", "output", "report", "heights"];
+/// Those of them whose values are bytes.
+const WRITTEN: [&str; 2] = ["output", "report"];
 
 /// A case of the page.
 pub struct Example<'a> {
@@ -43,6 +47,7 @@ pub struct Example<'a> {
 pub enum Asked {
     Entry { case: Case, answer: Answer, heights: Option<Vec<u64>> },
     Explanation { question: Question, stated: Stated },
+    Extension { extension: Extension, answer: Answer },
 }
 
 impl Example<'_> {
@@ -51,14 +56,16 @@ impl Example<'_> {
         match &self.asked {
             Asked::Entry { case, .. } => &case.documents,
             Asked::Explanation { question, .. } => &question.documents,
+            Asked::Extension { extension, .. } => &extension.documents,
         }
     }
 
-    /// The answer of an entry that accepts: the document written, empty where none
-    /// is, and the number of filler elements.
+    /// The answer where something is accepted, but for an explanation: what is
+    /// written, empty where nothing is, and the number of filler elements.
     pub fn accepted(&self) -> Option<(&Vec<u8>, u64)> {
         match &self.asked {
-            Asked::Entry { answer: Answer::Ok { output, filler, .. }, .. } => Some((output, *filler)),
+            Asked::Entry { answer: Answer::Ok { output, filler, .. }, .. }
+            | Asked::Extension { answer: Answer::Ok { output, filler, .. }, .. } => Some((output, *filler)),
             _ => None,
         }
     }
@@ -116,12 +123,13 @@ impl<'a> Examples<'a> {
         let asked = match called {
             Called::Entry(entry) => fields.of_entry(entry, documents, &self.named)?,
             Called::Explain => fields.of_explanation(documents)?,
+            Called::Extend => fields.of_extension(documents, &self.named)?,
         };
         let example = Example { line: block.opening, name, asked };
         if let Some(name) = name {
             self.named.extend(given.map(|(key, bytes)| (format!("{name}.{key}"), bytes)));
-            if let Some((output, _)) = example.accepted() {
-                self.named.insert(format!("{name}.output"), output.clone());
+            if let (Some((output, _)), Some(key)) = (example.accepted(), called.written()) {
+                self.named.insert(format!("{name}.{key}"), output.clone());
             }
         }
         self.all.push(example);
@@ -129,25 +137,28 @@ impl<'a> Examples<'a> {
     }
 }
 
-/// What a case calls: an entry, or the explanation of a clash.
+/// What a case calls: an entry, the explanation of a clash, or operations on a
+/// table.
 #[derive(Debug, Clone, Copy, PartialEq, Eq)]
 enum Called {
     Entry(Entry),
     Explain,
+    Extend,
 }
 
 impl Called {
     /// What has a name on the page.
     fn of(text: &str) -> Option<Called> {
-        let mut all = Entry::ALL.into_iter().map(Called::Entry).chain([Called::Explain]);
+        let mut all = Entry::ALL.into_iter().map(Called::Entry).chain([Called::Explain, Called::Extend]);
         all.find(|called| called.title() == text)
     }
 
     /// The name that the page has for it.
     fn title(self) -> String {
         match self {
-            Called::Entry(entry) => title(entry),
+            Called::Entry(entry) => entry.name().replace('_', " "),
             Called::Explain => "explain clash".to_string(),
+            Called::Extend => "extend table".to_string(),
         }
     }
 
@@ -158,18 +169,18 @@ impl Called {
             Called::Entry(Entry::JudgeTree) => vec!["table", "tree"],
             Called::Entry(Entry::JudgeEmbedding) | Called::Explain => vec!["source", "target", "embedding"],
             Called::Entry(Entry::Carry | Entry::BringBack) => vec!["source", "target", "embedding", "tree"],
+            Called::Extend => vec!["table", "operations"],
         }
     }
 
-    /// Whether it is lent an output.
-    fn writes(self) -> bool {
-        matches!(self, Called::Entry(entry) if entry.writes())
+    /// The key of what it writes, if it is lent an output.
+    fn written(self) -> Option<&'static str> {
+        match self {
+            Called::Entry(entry) => entry.writes().then_some("output"),
+            Called::Explain => None,
+            Called::Extend => Some("report"),
+        }
     }
-}
-
-/// The name that the page has for an entry.
-fn title(entry: Entry) -> String {
-    entry.name().replace('_', " ")
 }
 
 /// Reads a number.
@@ -191,7 +202,7 @@ impl<'a> Fields<'a> {
         let mut last = None;
         for &line in &block.lines {
             if line.text.starts_with(' ') {
-                let document = last.filter(|key| DOCUMENTS.contains(key) || *key == "output");
+                let document = last.filter(|key| DOCUMENTS.contains(key) || WRITTEN.contains(key));
                 let value: Option<&mut (Line, String)> = document.and_then(|key| values.get_mut(key));
                 let value =
                     value.ok_or_else(|| line.fault("no document stands above that this goes on with"))?;
@@ -230,7 +241,8 @@ impl<'a> Fields<'a> {
     /// Fails where a value is stated that what is called does not use.
     fn only(&self, keys: &[&str], called: Called) -> Result<(), Failure> {
         let unused = |key: &str| match key {
-            "room" | "output" => !called.writes(),
+            "room" => called.written().is_none(),
+            "output" | "report" => called.written() != Some(key),
             "heights" => !keys.contains(&"target") || called == Called::Explain,
             _ => DOCUMENTS.contains(&key) && !keys.contains(&key),
         };
@@ -242,14 +254,22 @@ impl<'a> Fields<'a> {
 
     /// The case of an entry, with its answer.
     fn of_entry(&self, entry: Entry, documents: Vec<Vec<u8>>, named: &Named) -> Result<Asked, Failure> {
-        let output_length = match (entry.writes(), self.get("room")) {
-            (false, _) => 0,
-            (true, None) => MOST_BYTES,
-            (true, Some((line, text))) => number(line, text)? as usize,
-        };
-        let answer = self.answer(entry, named)?;
+        let output_length = if entry.writes() { self.room()? } else { 0 };
+        let answer = self.answer(Called::Entry(entry), named)?;
         let heights = self.heights()?;
         Ok(Asked::Entry { case: Case { entry, documents, output_length }, answer, heights })
+    }
+
+    /// Operations on a table, with their answer.
+    fn of_extension(&self, documents: Vec<Vec<u8>>, named: &Named) -> Result<Asked, Failure> {
+        let documents = documents.try_into().map_err(|_| self.opening.fault("two documents are needed"))?;
+        let extension = Extension { documents, output_length: self.room()? };
+        Ok(Asked::Extension { extension, answer: self.answer(Called::Extend, named)? })
+    }
+
+    /// The length of the lent output.
+    fn room(&self) -> Result<usize, Failure> {
+        self.get("room").map_or(Ok(MOST_BYTES), |(line, text)| Ok(number(line, text)? as usize))
     }
 
     /// The question why paths clash, with what is stated. What a line of a vector
@@ -288,32 +308,32 @@ impl<'a> Fields<'a> {
         }
     }
 
-    /// The answer, with the document written where one is.
-    fn answer(&self, entry: Entry, named: &Named) -> Result<Answer, Failure> {
+    /// The answer, with what is written where something is.
+    fn answer(&self, called: Called, named: &Named) -> Result<Answer, Failure> {
         let (line, text) = self.needed("answer")?;
         let words: Vec<&str> = text.split(' ').collect();
         let numbers = words[1..].iter().map(|word| number(line, word));
         let numbers: Vec<u64> = numbers.collect::<Result<_, _>>()?;
-        let output = self
-            .values
-            .get("output")
-            .map(|(line, text)| bytes_of(text, named).map_err(|message| line.fault(message)));
-        match (entry, words[0], &numbers[..], output) {
+        let written = called.written().and_then(|key| self.values.get(key));
+        let output = written.map(|(line, text)| bytes_of(text, named).map_err(|message| line.fault(message)));
+        match (called, words[0], &numbers[..], output) {
             (_, "refused", &[number, document, mark], None) => {
                 Ok(Answer::Refused(Refusal { number, document, mark }))
             }
-            (Entry::Carry, "carried", &[value, filler], Some(output)) => {
+            (Called::Entry(Entry::Carry), "carried", &[value, filler], Some(output)) => {
                 Ok(Answer::Ok { value, filler, output: output? })
             }
-            (Entry::BringBack, "brought", &[value], Some(output)) => {
+            (Called::Entry(Entry::BringBack), "brought", &[value], Some(output))
+            | (Called::Extend, "extended", &[value], Some(output)) => {
                 Ok(Answer::Ok { value, filler: 0, output: output? })
             }
-            (entry, "accepted", &[value], None) if !entry.writes() => {
+            (called, "accepted", &[value], None) if called.written().is_none() => {
                 Ok(Answer::Ok { value, filler: 0, output: Vec::new() })
             }
             _ => Err(line.fault(format!(
-                "'{text}' is no answer of '{}'; an output stands with 'carried' and 'brought', and only there",
-                title(entry)
+                "'{text}' is no answer of '{}'; an output stands with 'carried' and 'brought', a report with \
+                 'extended', and only there",
+                called.title()
             ))),
         }
     }

@@ -376,7 +376,11 @@ pub fn draw_case(rng: &mut Rng, world: &World, entry: Entry) -> Drawn {
     }
     if entry.writes() {
         case.output_length = MOST_BYTES;
-        case.output_length = random_output_length(rng, case);
+        let needed = match case.run_into(&mut vec![0; MOST_BYTES]) {
+            Answer::Ok { value, .. } => Some(value as usize),
+            Answer::Refused(_) => None,
+        };
+        case.output_length = random_output_length(rng, needed);
     }
     drawn.settled(world)
 }
@@ -432,13 +436,10 @@ fn soup(rng: &mut Rng, kind: usize) -> Vec<u8> {
     bytes
 }
 
-/// A length of output: the greatest length, the length needed, one less, one
-/// more, or any.
-fn random_output_length(rng: &mut Rng, case: &Case) -> usize {
-    let needed = match case.run_into(&mut vec![0; MOST_BYTES]) {
-        Answer::Ok { value, .. } => value as usize,
-        Answer::Refused(_) => rng.below(100),
-    };
+/// A length of output: the greatest length, the length needed, if there is one,
+/// one less, one more, or any.
+pub(super) fn random_output_length(rng: &mut Rng, needed: Option<usize>) -> usize {
+    let needed = needed.unwrap_or_else(|| rng.below(100));
     match rng.weighted(&[40, 20, 14, 8, 4, 4, 10]) {
         0 => MOST_BYTES,
         1 => needed,

@@ -141,7 +141,7 @@ fn type_to_damage(rng: &mut Rng, table: &Table) -> usize {
 }
 
 /// Takes members from a type, up to all of them.
-fn drop_members(rng: &mut Rng, model: &mut ContentModel) {
+pub(super) fn drop_members(rng: &mut Rng, model: &mut ContentModel) {
     if let ContentModel::Sequence(members)
     | ContentModel::Choice(members)
     | ContentModel::OptionalChoice(members) = model
@@ -168,7 +168,7 @@ fn change_kind(rng: &mut Rng, model: &mut ContentModel) {
 }
 
 /// Gives a type 16 or more members.
-fn lengthen(rng: &mut Rng, model: &mut ContentModel, count: usize) {
+pub(super) fn lengthen(rng: &mut Rng, model: &mut ContentModel, count: usize) {
     let length = MOST_MEMBERS + rng.below(3);
     let in_order = || (0..length).map(|t| (t % count) as u8).collect();
     *model = match model {
@@ -179,7 +179,7 @@ fn lengthen(rng: &mut Rng, model: &mut ContentModel, count: usize) {
 }
 
 /// Replaces one of the types named in a model.
-fn set_named(rng: &mut Rng, model: &mut ContentModel, t: u8) {
+pub(super) fn set_named(rng: &mut Rng, model: &mut ContentModel, t: u8) {
     match model {
         ContentModel::Sequence(members)
         | ContentModel::Choice(members)
@@ -193,7 +193,7 @@ fn set_named(rng: &mut Rng, model: &mut ContentModel, t: u8) {
 }
 
 /// Names a member of a choice of either kind a second time.
-fn repeat_member(rng: &mut Rng, model: &mut ContentModel) {
+pub(super) fn repeat_member(rng: &mut Rng, model: &mut ContentModel) {
     if let ContentModel::Choice(members) | ContentModel::OptionalChoice(members) = model {
         let member = rng.pick(members);
         let place = rng.between(1, members.len());

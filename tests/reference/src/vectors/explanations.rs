@@ -8,7 +8,7 @@
 //!
 //! REASON is the name of a [`Reason`].
 
-use super::{from_hex, parse_number, to_hex};
+use super::{from_hex, parse_number, parse_refusal, to_hex};
 use crate::explanation::{explain_clash, Clash, Explanation, Reason};
 use crate::Refusal;
 use std::fmt;
@@ -61,9 +61,7 @@ impl fmt::Display for Stated {
                 write!(f, "clash {source_type} {earlier} {later} {shared} {}", reason.name())
             }
             Stated::Nothing(Ok(edges)) => write!(f, "none ok {edges}"),
-            Stated::Nothing(Err(Refusal { number, document, mark })) => {
-                write!(f, "none refused {number} {document} {mark}")
-            }
+            Stated::Nothing(Err(refusal)) => write!(f, "none {refusal}"),
         }
     }
 }
@@ -109,11 +107,7 @@ pub fn parse_stated(text: &str) -> Result<Stated, String> {
             }))
         }
         ["none", "ok", edges] => Ok(Stated::Nothing(Ok(parse_number(edges)?))),
-        ["none", "refused", number, document, mark] => Ok(Stated::Nothing(Err(Refusal {
-            number: parse_number(number)?,
-            document: parse_number(document)?,
-            mark: parse_number(mark)?,
-        }))),
+        ["none", "refused", ref numbers @ ..] => Ok(Stated::Nothing(Err(parse_refusal(numbers)?))),
         _ => Err("no such explanation".to_string()),
     }
 }
