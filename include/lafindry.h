@@ -1,15 +1,16 @@
 /*
  * Lafindry: judging tables, embeddings and tree documents of paper 01, carrying a source document into its image, and
  * bringing an image back. Tables may have optional choices, for what a document may leave out, the paths of choices
- * may lead through lists, and texts may have accents (paper 02, N3, N6 and N5). Of an embedding whose paths clash, one
- * function says which two do and why (N9); one appends types and members to a table and reports the height and the
- * filler's length of each type (N8); another writes a number, such as those of an answer, in decimal (N2).
+ * may lead through lists, and texts may have accents (paper 02, N3, N6 and N5). A target document that was edited, so
+ * that it is no image any more, can be read along the paths (N4). Of an embedding whose paths clash, one function says
+ * which two do and why (N9); one appends types and members to a table and reports the height and the filler's length of
+ * each type (N8); another writes a number, such as those of an answer, in decimal (N2).
  *
  * Every function takes any bytes or any number and always answers. A document is lent as a pointer and a length;
  * nothing is read beyond it, nothing is kept, and nothing is allocated. A pointer may be anything where its length is
  * 0. The most stack that was measured, on documents of 128 levels and 60,000 bytes, is 549 KB (lafindry_bring_back),
- * 491 KB (lafindry_carry), 81 KB (lafindry_extend_table) and 16 KB (the others), so a thread that calls should have a
- * megabyte.
+ * 500 KB (lafindry_read_along), 491 KB (lafindry_carry), 81 KB (lafindry_extend_table) and 16 KB (the others), so a
+ * thread that calls should have a megabyte.
  *
  * Characters of a tree are bytes of ISO 8859-1: 09, 0A, 20 to 7E and A0 to FF (hexadecimal); others are refused with
  * LAFINDRY_BAD_OPERAND. Bytes of UTF-8 are not recognised as such: turn names into ISO 8859-1 first.
@@ -33,7 +34,8 @@ struct lafindry_answer {
     uint64_t document; /* the refused document, one of the documents below */
     uint64_t mark;     /* where: an offset in that document, or for LAFINDRY_NO_FINITE_INSTANCE a type's number */
     uint64_t value;    /* accepted: the number of types, edges or elements, or the number of bytes written */
-    uint64_t filler;   /* accepted by lafindry_carry: the number of the image's filler elements */
+    uint64_t filler;   /* accepted by lafindry_carry: the number of the image's filler elements; by lafindry_read_along:
+                          the number of elements, the root aside, on no followed path */
 };
 
 /*
@@ -64,8 +66,9 @@ enum {
 };
 
 /* Refusals, by paper 01's numbers. For one document they are tried in this order; LAFINDRY_NO_IMAGE is tried before
-   the refusals of the output. LAFINDRY_NO_CHOICE is paper 02's: it is answered to an operation, in a report, and is
-   tried first there. */
+   the refusals of the output. LAFINDRY_NO_PATH and LAFINDRY_NO_CHOICE are paper 02's: the first is tried by
+   lafindry_read_along where lafindry_bring_back tries LAFINDRY_NO_IMAGE, the other is answered to an operation, in a
+   report, and is tried first there. */
 enum {
     LAFINDRY_ACCEPTED = 0,
     LAFINDRY_TOO_LONG = 1,            /* a document is longer than LAFINDRY_MOST_BYTES */
@@ -84,6 +87,8 @@ enum {
     LAFINDRY_IMAGE_TOO_LONG = 13,     /* the image to be written is longer than LAFINDRY_MOST_BYTES */
     LAFINDRY_OUTPUT_TOO_SHORT = 14,   /* the output is shorter than what would be written */
     LAFINDRY_NO_IMAGE = 15,           /* the tree to be brought back is the image of no conforming source document */
+    LAFINDRY_NO_PATH = 17,            /* the paths of a source element can't be followed: an item that a list must have
+                                         is missing, or no member's path is there */
     LAFINDRY_NO_CHOICE = 19           /* the type to extend doesn't exist or is no choice, optional or not */
 };
 
@@ -147,6 +152,24 @@ struct lafindry_answer lafindry_carry(const uint8_t *source_table, size_t source
  * after a refusal every byte of it, is left as it was.
  */
 struct lafindry_answer lafindry_bring_back(const uint8_t *source_table, size_t source_table_length,
+                                           const uint8_t *target_table, size_t target_table_length,
+                                           const uint8_t *embedding, size_t embedding_length,
+                                           const uint8_t *tree, size_t tree_length,
+                                           uint8_t *output, size_t output_length);
+
+/*
+ * Reads a target tree along the paths, after judging all documents, the tree by the target table: writes the source
+ * document that the paths lead to at the start of the output, whatever else the tree holds; `value` is that document's
+ * length and `filler` the number of the tree's elements, the root aside, on no followed path. In a list that stands for
+ * one item the first is followed, in the list that takes a source list's items all of them. An optional choice is read
+ * as nothing exactly where the one that its paths agree on is there and empty. On an image this writes what
+ * lafindry_bring_back writes and counts the filler elements that lafindry_carry counted.
+ *
+ * Refused with LAFINDRY_NO_PATH where the paths of a source element can't be followed; the mark is the offset of the
+ * target element that stands for it, of several for the first in the source document, where an element comes before its
+ * children. Every later byte of the output, and after a refusal every byte of it, is left as it was.
+ */
+struct lafindry_answer lafindry_read_along(const uint8_t *source_table, size_t source_table_length,
                                            const uint8_t *target_table, size_t target_table_length,
                                            const uint8_t *embedding, size_t embedding_length,
                                            const uint8_t *tree, size_t tree_length,

@@ -5,7 +5,7 @@ ghost use Rattle.model.specs.Definitions.Entries as model;
 ghost use Rattle.model.specs.Definitions.Refusals.{output-too-short};
 ghost use Rattle.model.specs.Definitions.Explanation as explanations;
 ghost use Rattle.model.specs.Definitions.Explanation.{reasonNumber, explanationNumbers};
-ghost use Rattle.answers.specs.Answers.{carriedResult, broughtResult, extensionResult, reason, clash};
+ghost use Rattle.answers.specs.Answers.{carriedResult, broughtResult, readingResult, extensionResult, reason, clash};
 ghost use Rattle.answer_numbers.specs.Numbers.{numbers, refusalNumbers, ForFault, judgingNumbers, tenNumbers, unexplainedNumbers, explanationIn};
 use answers::Brought;
 use answers::Carried;
@@ -14,6 +14,7 @@ use answers::Explanation;
 use answers::Extension;
 use answers::Fault;
 use answers::Judging;
+use answers::Reading;
 use answers::Reason;
 use codes::EMBEDDING;
 use codes::OUTPUT;
@@ -95,6 +96,17 @@ pub fn brought(b: Brought) -> Answer
         Brought::NoImage => refusing(codes::NO_IMAGE, TREE, 0),
         Brought::NoRoom => refusing(codes::OUTPUT_TOO_SHORT, OUTPUT, 0),
         Brought::Written(length) => accepting(length as u64, 0),
+    }
+}
+
+// The answer for each outcome of reading along the paths.
+pub fn read(r: Reading) -> Answer
+    ensures { λ r′. ⌜ numbers r′ ≡ answerOf (readingResult r) ⌝ }
+{
+    match r {
+        Reading::Missing(at) => refusing(codes::UNREADABLE, TREE, at as u64),
+        Reading::NoRoom => refusing(codes::OUTPUT_TOO_SHORT, OUTPUT, 0),
+        Reading::Written(length, count) => accepting(length as u64, count as u64),
     }
 }
 

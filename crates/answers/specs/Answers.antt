@@ -9,6 +9,8 @@ use Rattle.answers.specs.declared.Carried.{Carried}
 use Rattle.answers.specs.declared.Carried.the-variants as carried
 use Rattle.answers.specs.declared.Brought.{Brought}
 use Rattle.answers.specs.declared.Brought.the-variants as brought
+use Rattle.answers.specs.declared.Reading.{Reading}
+use Rattle.answers.specs.declared.Reading.the-variants as reading
 use Rattle.answers.specs.declared.Extension.{Extension}
 use Rattle.answers.specs.declared.Extension.the-variants as extending
 use Rattle.answers.specs.declared.Reason.{Reason}
@@ -60,6 +62,12 @@ abbrev pub broughtResult : Brought → Entries.Result
 broughtResult brought.NoImage = Entries.refused Refusals.no-image
 broughtResult brought.NoRoom = Entries.refused Refusals.output-too-short
 broughtResult (brought.Written length) = Entries.accepted length 0
+
+-- the model's answer for each outcome of reading along the paths (02, N4)
+abbrev pub readingResult : Reading → Entries.Result
+readingResult (reading.Missing at) = Entries.refused (Refusals.unreadable at)
+readingResult reading.NoRoom = Entries.refused Refusals.output-too-short
+readingResult (reading.Written length count) = Entries.accepted length count
 
 -- the model's answer for each outcome of an operation on a loaded table (02, N8)
 abbrev pub extensionResult : Extension → Entries.Result

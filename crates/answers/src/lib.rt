@@ -45,6 +45,14 @@ pub enum Brought {
     Written(usize),
 }
 
+// What reading along the paths finds (02, N4): the first source element whose paths can't be followed stands at this offset; the source
+// doesn't fit the output; or it is written, with this length, and so many target elements are on no followed path.
+pub enum Reading {
+    Missing(usize),
+    NoRoom,
+    Written(usize, usize),
+}
+
 // What an operation on a loaded table finds (02, N8): the type to extend doesn't exist or is no choice; the table that it would give has a
 // fault, whose mark isn't told and is 0; or it is done, and there are so many types.
 pub enum Extension {

@@ -5,45 +5,29 @@ use mathlib.Core.Option.{Option, none, some}
 use Prim.Native.Nat.{ℕ, _-_, _≤_, _<_}
 use native.Mathlib.Nat.{zero-add}
 use native.Mathlib.Omega.{arith}
-use lib.ListN.{length, take, drop, length-take}
-use lib.Seq.{sets, take-all, take-append-seam}
+use lib.ListN.{length, take, length-take}
+use lib.Seq.{take-all}
 use borrow.Author.Tests.{le-leb, lt-leb}
 use Rattle.model.specs.Definitions.Content.{Content, contentOf, document}
 use Rattle.model.specs.Definitions.Image.{Setting, image}
 use Rattle.model.specs.Definitions.Inverse.{readBack, bringBackContent}
 use Rattle.model.specs.Definitions.Entries.{accepted, Outcome, untouched, written, bringWithin, bringContent}
 use Rattle.model.specs.Theorems.Facts.{Valid}
-use Rattle.model.specs.Theorems.EntryLaws.{written-start}
-use Rattle.model.specs.Theorems.Documents.{content-of-document, document-injective}
+use Rattle.model.specs.Theorems.Documents.{document-injective}
 use Rattle.model.specs.Theorems.NeverLonger.{document-never-longer}
 use Rattle.model.specs.Theorems.BringingBack as model
-use Rattle.model.specs.Theorems.BringingBack.{read-image, read-conforms, brought-exactly, nothing-exactly}
+use Rattle.model.specs.Theorems.BringingBack.{read-image, brought-exactly, nothing-exactly}
 use Rattle.writing.specs.Writing.{Writes}
-use Rattle.writing.specs.Laws.{writes-length}
 use Rattle.inverse.specs.Reading.{BringsTo}
+use Rattle.inverse.specs.Sources.{ReadFrom, conforms, content-is}
 use Rattle.loaded_setting.specs.Trees.{SoundTree}
 use Rattle.answers.specs.declared.Brought.{Brought}
 use Rattle.answers.specs.Answers.{broughtResult}
-use Rattle.bringing.specs.Bringing.{ReadFrom, Brings}
+use Rattle.bringing.specs.Bringing.{Brings}
 
--- the first bytes of a buffer, as many as a document has that was written at its start, are the document
-front : (old doc : List ℕ) → length doc ≤ length old → take (length doc) (sets old 0 doc) ≡ doc
-front old doc room = rw (written-start old doc room) (take-append-seam doc (drop (length doc) old))
-
--- what was read lies within the buffer
-pub read-within : {old new : List ℕ} {n : ℕ} {sought : Option Content} → BringsTo old new n sought → n ≤ length new
-read-within b = omega (arith, b .fits, writes-length (b .written))
-
--- so its spans fit where those of the buffer do
+-- the spans of what was read fit where those of the buffer do
 pub spans-room : {old new : List ℕ} {n room room′ : ℕ} {sought : Option Content} → BringsTo old new n sought → length old ≤ room → room′ ≡ room → length (take n new) ≤ room′
 spans-room {new = new} {n = n} b enough same = omega (arith, b .fits, length-take n new)
-
--- and stands at its start
-pub read-front : {X : Setting} {tr old new : List ℕ} {n : ℕ} → length old ≤ 60000 → BringsTo old new n (readBack X (contentOf tr)) → ReadFrom X tr (take n new)
-read-front {X} {tr} {old} {new} {n} room b =
-    let long : n ≡ length (document 0 (b .content)) = omega (arith, b .written .after) in
-    let same : take n new ≡ document 0 (b .content) = rw (b .written .written, long) (front old (document 0 (b .content)) (omega (arith, b .fits))) in
-    record { content = b .content; is = b .is; bytes-are = same; short = omega (arith, room, b .fits, ap length same) }
 
 -- ---- the model's answer for what bringing back finds
 
@@ -89,21 +73,9 @@ module _ (X : Setting) (valid : Valid X) {tr : List ℕ} (t : SoundTree (X .targ
 
   -- the source document that was read
   module _ {source : List ℕ} (r : ReadFrom X tr source) where
-    -- it holds what the source's root may hold, since the given document conforms to the target table
-    conforms : model.Source X valid (r .content)
-    conforms = read-conforms X valid given (r .content) (t .holds) (r .is)
-
-    -- what it holds is what was read
-    content-is : contentOf source ≡ r .content
-    content-is = ap contentOf (r .bytes-are) ∙ content-of-document 0 (r .content)
-
-    -- it is a conforming source document
-    pub source-read : SoundTree (X .source) source
-    source-read = record { form = rw content-is (r .bytes-are); holds = rw content-is conforms; short = r .short }
-
     -- so its image is the image of what was read
     image-is : document 0 (image X (contentOf source)) ≡ document 0 (image X (r .content))
-    image-is = rw content-is refl
+    image-is = rw (content-is X valid t r) refl
 
     -- the given document is not its image: a source would have been read, so there is none
     pub other-image : (old : List ℕ) → (document 0 (image X (contentOf source)) ≡ tr → ⊥) → Brings X tr old old Brought.NoImage
@@ -120,7 +92,7 @@ module _ (X : Setting) (valid : Valid X) {tr : List ℕ} (t : SoundTree (X .targ
       found : bringBackContent X given ≡ some (r .content)
       found =
           brought-exactly X valid given (r .content) .1
-          (conforms, document-injective 0 0 (image X (r .content)) given (sym image-is ∙ is-image ∙ t .form) .1)
+          (conforms X valid t r, document-injective 0 0 (image X (r .content)) given (sym image-is ∙ is-image ∙ t .form) .1)
 
       -- it doesn't fit
       pub source-no-room : length old < length source → Brings X tr old old Brought.NoRoom

@@ -9,10 +9,9 @@ use native.Mathlib.Omega.{arith}
 use lib.ListN.{length, take, drop, getD}
 use Rattle.model.specs.Definitions.Commands.{needed, optional}
 use Rattle.model.specs.Definitions.Table.{Kind, choice, kindOf, edgesOf}
-use Rattle.model.specs.Definitions.Content.{Content, end}
 use Rattle.model.specs.Definitions.Embedding.{targetOf, pathsOf, firstPath, Divided, divide, beforeChoice}
 use Rattle.model.specs.Definitions.Image.{Setting}
-use Rattle.model.specs.Definitions.Inverse.{follow}
+use Rattle.model.specs.Definitions.Inverse.{Located, located, followAt, Parts, done, broken, choiceParts, optionalParts, listParts, kindParts, childParts}
 use Rattle.loaded_table.specs.Loaded.{kindFrom, tableBy, typesIn, kindsOf, countsOf, membersIn}
 use Rattle.loaded_table.specs.Kinds.{choiceCode}
 use Rattle.loaded_embedding.specs.Loaded.{targetsOf, startsOf, lengthsOf, stepsFrom}
@@ -22,27 +21,26 @@ use Rattle.paths.specs.declared.Cut.{Cut}
 use Rattle.paths.specs.Following.{Followable, Cuts, pathsFrom}
 use Rattle.paths.specs.Cutting.{first-steps, before-follows, rest-follows}
 use Rattle.paths.specs.Edges.{target-is, paths-are, kind-is, is-sequence, row-edges, first-follows, first-path, is-list, list-edge-one, list-follows, list-less, list-member}
-use Rattle.children.specs.Parts.{Parts, done, broken, choiceParts, optionalParts, listParts, kindParts, childParts}
 use Rattle.children.specs.Cursors.{membersLeft, pathsLeft, along, LeftEdges, LeftChoice, LeftItems}
-use Rattle.children.proofs.Finding.{empty-found, unless-not}
+use Rattle.children.proofs.Finding.{NotEmpty, empty-found, unless-not}
 
 -- the first steps of the paths of an optional choice: what they lead to decides about its children
 pub record SharedPath (source target map em : List ℕ) (σ first depth τ : ℕ) : Type 0 where
   pub optional : getD (kindsOf source) σ 0 ≡ 4
   pub follows : Followable target em first depth τ
-  pub are : (k : Content)
-      → childParts (settingIn source target map em) σ k
-      ≡ optionalParts (follow (tableBy target) τ (stepsFrom em (first + 2) depth) k) (choiceParts (along target map σ k) (membersLeft source σ 0) (pathsLeft source map em σ 0))
+  pub are : (l : Located)
+      → childParts (settingIn source target map em) σ l
+      ≡ optionalParts (followAt (tableBy target) τ (stepsFrom em (first + 2) depth) l) (choiceParts (along target map σ l) (membersLeft source σ 0) (pathsLeft source map em σ 0))
 
-module _ {source target map em : List ℕ} {σ first depth τ : ℕ} (p : SharedPath source target map em σ first depth τ) (k : Content) where
+module _ {source target map em : List ℕ} {σ first depth τ : ℕ} (p : SharedPath source target map em σ first depth τ) (l : Located) where
   -- it is there and empty
-  pub begin-empty : {tr : List ℕ} {o : ℕ} → FoundContent tr o (follow (tableBy target) τ (stepsFrom em (first + 2) depth) k) → getD tr o 0 ≡ 0x32
-      → childParts (settingIn source target map em) σ k ≡ done
-  begin-empty here closes = p .are k ∙ empty-found _ here closes
+  pub begin-empty : {tr : List ℕ} {o : ℕ} → FoundContent tr o (followAt (tableBy target) τ (stepsFrom em (first + 2) depth) l) → getD tr o 0 ≡ 0x32
+      → childParts (settingIn source target map em) σ l ≡ done
+  begin-empty here closes = p .are l ∙ empty-found _ here closes
 
   -- it is not
-  pub begin-member : (follow (tableBy target) τ (stepsFrom em (first + 2) depth) k ≡ some end → ⊥) → LeftChoice source target map em σ k (childParts (settingIn source target map em) σ k)
-  begin-member other = record { is-choice = ap choiceCode (p .optional); are = p .are k ∙ unless-not _ _ other }
+  pub begin-member : NotEmpty (followAt (tableBy target) τ (stepsFrom em (first + 2) depth) l) → LeftChoice source target map em σ l (childParts (settingIn source target map em) σ l)
+  begin-member other = record { is-choice = ap choiceCode (p .optional); are = p .are l ∙ unless-not _ _ other }
 
 module _ {source target map em : List ℕ} (ready : Ready source target map em) {σ : ℕ} (exists : σ < typesIn source) where
   abbrev X : Setting
@@ -61,21 +59,21 @@ module _ {source target map em : List ℕ} (ready : Ready source target map em) 
   abbrev row : List ℕ
   row = take count (drop (σ * 16) (membersIn source))
 
-  module _ (k : Content) where
+  module _ (l : Located) where
     abbrev whole : Parts
-    whole = childParts X σ k
+    whole = childParts X σ l
 
-    parts-by : (kind : Kind) (n : ℕ) → κ ≡ kind → edgesOf κ ≡ n → whole ≡ kindParts (X .target) kind tau (pathsFrom em map (σ * 16) n) k
+    parts-by : (kind : Kind) (n : ℕ) → κ ≡ kind → edgesOf κ ≡ n → whole ≡ kindParts (X .target) kind tau (pathsFrom em map (σ * 16) n) l
     parts-by kind n is edges =
-        ap (λ (q : ℕ). kindParts (X .target) κ q (pathsOf (X .embedding) σ) k) (target-is ready exists)
-        ∙ ap (λ (l : List (List ℕ)). kindParts (X .target) κ tau l k) (paths-are ready exists ∙ ap (pathsFrom em map (σ * 16)) edges)
-        ∙ ap (λ (x : Kind). kindParts (X .target) x tau (pathsFrom em map (σ * 16) n) k) is
+        ap (λ (q : ℕ). kindParts (X .target) κ q (pathsOf (X .embedding) σ) l) (target-is ready exists)
+        ∙ ap (λ (pss : List (List ℕ)). kindParts (X .target) κ tau pss l) (paths-are ready exists ∙ ap (pathsFrom em map (σ * 16)) edges)
+        ∙ ap (λ (x : Kind). kindParts (X .target) x tau (pathsFrom em map (σ * 16) n) l) is
 
     -- a text or an empty type has none
     pub begin-none : getD (kindsOf source) σ 0 < 2 → whole ≡ done
-    begin-none low = ap (λ (x : Kind). kindParts (X .target) x (targetOf (X .embedding) σ) (pathsOf (X .embedding) σ) k) (kind-is ready exists) ∙ go (getD (kindsOf source) σ 0) low
+    begin-none low = ap (λ (x : Kind). kindParts (X .target) x (targetOf (X .embedding) σ) (pathsOf (X .embedding) σ) l) (kind-is ready exists) ∙ go (getD (kindsOf source) σ 0) low
       where
-        go : (c : ℕ) → c < 2 → kindParts (X .target) (kindFrom c count (drop (σ * 16) (membersIn source))) (targetOf (X .embedding) σ) (pathsOf (X .embedding) σ) k ≡ done
+        go : (c : ℕ) → c < 2 → kindParts (X .target) (kindFrom c count (drop (σ * 16) (membersIn source))) (targetOf (X .embedding) σ) (pathsOf (X .embedding) σ) l ≡ done
         go zero h = unfold kindParts in refl
         go (suc zero) h = unfold kindParts in refl
         go (suc (suc c)) h = absurd (omega arith)
@@ -91,7 +89,7 @@ module _ {source target map em : List ℕ} (ready : Ready source target map em) 
         let left : count - 0 ≡ count = omega arith in
         rw (left, add-zero (σ * 16))
 
-    pub begin-sequence : getD (kindsOf source) σ 0 ≡ 2 → LeftEdges source target map em σ k 0 whole
+    pub begin-sequence : getD (kindsOf source) σ 0 ≡ 2 → LeftEdges source target map em σ l 0 whole
     unfolding kindParts
     begin-sequence code =
         record {
@@ -100,7 +98,7 @@ module _ {source target map em : List ℕ} (ready : Ready source target map em) 
           are = parts-by _ count (is-sequence ready exists code) (row-edges ready exists (omega arith) (omega arith)) ∙ sym (rw (all-members, all-paths));
         }
 
-    pub begin-choice : getD (kindsOf source) σ 0 ≡ 3 → LeftChoice source target map em σ k whole
+    pub begin-choice : getD (kindsOf source) σ 0 ≡ 3 → LeftChoice source target map em σ l whole
     unfolding kindParts
     begin-choice code =
         record { is-choice = ap choiceCode code; are = parts-by (choice needed row) count (kind-is ready exists ∙ rw code) (row-edges ready exists (omega arith) (omega arith)) ∙ sym (rw (all-members, all-paths)) }
@@ -125,8 +123,8 @@ module _ {source target map em : List ℕ} (ready : Ready source target map em) 
           optional = code;
           follows = first-steps optional-path (shared .0);
           are =
-              λ k. parts-by k (choice optional row) count (kind-is ready exists ∙ rw code) (row-edges ready exists (omega arith) (omega arith))
-              ∙ rw (one, shared .1, is-target, all-members k, all-paths k);
+              λ l. parts-by l (choice optional row) count (kind-is ready exists ∙ rw code) (row-edges ready exists (omega arith) (omega arith))
+              ∙ rw (one, shared .1, is-target, all-members l, all-paths l);
         }
 
   -- a list, whose path is read from the arrays
@@ -141,9 +139,9 @@ module _ {source target map em : List ℕ} (ready : Ready source target map em) 
     pub list-path : Followable target em first steps τ
     list-path = rw (is-first, is-steps, is-target) (list-follows ready exists code)
 
-    begin-parts : (k : Content) → childParts X σ k ≡ listParts (X .target) d (getD (membersIn source) (σ * 16) 0) (follow (X .target) τ (d .before) k)
+    begin-parts : (l : Located) → childParts X σ l ≡ listParts (X .target) d (getD (membersIn source) (σ * 16) 0) (followAt (X .target) τ (d .before) l)
     unfolding kindParts pathsFrom firstPath
-    begin-parts k = rw (is-first, is-steps, is-target) (parts-by k _ 1 (is-list ready exists code) (list-edge-one ready exists code))
+    begin-parts l = rw (is-first, is-steps, is-target) (parts-by l _ 1 (is-list ready exists code) (list-edge-one ready exists code))
 
     module _ {r : Cut} (cut : Cuts em first steps d r) where
       pub cut-less : r .depth < steps
@@ -152,17 +150,17 @@ module _ {source target map em : List ℕ} (ready : Ready source target map em) 
       pub list-before : Followable target em first (r .depth) τ
       list-before = before-follows list-path cut
 
-      pub begin-lost : (k : Content) → follow (X .target) τ (stepsFrom em (first + 2) (r .depth)) k ≡ none → childParts X σ k ≡ broken
+      pub begin-lost : (l : Located) → followAt (X .target) τ (stepsFrom em (first + 2) (r .depth)) l ≡ none → childParts X σ l ≡ broken
       unfolding listParts
-      begin-lost k miss =
-          let gone : follow (X .target) τ (d .before) k ≡ none = rw (sym (cut .before)) miss in
-          begin-parts k ∙ rw gone
+      begin-lost l miss =
+          let gone : followAt (X .target) τ (d .before) l ≡ none = rw (sym (cut .before)) miss in
+          begin-parts l ∙ rw gone
 
-      pub begin-items : (k : Content) {tr : List ℕ} {o : ℕ} → FoundContent tr o (follow (X .target) τ (stepsFrom em (first + 2) (r .depth)) k) → {m : ℕ} → m ≡ getD (membersIn source) (σ * 16 + 0) 0
-          → LeftItems source target em tr (record { at = o; item = r .item; start = first + 2 * (r .depth + 1); steps = steps - (r .depth + 1); child = m }) (childParts X σ k)
+      pub begin-items : (l : Located) {tr : List ℕ} {o : ℕ} → FoundContent tr o (followAt (X .target) τ (stepsFrom em (first + 2) (r .depth)) l) → {m : ℕ} → m ≡ getD (membersIn source) (σ * 16 + 0) 0
+          → LeftItems source target em tr (record { at = o; item = r .item; start = first + 2 * (r .depth + 1); steps = steps - (r .depth + 1); child = m }) (childParts X σ l)
       unfolding listParts
-      begin-items k found {m} is =
-          let here : follow (X .target) τ (d .before) k ≡ some (found .content) = rw (sym (cut .before)) (found .is) in
+      begin-items l {o = o} found {m} is =
+          let here : followAt (X .target) τ (d .before) l ≡ some (located o (found .content)) = rw (sym (cut .before)) (found .is) in
           let child : m ≡ getD (membersIn source) (σ * 16) 0 = is ∙ ap (λ (i : ℕ). getD (membersIn source) i 0) (add-zero (σ * 16)) in
           let next : r .depth + 1 ≡ suc (r .depth) = add-one (r .depth) in
           record {
@@ -170,5 +168,5 @@ module _ {source target map em : List ℕ} (ready : Ready source target map em) 
             there = found .there;
             child-type = omega (arith, child, list-member ready exists code);
             followable = rw next (rest-follows list-path cut cut-less);
-            are = begin-parts k ∙ rw (here, next, child, cut .item, cut .rest);
+            are = begin-parts l ∙ rw (here, next, child, cut .item, cut .rest);
           }

@@ -25,10 +25,10 @@ ghost use lib.ListN.{getD, length};
 ghost use Rattle.loaded_table.specs.Loaded.{kindsOf, tableBy, optionalKind, listKind};
 ghost use Rattle.loaded_embedding.specs.Loaded.{targetsOf, startsOf, lengthsOf};
 ghost use Rattle.paths.specs.Following.{Followable, pathAt};
-ghost use Rattle.children.specs.Parts.{Parts};
 ghost use Rattle.children.specs.Cursors.{ImageThere, LeftEdges, LeftChoice, LeftItems, Shows, ShowsAll, cursorWeight, Gives};
 ghost use Rattle.model.specs.Definitions.Content.{Content};
 ghost use Rattle.model.specs.Definitions.Inverse as model;
+ghost use Rattle.model.specs.Definitions.Inverse.{Located, located, Parts};
 ghost use Rattle.scanning.specs.Finding.{Finds};
 ghost use Rattle.scanning.specs.Scanning.{ContentAt};
 ghost use Rattle.scanning.specs.Spanning.{Spans};
@@ -81,7 +81,7 @@ pub fn along<'a>(
     requires place { ⌜ (image .sigma < maxTypes) × (i < maxMembers) ⌝ }
     requires path { ⌜ Followable (now target) (now em) (getD (startsOf (now map)) (image .sigma * maxMembers + i) 0) (getD (lengthsOf (now map)) (image .sigma * maxMembers + i) 0) (getD (targetsOf (now map)) (image .sigma) 0) ⌝ }
     requires content { ⌜ ((k : Content) × ContentAt (now tr) (image .from) k) ⌝ }
-    ensures { λ r. ⌜ ((k : Content) → ContentAt (now (tr .entry)) (image .from) k → Finds (now (tr .entry)) r (model.follow (tableBy (now (target .entry))) (getD (targetsOf (now (map .entry))) (image .sigma) 0) (pathAt (now (em .entry)) (now (map .entry)) (image .sigma * maxMembers + i)) k)) ⌝ }
+    ensures { λ r. ⌜ ((k : Content) → ContentAt (now (tr .entry)) (image .from) k → Finds (now (tr .entry)) r (model.followAt (tableBy (now (target .entry))) (getD (targetsOf (now (map .entry))) (image .sigma) 0) (pathAt (now (em .entry)) (now (map .entry)) (image .sigma * maxMembers + i)) (located (image .from) k))) ⌝ }
 {
     let sigma = image.sigma;
     let edge = sigma * MAX_MEMBERS + i;
@@ -103,8 +103,8 @@ fn next_member<'a>(
     i: usize,
 ) -> Part
     requires image { ⌜ ImageThere (now source) (now target) (now map) (now em) (now tr) (now sp) image ⌝ }
-    requires left { ⌜ ((k : Content) × (parts : Parts) × ContentAt (now tr) (image .from) k × LeftEdges (now source) (now target) (now map) (now em) (image .sigma) k i parts) ⌝ }
-    ensures { λ r. ⌜ ((k : Content) (parts : Parts) → ContentAt (now (tr .entry)) (image .from) k → LeftEdges (now (source .entry)) (now (target .entry)) (now (map .entry)) (now (em .entry)) (image .sigma) k i parts → Gives (now (source .entry)) (now (target .entry)) (now (map .entry)) (now (em .entry)) (image .sigma) (now (tr .entry)) k (17 - i) r parts) ⌝ }
+    requires left { ⌜ ((k : Content) × (parts : Parts) × ContentAt (now tr) (image .from) k × LeftEdges (now source) (now target) (now map) (now em) (image .sigma) (located (image .from) k) i parts) ⌝ }
+    ensures { λ r. ⌜ ((k : Content) (parts : Parts) → ContentAt (now (tr .entry)) (image .from) k → LeftEdges (now (source .entry)) (now (target .entry)) (now (map .entry)) (now (em .entry)) (image .sigma) (located (image .from) k) i parts → Gives (now (source .entry)) (now (target .entry)) (now (map .entry)) (now (em .entry)) (image .sigma) (now (tr .entry)) (located (image .from) k) (17 - i) r parts) ⌝ }
 {
     let sigma = image.sigma;
     if i == count(source, sigma) {
@@ -132,8 +132,8 @@ fn next_choice<'a>(
     image: Image,
 ) -> Part
     requires image { ⌜ ImageThere (now source) (now target) (now map) (now em) (now tr) (now sp) image ⌝ }
-    requires left { ⌜ ((k : Content) × (parts : Parts) × ContentAt (now tr) (image .from) k × LeftChoice (now source) (now target) (now map) (now em) (image .sigma) k parts) ⌝ }
-    ensures { λ r. ⌜ ((k : Content) (parts : Parts) → ContentAt (now (tr .entry)) (image .from) k → LeftChoice (now (source .entry)) (now (target .entry)) (now (map .entry)) (now (em .entry)) (image .sigma) k parts → Gives (now (source .entry)) (now (target .entry)) (now (map .entry)) (now (em .entry)) (image .sigma) (now (tr .entry)) k 1 r parts) ⌝ }
+    requires left { ⌜ ((k : Content) × (parts : Parts) × ContentAt (now tr) (image .from) k × LeftChoice (now source) (now target) (now map) (now em) (image .sigma) (located (image .from) k) parts) ⌝ }
+    ensures { λ r. ⌜ ((k : Content) (parts : Parts) → ContentAt (now (tr .entry)) (image .from) k → LeftChoice (now (source .entry)) (now (target .entry)) (now (map .entry)) (now (em .entry)) (image .sigma) (located (image .from) k) parts → Gives (now (source .entry)) (now (target .entry)) (now (map .entry)) (now (em .entry)) (image .sigma) (now (tr .entry)) (located (image .from) k) 1 r parts) ⌝ }
 {
     let sigma = image.sigma;
     let members = count(source, sigma);
@@ -153,7 +153,7 @@ fn next_choice<'a>(
 fn next_item<'a>(target: &[u16; TABLE], em: &[u8], tr: &'a [u8], sp: &'a [u16], rest: Rest) -> Part
     requires spans { ⌜ Spans (now tr) (now sp) ⌝ }
     requires left { ⌜ ((source : List ℕ) × (parts : Parts) × LeftItems source (now target) (now em) (now tr) rest parts) ⌝ }
-    ensures { λ r. ⌜ ((source map : List ℕ) (σ : ℕ) (k : Content) (parts : Parts) → LeftItems source (now (target .entry)) (now (em .entry)) (now (tr .entry)) rest parts → Gives source (now (target .entry)) map (now (em .entry)) σ (now (tr .entry)) k (1 + (length (now (tr .entry)) - rest .at)) r parts) ⌝ }
+    ensures { λ r. ⌜ ((source map : List ℕ) (σ : ℕ) (l : Located) (parts : Parts) → LeftItems source (now (target .entry)) (now (em .entry)) (now (tr .entry)) rest parts → Gives source (now (target .entry)) map (now (em .entry)) σ (now (tr .entry)) l (1 + (length (now (tr .entry)) - rest .at)) r parts) ⌝ }
 {
     let at = rest.at;
     let b = tr[at];
@@ -195,8 +195,8 @@ pub fn next<'a>(
     cursor: Cursor,
 ) -> Part
     requires image { ⌜ ImageThere (now source) (now target) (now map) (now em) (now tr) (now sp) image ⌝ }
-    requires left { ⌜ ((k : Content) × (parts : Parts) × ContentAt (now tr) (image .from) k × Shows (now source) (now target) (now map) (now em) (image .sigma) (now tr) k cursor parts) ⌝ }
-    ensures { λ r. ⌜ ((k : Content) (parts : Parts) → ContentAt (now (tr .entry)) (image .from) k → Shows (now (source .entry)) (now (target .entry)) (now (map .entry)) (now (em .entry)) (image .sigma) (now (tr .entry)) k cursor parts → Gives (now (source .entry)) (now (target .entry)) (now (map .entry)) (now (em .entry)) (image .sigma) (now (tr .entry)) k (cursorWeight (now (tr .entry)) cursor) r parts) ⌝ }
+    requires left { ⌜ ((k : Content) × (parts : Parts) × ContentAt (now tr) (image .from) k × Shows (now source) (now target) (now map) (now em) (image .sigma) (now tr) (located (image .from) k) cursor parts) ⌝ }
+    ensures { λ r. ⌜ ((k : Content) (parts : Parts) → ContentAt (now (tr .entry)) (image .from) k → Shows (now (source .entry)) (now (target .entry)) (now (map .entry)) (now (em .entry)) (image .sigma) (now (tr .entry)) (located (image .from) k) cursor parts → Gives (now (source .entry)) (now (target .entry)) (now (map .entry)) (now (em .entry)) (image .sigma) (now (tr .entry)) (located (image .from) k) (cursorWeight (now (tr .entry)) cursor) r parts) ⌝ }
 {
     match cursor {
         Cursor::Edges(i) => next_member(source, target, map, em, tr, sp, image, i),

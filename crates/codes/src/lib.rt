@@ -1,4 +1,5 @@
-// Paper 01's numbers by name, the limits, commands, documents and refusals, and those of paper 02's reasons (N9) and operations (N8).
+// Paper 01's numbers by name, the limits, commands, documents and refusals, and those of paper 02's reasons (N9), operations (N8) and
+// refusals.
 
 // No document is longer, in bytes.
 pub const MAX_BYTES: usize = 60000;
@@ -98,6 +99,8 @@ pub const IMAGE_TOO_LONG: u64 = 13;
 pub const OUTPUT_TOO_SHORT: u64 = 14;
 
 pub const NO_IMAGE: u64 = 15;
+
+pub const UNREADABLE: u64 = 17;
 
 pub const NO_CHOICE: u64 = 19;
 

@@ -2,30 +2,45 @@
 use mathlib.Core.Path.{_≡_, refl}
 use mathlib.Core.List.{List}
 use mathlib.Core.Option.{none}
-use Prim.Native.Nat.{ℕ, zero, suc, _≤_, _<_}
+use Prim.Native.Nat.{ℕ, zero, suc, _+_, _≤_, _<_}
 use native.Mathlib.Omega.{arith}
-use Rattle.model.specs.Definitions.Content.{Content}
-use Rattle.model.specs.Definitions.Inverse.{enter, childAt, childOfType}
+use native.Mathlib.Nat.{add-zero}
+use Rattle.model.specs.Definitions.Content.{Content, end, char, elem}
+use Rattle.model.specs.Definitions.Inverse.{childAt, childOfType, firstItem, located, bytesBefore, bytesAside, enter, foundAt, enterAt}
 use Rattle.loaded_table.specs.Loaded.{kindFrom}
 use Rattle.loaded_table.specs.Kinds.{choice-from, choice-between}
 use Rattle.loaded_table.specs.Kinds.{list-code}
 
 -- a text or an empty element leads nowhere
-pub enter-nothing : (code p τ : ℕ) (k : Content) (count : ℕ) (row : List ℕ) → code < 2 → enter (kindFrom code count row) p τ k ≡ none
-unfolding enter
-enter-nothing zero p τ k count row low = refl
-enter-nothing (suc zero) p τ k count row low = refl
-enter-nothing (suc (suc code)) p τ k count row low = absurd (omega arith)
+pub enter-nothing : (code p τ at : ℕ) (k : Content) (count : ℕ) (row : List ℕ) → code < 2 → enterAt (kindFrom code count row) p τ (located at k) ≡ none
+unfolding enterAt enter foundAt
+enter-nothing zero p τ at k count row low = refl
+enter-nothing (suc zero) p τ at k count row low = refl
+enter-nothing (suc (suc code)) p τ at k count row low = absurd (omega arith)
 
-module _ (code p τ : ℕ) (k : Content) (count : ℕ) (row : List ℕ) where
-  pub enter-sequence : code ≡ 2 → enter (kindFrom code count row) p τ k ≡ childAt k p
-  unfolding enter
+-- a list's first item is its first child
+first-child : (k : Content) → firstItem k ≡ childAt k 1
+unfolding firstItem childAt
+first-child end = refl
+first-child (char c r) = refl
+first-child (elem t k r) = refl
+
+-- nothing stands before it
+before-first : (k : Content) → bytesBefore k 1 ≡ 0
+unfolding bytesBefore
+before-first end = refl
+before-first (char c r) = refl
+before-first (elem t k r) = refl
+
+module _ (code p τ at : ℕ) (k : Content) (count : ℕ) (row : List ℕ) where
+  pub enter-sequence : code ≡ 2 → enterAt (kindFrom code count row) p τ (located at k) ≡ foundAt (at + bytesBefore k p + 2) (childAt k p)
+  unfolding enterAt enter bytesAside
   enter-sequence e = rw e
 
-  pub enter-choice : 3 ≤ code → code < 5 → enter (kindFrom code count row) p τ k ≡ childOfType k τ
-  unfolding enter
-  enter-choice low high = rw (choice-from code count row (choice-between code low high))
+  pub enter-choice : 3 ≤ code → code < 5 → enterAt (kindFrom code count row) p τ (located at k) ≡ foundAt (at + 2) (childOfType k τ)
+  unfolding enterAt enter bytesAside
+  enter-choice low high = rw (choice-from code count row (choice-between code low high), add-zero at)
 
-  pub enter-list : 5 ≤ code → enter (kindFrom code count row) p τ k ≡ childAt k 1
-  unfolding enter
-  enter-list high = rw (list-code code count row high)
+  pub enter-list : 5 ≤ code → enterAt (kindFrom code count row) p τ (located at k) ≡ foundAt (at + bytesBefore k 1 + 2) (childAt k 1)
+  unfolding enterAt enter bytesAside
+  enter-list high = rw (list-code code count row high, before-first k, first-child k)

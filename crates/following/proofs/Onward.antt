@@ -9,7 +9,7 @@ use Rattle.model.specs.Definitions.Basics.{andThen}
 use Rattle.model.specs.Definitions.Table.{Table, kindOf}
 use Rattle.model.specs.Definitions.Content.{Content}
 use Rattle.model.specs.Definitions.Embedding.{next}
-use Rattle.model.specs.Definitions.Inverse.{enter, follow}
+use Rattle.model.specs.Definitions.Inverse.{Located, located, enterAt, followAt}
 use Rattle.loaded_table.specs.Loaded.{kindFrom, tableBy, kindsOf, countsOf, membersIn}
 use Rattle.loaded_embedding.specs.Loaded.{stepsFrom}
 use Rattle.scanning.specs.Scanning.{ContentAt}
@@ -18,30 +18,30 @@ use Rattle.paths.specs.Following.{Followable, Taken}
 use Rattle.paths.specs.Stepping.{steps-here, kind-here, next-here, follow-on, follow-start}
 
 -- a step that is missing ends the path, and one that is there leads on
-follow-missing : (T : Table) (τ p : ℕ) (ps : List ℕ) (k : Content) → enter (kindOf T τ) p (next T τ p) k ≡ none → follow T τ (p ∷ ps) k ≡ none
-unfolding follow andThen
-follow-missing T τ p ps k e = rw e
+follow-missing : (T : Table) (τ p : ℕ) (ps : List ℕ) (l : Located) → enterAt (kindOf T τ) p (next T τ p) l ≡ none → followAt T τ (p ∷ ps) l ≡ none
+unfolding followAt andThen
+follow-missing T τ p ps l e = rw e
 
-follow-there : (T : Table) (τ p : ℕ) (ps : List ℕ) (k j : Content) → enter (kindOf T τ) p (next T τ p) k ≡ some j
-    → follow T τ (p ∷ ps) k ≡ follow T (next T τ p) ps j
-unfolding follow andThen
-follow-there T τ p ps k j e = rw e
+follow-there : (T : Table) (τ p : ℕ) (ps : List ℕ) (l a : Located) → enterAt (kindOf T τ) p (next T τ p) l ≡ some a
+    → followAt T τ (p ∷ ps) l ≡ followAt T (next T τ p) ps a
+unfolding followAt andThen
+follow-there T τ p ps l a e = rw e
 
-follow-end : (T : Table) (τ : ℕ) (k : Content) → follow T τ [] k ≡ some k
-unfolding follow
-follow-end T τ k = refl
+follow-end : (T : Table) (τ : ℕ) (l : Located) → followAt T τ [] l ≡ some l
+unfolding followAt
+follow-end T τ l = refl
 
 -- the content at offset `here` leads by the given steps to what is sought
-pub record PathLeft (T : Table) (tr : List ℕ) (here τ : ℕ) (steps : List ℕ) (sought : Option Content) : Type 0 where
+pub record PathLeft (T : Table) (tr : List ℕ) (here τ : ℕ) (steps : List ℕ) (sought : Option Located) : Type 0 where
   pub content : Content
   pub there : ContentAt tr here content
-  pub same : sought ≡ follow T τ steps content
+  pub same : sought ≡ followAt T τ steps (located here content)
 
 -- the loop's invariant: i steps are taken, and `sought` is what the whole path leads to from k
 pub record Onward (target em : List ℕ) (start steps tau : ℕ) (tr : List ℕ) (at i here τ : ℕ) : Type 0 where
   pub walk : Taken target em start steps i τ
   pub reached : (k : Content) → ContentAt tr at k
-      → PathLeft (tableBy target) tr here τ (stepsFrom em (start + 2 * i + 2) (steps - i)) (follow (tableBy target) tau (stepsFrom em (start + 2) steps) k)
+      → PathLeft (tableBy target) tr here τ (stepsFrom em (start + 2 * i + 2) (steps - i)) (followAt (tableBy target) tau (stepsFrom em (start + 2) steps) (located at k))
 
 -- before the first step
 pub onward-start : {target em : List ℕ} {start steps tau : ℕ} (path : Followable target em start steps tau) (tr : List ℕ) (at : ℕ) → Onward target em start steps tau tr at 0 at tau
@@ -54,8 +54,8 @@ module _ {target em : List ℕ} {start steps tau : ℕ} {tr : List ℕ} {at i he
   abbrev T : Table
   T = tableBy target
 
-  abbrev whole : Content → Option Content
-  whole = follow T tau (stepsFrom em (start + 2) steps)
+  abbrev whole : Content → Option Located
+  whole k = followAt T tau (stepsFrom em (start + 2) steps) (located at k)
 
   -- no step is left
   pub onward-done : (k : Content) → ContentAt tr at k → steps ≤ i → FoundContent tr here (whole k)
@@ -63,7 +63,7 @@ module _ {target em : List ℕ} {start steps tau : ℕ} {tr : List ℕ} {at i he
   onward-done k a over =
       let l = now .reached k a in
       let none-left : steps - i ≡ 0 = omega arith in
-      record { content = l .content; is = l .same ∙ (rw none-left) ∙ follow-end T τ (l .content); there = l .there }
+      record { content = l .content; is = l .same ∙ (rw none-left) ∙ follow-end T τ (located here (l .content)); there = l .there }
 
   module _ (less : i < steps) {p r : ℕ} (read : p ≡ getD em (start + 2 + 2 * i) 0) (is : r ≡ getD (membersIn target) (τ * 16 + (p - 1)) 0)
       {code : ℕ} (kind : code ≡ getD (kindsOf target) τ 0) where
@@ -79,21 +79,21 @@ module _ {target em : List ℕ} {start steps tau : ℕ} {tr : List ℕ} {at i he
     pub next-small : r < 64
     next-small = omega (arith, follow-on (now .walk) less read is .rest .is-type, now .walk .rest .bounded .few-types)
 
-    same-enter : (j : Content) → enter (kindOf T τ) p (next T τ p) j ≡ enter (kindFrom code count row) p r j
+    same-enter : (j : Content) → enterAt (kindOf T τ) p (next T τ p) (located here j) ≡ enterAt (kindFrom code count row) p r (located here j)
     same-enter j = rw (kind-here (now .walk) less read, next-here (now .walk) less read is, kind)
 
-    same-steps : {sought : Option Content} (j : Content) → sought ≡ follow T τ (stepsFrom em (start + 2 * i + 2) (steps - i)) j → sought ≡ follow T τ (p ∷ later) j
-    same-steps j e = e ∙ ap (λ (l : List ℕ). follow T τ l j) (steps-here (now .walk) less read)
+    same-steps : {sought : Option Located} (j : Content) → sought ≡ followAt T τ (stepsFrom em (start + 2 * i + 2) (steps - i)) (located here j) → sought ≡ followAt T τ (p ∷ later) (located here j)
+    same-steps j e = e ∙ ap (λ (l : List ℕ). followAt T τ l (located here j)) (steps-here (now .walk) less read)
 
     -- the step is missing
-    pub onward-missing : ((j : Content) → ContentAt tr here j → (count : ℕ) (row : List ℕ) → enter (kindFrom code count row) p r j ≡ none) → (k : Content) → ContentAt tr at k → whole k ≡ none
+    pub onward-missing : ((j : Content) → ContentAt tr here j → (count : ℕ) (row : List ℕ) → enterAt (kindFrom code count row) p r (located here j) ≡ none) → (k : Content) → ContentAt tr at k → whole k ≡ none
     onward-missing miss k a =
         let l = now .reached k a in
         same-steps (l .content) (l .same)
-        ∙ follow-missing T τ p later (l .content) (same-enter (l .content) ∙ miss (l .content) (l .there) count row)
+        ∙ follow-missing T τ p later (located here (l .content)) (same-enter (l .content) ∙ miss (l .content) (l .there) count row)
 
     -- the step leads to offset o
-    pub onward-there : {o : ℕ} → ((j : Content) → ContentAt tr here j → (count : ℕ) (row : List ℕ) → FoundContent tr o (enter (kindFrom code count row) p r j))
+    pub onward-there : {o : ℕ} → ((j : Content) → ContentAt tr here j → (count : ℕ) (row : List ℕ) → FoundContent tr o (enterAt (kindFrom code count row) p r (located here j)))
         → Onward target em start steps tau tr at (i + 1) o r
     onward-there {o} goes =
         record {
@@ -106,7 +106,7 @@ module _ {target em : List ℕ} {start steps tau : ℕ} {tr : List ℕ} {at i he
                 there = found .there;
                 same =
                     same-steps (l .content) (l .same)
-                    ∙ follow-there T τ p later (l .content) (found .content) (same-enter (l .content) ∙ found .is)
-                    ∙ ap (λ (t : ℕ). follow T t later (found .content)) (next-here (now .walk) less read is);
+                    ∙ follow-there T τ p later (located here (l .content)) (located o (found .content)) (same-enter (l .content) ∙ found .is)
+                    ∙ ap (λ (t : ℕ). followAt T t later (located o (found .content))) (next-here (now .walk) less read is);
               };
         }

@@ -16,6 +16,7 @@ ghost use Rattle.loaded_embedding.specs.Loaded.{stepsFrom};
 ghost use Rattle.paths.specs.Following.{Followable};
 ghost use Rattle.model.specs.Definitions.Content.{Content};
 ghost use Rattle.model.specs.Definitions.Inverse as model;
+ghost use Rattle.model.specs.Definitions.Inverse.{located};
 ghost use Rattle.scanning.specs.Finding.{Finds};
 ghost use Rattle.scanning.specs.Scanning.{ContentAt};
 ghost use Rattle.scanning.specs.Spanning.{Spans};
@@ -27,7 +28,7 @@ fn enter<'a>(kind: usize, p: usize, next: usize, tr: &'a [u8], sp: &'a [u16], at
     requires spans { ⌜ Spans (now tr) (now sp) ⌝ }
     requires small { ⌜ next < maxTypes ⌝ }
     requires content { ⌜ ((k : Content) × ContentAt (now tr) at k) ⌝ }
-    ensures { λ r. ⌜ ((k : Content) → ContentAt (now (tr .entry)) at k → (count : _) (row : _) → Finds (now (tr .entry)) r (model.enter (kindFrom kind count row) p next k)) ⌝ }
+    ensures { λ r. ⌜ ((k : Content) → ContentAt (now (tr .entry)) at k → (count : _) (row : _) → Finds (now (tr .entry)) r (model.enterAt (kindFrom kind count row) p next (located at k))) ⌝ }
 {
     match kind {
         TEXT | EMPTY => Found::Missing,
@@ -52,7 +53,7 @@ pub fn follow<'a>(
     requires spans { ⌜ Spans (now tr) (now sp) ⌝ }
     requires path { ⌜ Followable (now target) (now em) start steps tau ⌝ }
     requires content { ⌜ ((k : Content) × ContentAt (now tr) at k) ⌝ }
-    ensures { λ r. ⌜ ((k : Content) → ContentAt (now (tr .entry)) at k → Finds (now (tr .entry)) r (model.follow (tableBy (now (target .entry))) tau (stepsFrom (now (em .entry)) (start + 2) steps) k)) ⌝ }
+    ensures { λ r. ⌜ ((k : Content) → ContentAt (now (tr .entry)) at k → Finds (now (tr .entry)) r (model.followAt (tableBy (now (target .entry))) tau (stepsFrom (now (em .entry)) (start + 2) steps) (located at k))) ⌝ }
 {
     let mut i = 0;
     let mut here = at;

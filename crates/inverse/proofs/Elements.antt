@@ -7,7 +7,9 @@ use native.Mathlib.Omega.{arith}
 use lib.ListN.{length, length-append, drop, take}
 use Rattle.model.specs.Definitions.Basics.{andThen}
 use Rattle.model.specs.Definitions.Content.{Content, end, elem, bytes}
+use Rattle.model.specs.Definitions.Inverse.{Located}
 use Rattle.model.specs.Theorems.Tools.{some-none}
+use Rattle.model.specs.Theorems.Readings.{heldAt}
 use Rattle.scanning.specs.Scanning.{ContentAt}
 use Rattle.scanning.specs.Finding.{FoundContent}
 use Rattle.scanning.specs.Laws.{content-within, content-part}
@@ -79,7 +81,16 @@ module _ (m : ℕ) (sought : Option Content) where
 
 -- ---- a text, whose characters begin at offset o, with the 32 after them at offset `close`
 
-module _ {tr : List ℕ} {o close : ℕ} {sought : Option Content} (found : FoundContent tr o sought) (skips : (k : Content) → ContentAt tr o k → close ≡ o + length (bytes k)) where
+-- what was found, without its offset
+held-is : {tr : List ℕ} {o : ℕ} {sought : Option Located} (found : FoundContent tr o sought) → heldAt sought ≡ some (found .content)
+unfolding heldAt
+held-is found = rw (found .is)
+
+pub held-none : {sought : Option Located} → sought ≡ none → heldAt sought ≡ none
+unfolding heldAt
+held-none e = rw e
+
+module _ {tr : List ℕ} {o close : ℕ} {sought : Option Located} (found : FoundContent tr o sought) (skips : (k : Content) → ContentAt tr o k → close ≡ o + length (bytes k)) where
   ends : close ≡ o + length (bytes (found .content))
   ends = skips (found .content) (found .there)
 
@@ -87,12 +98,12 @@ module _ {tr : List ℕ} {o close : ℕ} {sought : Option Content} (found : Foun
   text-within = omega (arith, ends, content-within (found .there))
 
   -- they are copied
-  pub text-copied : {old new : List ℕ} {at e : ℕ} → close - o ≤ length old - at → at ≤ length old → Writes old new at (take (close - o) (drop o tr)) e → ReadsTo old new at e sought
+  pub text-copied : {old new : List ℕ} {at e : ℕ} → close - o ≤ length old - at → at ≤ length old → Writes old new at (take (close - o) (drop o tr)) e → ReadsTo old new at e (heldAt sought)
   text-copied fits room written =
       let w = rw (content-part (found .there) close ends) at written in
-      record { content = found .content; is = found .is; written = w; fits = omega (arith, w .after, ends) }
+      record { content = found .content; is = held-is found; written = w; fits = omega (arith, w .after, ends) }
 
   -- or don't fit
-  pub text-too-long : (old : List ℕ) (at : ℕ) → length old - at < close - o → (j : Content) → sought ≡ some j → length old < at + length (bytes j)
+  pub text-too-long : (old : List ℕ) (at : ℕ) → length old - at < close - o → (j : Content) → heldAt sought ≡ some j → length old < at + length (bytes j)
   text-too-long old at short j e =
-      omega (arith, ends, sought-length (found .is) e)
+      omega (arith, ends, sought-length (held-is found) e)

@@ -8,8 +8,8 @@ use lib.ListN.{length}
 use lib.Seq.{sets}
 use Rattle.model.specs.Definitions.Basics.{andThen}
 use Rattle.model.specs.Definitions.Content.{Content, end, elem, bytes}
-use Rattle.model.specs.Definitions.Inverse.{readOne}
 use Rattle.model.specs.Theorems.Tools.{some-none}
+use Rattle.model.specs.Theorems.Readings.{plainThen}
 use Rattle.writing.specs.Writing.{Writes}
 use Rattle.writing.specs.Laws.{writes-left}
 use Rattle.inverse.specs.Reading.{elementOf, ReadsTo}
@@ -18,31 +18,26 @@ use Rattle.inverse.proofs.Elements.{end-length, element-length, sought-
 -- ---- a child and what follows it
 
 -- what was read as a child and as what follows it
-record ChildAndRest (read : ℕ → Content → Option Content) (m : ℕ) (k : Content) (rest : Option Content) (r : Content) : Type 0 where
+record ChildAndRest (m : ℕ) (child rest : Option Content) (r : Content) : Type 0 where
   pub inside : Content
   pub after : Content
-  pub was-read : read m k ≡ some inside
+  pub was-read : child ≡ some inside
   pub was-after : rest ≡ some after
   pub made : r ≡ elem m inside after
 
-child-read : (read : ℕ → Content → Option Content) (m : ℕ) (k : Content) (rest : Option Content) (r : Content) → readOne read m (some k) rest ≡ some r → ChildAndRest read m k rest r
-unfolding readOne andThen
-child-read read m k rest r e = go (read m k) rest refl refl e
-  where
-    go : (a b : Option Content) → read m k ≡ a → rest ≡ b → andThen a (λ (i : Content). andThen b (λ (l : Content). some (elem m i l))) ≡ some r → ChildAndRest read m k rest r
-    go none b p q f = some-none f refl
-    go (some i) none p q f = some-none f refl
-    go (some i) (some l) p q f = record { inside = i; after = l; was-read = p; was-after = q; made = cc }
+child-read : (m : ℕ) (child rest : Option Content) (r : Content) → plainThen m child rest ≡ some r → ChildAndRest m child rest r
+unfolding plainThen andThen
+child-read m none rest r e = some-none e refl
+child-read m (some i) none r e = some-none e refl
+child-read m (some i) (some l) r e = record { inside = i; after = l; was-read = refl; was-after = refl; made = cc }
 
-one-some : (read : ℕ → Content → Option Content) (m : ℕ) (k : Content) (rest : Option Content) (i r : Content) → read m k ≡ some i → rest ≡ some r
-    → readOne read m (some k) rest ≡ some (elem m i r)
-unfolding readOne andThen
-one-some read m k rest i r p q = rw (p, q)
+one-some : (m : ℕ) (child rest : Option Content) (i r : Content) → child ≡ some i → rest ≡ some r → plainThen m child rest ≡ some (elem m i r)
+unfolding plainThen andThen
+one-some m child rest i r p q = rw (p, q)
 
-one-none : (read : ℕ → Content → Option Content) (m : ℕ) (k : Content) (rest : Option Content) (i : Content) → read m k ≡ some i → rest ≡ none
-    → readOne read m (some k) rest ≡ none
-unfolding readOne andThen
-one-none read m k rest i p q = rw (p, q)
+one-none : (m : ℕ) (child rest : Option Content) (i : Content) → child ≡ some i → rest ≡ none → plainThen m child rest ≡ none
+unfolding plainThen andThen
+one-none m child rest i p q = rw (p, q)
 
 -- ---- what is left
 
@@ -88,31 +83,31 @@ module _ {old : List ℕ} {at₀ : ℕ} {whole : Option Content} {out : List ℕ
         fits = fits;
       }
 
--- a child is left, of type m and read from k, before more
-module _ {old : List ℕ} {at₀ : ℕ} {whole : Option Content} {out : List ℕ} {at : ℕ} (read : ℕ → Content → Option Content) (m : ℕ) (k : Content) (more : Option Content)
-    (now : Onto old at₀ whole out at (readOne read m (some k) more)) where
+-- a child of type m is left, which holds what `child` is, before more
+module _ {old : List ℕ} {at₀ : ℕ} {whole : Option Content} {out : List ℕ} {at : ℕ} (m : ℕ) (child more : Option Content)
+    (now : Onto old at₀ whole out at (plainThen m child more)) where
   -- it is missing or doesn't fit
-  pub child-refused : ((j : Content) → elementOf m (read m k) ≡ some j → length old < at + length (bytes j)) → (j : Content) → whole ≡ some j → length old < at₀ + length (bytes j)
+  pub child-refused : ((j : Content) → elementOf m child ≡ some j → length old < at + length (bytes j)) → (j : Content) → whole ≡ some j → length old < at₀ + length (bytes j)
   unfolding andThen
   child-refused short =
       onto-refuse now λ r e.
-      let child = child-read read m k more r e in
-      let alone : elementOf m (read m k) ≡ some (elem m (child .inside) end) = rw (child .was-read) in
-      let long : length (bytes r) ≡ 3 + length (bytes (child .inside)) + length (bytes (child .after)) =
-      ap (λ (l : Content). length (bytes l)) (child .made) ∙ element-length m (child .inside) (child .after) in
-      omega (arith, short (elem m (child .inside) end) alone, element-length m (child .inside) end, end-length)
+      let both = child-read m child more r e in
+      let alone : elementOf m child ≡ some (elem m (both .inside) end) = ap (elementOf m) (both .was-read) in
+      let long : length (bytes r) ≡ 3 + length (bytes (both .inside)) + length (bytes (both .after)) =
+      ap (λ (l : Content). length (bytes l)) (both .made) ∙ element-length m (both .inside) (both .after) in
+      omega (arith, short (elem m (both .inside) end) alone, element-length m (both .inside) end, end-length)
 
   -- it is written
-  pub child-written : {out₁ : List ℕ} {at₁ : ℕ} → ReadsTo out out₁ at at₁ (elementOf m (read m k)) → Onto old at₀ whole out₁ at₁ more
+  pub child-written : {out₁ : List ℕ} {at₁ : ℕ} → ReadsTo out out₁ at at₁ (elementOf m child) → Onto old at₀ whole out₁ at₁ more
   unfolding bytes
   child-written {out₁} {at₁} element =
-      let made = element-made m (read m k) (element .content) (element .is) in
+      let made = element-made m child (element .content) (element .is) in
       let i : Content = made .inside in
       let written : Writes out out₁ at (bytes (elem m i end)) at₁ = rw (made .is) at (element .written) in
       record {
-        missing = λ e. now .missing (one-none read m k more i (made .was-read) e);
+        missing = λ e. now .missing (one-none m child more i (made .was-read) e);
         there = λ r e.
-            let joined = now .there (elem m i r) (one-some read m k more i r (made .was-read) e) in
+            let joined = now .there (elem m i r) (one-some m child more i r (made .was-read) e) in
             record {
               content = joined .content;
               is = joined .is;

@@ -2,5 +2,4 @@ pub mod ByKind
 pub mod Elements
 pub mod Joining
 pub mod Turning
-pub mod Levels
 pub mod Whole

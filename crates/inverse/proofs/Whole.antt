@@ -2,60 +2,44 @@
 use mathlib.Core.Path.{_≡_, sym, ap, _∙_}
 use mathlib.Core.List.{List, [], _∷_, _++_}
 use mathlib.Core.Option.{some}
-use Prim.Native.Nat.{ℕ, suc, _+_, _-_, _≤_, _<_}
+use Prim.Native.Nat.{ℕ, _+_, _≤_, _<_}
 use native.Mathlib.Omega.{arith}
 use lib.ListN.{length, length-append}
 use Rattle.model.specs.Definitions.Basics.{andThen}
-use Rattle.model.specs.Definitions.Content.{Content, end, elem, levels, bytes, document}
+use Rattle.model.specs.Definitions.Content.{Content, end, elem, bytes, document}
 use Rattle.model.specs.Definitions.Image.{Setting}
-use Rattle.model.specs.Definitions.Inverse.{readTo, readBack}
-use Rattle.loaded_table.specs.Loaded.{typesIn, length-of}
+use Rattle.model.specs.Definitions.Inverse.{located, reading, readBack}
 use Rattle.loaded_setting.specs.Ready.{settingIn, Ready}
-use Rattle.scanning.specs.Scanning.{ContentAt}
-use Rattle.scanning.specs.Laws.{root-at}
 use Rattle.writing.specs.Writing.{Writes}
 use Rattle.writing.specs.Laws.{writes-then, writes-length}
-use Rattle.inverse.specs.Reading.{elementOf, ReadsTo, BringsTo}
+use Rattle.inverse.specs.Reading.{readAs, elementOf, ReadsTo, BringsTo}
 use Rattle.inverse.proofs.Elements.{end-length, element-length, sought-length, Made, element-made}
-use Rattle.inverse.proofs.Levels.{levels-enough, levels-bytes}
 
 document-length : (j : Content) → length (document 0 j) ≡ 4 + length (bytes j)
 unfolding document bytes
 document-length j = omega (arith, length-append (bytes j ++ 0x32 ∷ []) (0x3F ∷ []), length-append (bytes j) (0x32 ∷ []))
 
--- where the root's content begins
-pub root-there : {tr : List ℕ} {k : Content} → tr ≡ document 0 k → ContentAt tr 2 k
-root-there {k = k} e = rw e (root-at 0 k)
-
 module _ {source target map em : List ℕ} (ready : Ready source target map em) where
   abbrev X : Setting
   X = settingIn source target map em
 
-  root-exists : 0 < length (X .source)
-  root-exists = ready .valid .source-sound .well-formed .has-root
-
-  pub root-type : 0 < typesIn source
-  root-type = omega (arith, root-exists, length-of source)
-
   module _ {tr : List ℕ} (k : Content) (is : tr ≡ document 0 k) where
-    -- as many levels as the document has bytes are enough
-    back : readBack X k ≡ readTo X (length tr) 0 k
-    unfolding readBack
-    back =
-        levels-enough X (ready .valid) (suc (levels k)) (length tr) 0 k root-exists (omega arith)
-        (omega (arith, levels-bytes k, document-length k, ap length is))
+    -- the document's length is the bound of its levels
+    back : readBack X k ≡ readAs X (length tr) 0 (located 2 k)
+    unfolding readBack reading
+    back = rw is
 
     -- the root is missing or doesn't fit
-    pub whole-refused : (size : ℕ) → ((j : Content) → elementOf 0 (readTo X (length tr) 0 k) ≡ some j → size < 0 + length (bytes j))
+    pub whole-refused : (size : ℕ) → ((j : Content) → elementOf 0 (readAs X (length tr) 0 (located 2 k)) ≡ some j → size < 0 + length (bytes j))
         → (j : Content) → readBack X k ≡ some j → size < length (document 0 j)
     unfolding andThen
     whole-refused size short j e =
-        let alone : elementOf 0 (readTo X (length tr) 0 k) ≡ some (elem 0 j end) = rw (sym back ∙ e) in
+        let alone : elementOf 0 (readAs X (length tr) 0 (located 2 k)) ≡ some (elem 0 j end) = rw (sym back ∙ e) in
         omega (arith, short (elem 0 j end) alone, document-length j, element-length 0 j end, end-length)
 
-    module _ {old out₁ : List ℕ} {at₁ : ℕ} (root : ReadsTo old out₁ 0 at₁ (elementOf 0 (readTo X (length tr) 0 k))) where
-      abbrev made : Made 0 (readTo X (length tr) 0 k) (root .content)
-      made = element-made 0 (readTo X (length tr) 0 k) (root .content) (root .is)
+    module _ {old out₁ : List ℕ} {at₁ : ℕ} (root : ReadsTo old out₁ 0 at₁ (elementOf 0 (readAs X (length tr) 0 (located 2 k)))) where
+      abbrev made : Made 0 (readAs X (length tr) 0 (located 2 k)) (root .content)
+      made = element-made 0 (readAs X (length tr) 0 (located 2 k)) (root .content) (root .is)
 
       pub whole-room : (at₁ ≤ length out₁) × (length out₁ ≡ length old)
       whole-room = (omega (arith, root .fits, writes-length (root .written)), writes-length (root .written))

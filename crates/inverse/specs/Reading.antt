@@ -6,9 +6,15 @@ use Prim.Native.Nat.{ℕ, _+_, _≤_, _<_}
 use lib.ListN.{length}
 use Rattle.model.specs.Definitions.Basics.{andThen}
 use Rattle.model.specs.Definitions.Content.{Content, end, elem, bytes, document}
+use Rattle.model.specs.Definitions.Image.{Setting}
+use Rattle.model.specs.Definitions.Inverse.{Located, contentRead, readTo}
 use Rattle.writing.specs.Writing.{Writes}
 use Rattle.inverse.specs.declared.Read.{Read}
 use Rattle.inverse.specs.declared.Read.the-variants as answer
+
+-- what a source element of type σ is read as, if it can be, from the target element that stands for it; n is more than that one's levels
+abbrev pub readAs : Setting → ℕ → ℕ → Located → Option Content
+readAs X n σ l = contentRead (readTo X n σ l)
 
 -- the element of type m that holds what is sought
 abbrev pub elementOf : ℕ → Option Content → Option Content

@@ -22,9 +22,11 @@ ghost use Rattle.loaded_table.specs.Loaded.{tableBy};
 ghost use Rattle.loaded_embedding.specs.Loaded.{targetsOf, startsOf, lengthsOf};
 ghost use Rattle.children.specs.Cursors.{ImageThere};
 ghost use Rattle.paths.specs.Following.{Followable, pathAt};
-ghost use Rattle.inverse.specs.Reading.{elementOf, ReadsInto, BringsRead};
+ghost use Rattle.inverse.specs.Reading.{readAs, elementOf, ReadsInto, BringsRead};
 ghost use Rattle.model.specs.Definitions.Content.{Content, document};
 ghost use Rattle.model.specs.Definitions.Inverse as model;
+ghost use Rattle.model.specs.Definitions.Inverse.{located};
+ghost use Rattle.model.specs.Theorems.Readings.{heldAt};
 ghost use Rattle.scanning.specs.Scanning.{ContentAt};
 ghost use Rattle.scanning.specs.Spanning.{Spans};
 ghost use Rattle.loaded_setting.specs.Ready.{settingIn, Ready};
@@ -58,7 +60,7 @@ fn read_text<'a>(
     requires path { ⌜ Followable (now target) (now em) (getD (startsOf (now map)) (task .image .sigma * maxMembers + 0) 0) (getD (lengthsOf (now map)) (task .image .sigma * maxMembers + 0) 0) (getD (targetsOf (now map)) (task .image .sigma) 0) ⌝ }
     requires content { ⌜ ((k : Content) × ContentAt (now tr) (task .image .from) k) ⌝ }
     requires room { ⌜ task .at ≤ length (now out) ⌝ }
-    ensures { λ r. ⌜ ((k : Content) → ContentAt (now (tr .entry)) (task .image .from) k → ReadsInto (now (out .entry)) (now (out .exit)) (task .at) r (model.follow (tableBy (now (target .entry))) (getD (targetsOf (now (map .entry))) (task .image .sigma) 0) (pathAt (now (em .entry)) (now (map .entry)) (task .image .sigma * maxMembers + 0)) k)) ⌝ }
+    ensures { λ r. ⌜ ((k : Content) → ContentAt (now (tr .entry)) (task .image .from) k → ReadsInto (now (out .entry)) (now (out .exit)) (task .at) r (heldAt (model.followAt (tableBy (now (target .entry))) (getD (targetsOf (now (map .entry))) (task .image .sigma) 0) (pathAt (now (em .entry)) (now (map .entry)) (task .image .sigma * maxMembers + 0)) (located (task .image .from) k)))) ⌝ }
 {
     let at = task.at;
     let found = along(target, map, em, tr, sp, task.image, 0);
@@ -88,7 +90,7 @@ fn read_to<'a>(
 ) -> Read
     requires image { ⌜ ImageThere (now source) (now target) (now map) (now em) (now tr) (now sp) (task .image) ⌝ }
     requires room { ⌜ task .at ≤ length (now out) ⌝ }
-    ensures { λ r. ⌜ ((k : Content) → ContentAt (now (tr .entry)) (task .image .from) k → ReadsInto (now (out .entry)) (now (out .exit)) (task .at) r (model.readTo (settingIn (now (source .entry)) (now (target .entry)) (now (map .entry)) (now (em .entry))) (task .depth) (task .image .sigma) k)) ⌝ }
+    ensures { λ r. ⌜ ((k : Content) → ContentAt (now (tr .entry)) (task .image .from) k → ReadsInto (now (out .entry)) (now (out .exit)) (task .at) r (readAs (settingIn (now (source .entry)) (now (target .entry)) (now (map .entry)) (now (em .entry))) (task .depth) (task .image .sigma) (located (task .image .from) k))) ⌝ }
 {
     let image = task.image;
     let depth = task.depth;
@@ -138,7 +140,7 @@ fn read_element<'a>(
 ) -> Read
     requires image { ⌜ ImageThere (now source) (now target) (now map) (now em) (now tr) (now sp) (task .image) ⌝ }
     requires room { ⌜ task .at ≤ length (now out) ⌝ }
-    ensures { λ r. ⌜ ((k : Content) → ContentAt (now (tr .entry)) (task .image .from) k → ReadsInto (now (out .entry)) (now (out .exit)) (task .at) r (elementOf (task .image .sigma) (model.readTo (settingIn (now (source .entry)) (now (target .entry)) (now (map .entry)) (now (em .entry))) (task .depth) (task .image .sigma) k))) ⌝ }
+    ensures { λ r. ⌜ ((k : Content) → ContentAt (now (tr .entry)) (task .image .from) k → ReadsInto (now (out .entry)) (now (out .exit)) (task .at) r (elementOf (task .image .sigma) (readAs (settingIn (now (source .entry)) (now (target .entry)) (now (map .entry)) (now (em .entry))) (task .depth) (task .image .sigma) (located (task .image .from) k)))) ⌝ }
 {
     let at = task.at;
     if out.len() - at < ELEMENT_BYTES {

@@ -8,7 +8,7 @@ use Rattle.answer_numbers.specs.declared.ExplanationNumbers.{ExplanationNumbers
 use Rattle.answer_numbers.specs.Numbers.{numbers, tenNumbers, Answers}
 use Rattle.model.specs.Definitions.Explanation.{explain, explanationNumbers}
 use Rattle.model.specs.Definitions.Extending.{extend}
-use Rattle.model.specs.Definitions.Entries.{answerOf, judgeTable, judgeEmbedding, judgeTree, carry, bringBack}
+use Rattle.model.specs.Definitions.Entries.{answerOf, judgeTable, judgeEmbedding, judgeTree, carry, bringBack, readAlong}
 
 abbrev pub JudgeTableCall : List ℕ → Answer → Type 0
 JudgeTableCall t a = numbers a ≡ answerOf (judgeTable t)
@@ -30,3 +30,6 @@ CarryCall s t e tr before after a = Answers (carry s t e tr before) after a
 
 abbrev pub BringBackCall : List ℕ → List ℕ → List ℕ → List ℕ → List ℕ → List ℕ → Answer → Type 0
 BringBackCall s t e tr before after a = Answers (bringBack s t e tr before) after a
+
+abbrev pub ReadAlongCall : List ℕ → List ℕ → List ℕ → List ℕ → List ℕ → List ℕ → Answer → Type 0
+ReadAlongCall s t e tr before after a = Answers (readAlong s t e tr before) after a

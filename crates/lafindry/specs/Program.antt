@@ -15,28 +15,30 @@ use Rattle.answer_numbers.specs.declared.Answer.{Answer}
 use Rattle.answer_numbers.specs.declared.ExplanationNumbers.{ExplanationNumbers}
 use Rattle.answer_numbers.specs.Numbers.{numbers, tenNumbers}
 use Rattle.answer_numbers.specs.Numbers.{Answers}
-use Rattle.lafindry.specs.Calls.{JudgeTableCall, JudgeEmbeddingCall, ExplainClashCall, ExtendTableCall, JudgeTreeCall, CarryCall, BringBackCall}
+use Rattle.lafindry.specs.Calls.{JudgeTableCall, JudgeEmbeddingCall, ExplainClashCall, ExtendTableCall, JudgeTreeCall, CarryCall, BringBackCall, ReadAlongCall}
 use Rattle.model.specs.Definitions.Basics.{fails}
 use Rattle.model.specs.Definitions.Table.{tableOf}
-use Rattle.model.specs.Definitions.Content.{Content, document}
+use Rattle.model.specs.Definitions.Content.{Content, contentOf, document}
 use Rattle.model.specs.Definitions.Conformance.{Conforming}
 use Rattle.model.specs.Definitions.Image.{Setting}
 use Rattle.model.specs.Definitions.TreeChecks.{treeLevels, maxLevels}
-use Rattle.model.specs.Definitions.Refusals.{Judged, sound, has, Document, tree, operations, Fault, too-long, bad-form, over-limit, bad-operand, repeated-member, no-finite-instance, root-moved, wrong-end, wrong-steps, path-clash, unexpected, faultNumber, faultMark, Refusal, faulty, no-image, image-too-deep, image-too-long, output-too-short, no-choice, numbersOf, documentNumber, maxLength}
+use Rattle.model.specs.Definitions.Refusals.{Judged, sound, has, Document, tree, operations, Fault, too-long, bad-form, over-limit, bad-operand, repeated-member, no-finite-instance, root-moved, wrong-end, wrong-steps, path-clash, unexpected, faultNumber, faultMark, Refusal, faulty, no-image, unreadable, image-too-deep, image-too-long, output-too-short, no-choice, numbersOf, documentNumber, maxLength}
 use Rattle.model.specs.Definitions.ValidTable.{ValidTable, tableBytes}
 use Rattle.model.specs.Definitions.ValidEmbedding.{ValidEmbedding, embeddingBytes}
 use Rattle.model.specs.Definitions.Valid.{WrittenBy, ValidTree}
 use Rattle.model.specs.Definitions.Embedding.{embeddingOf}
 use Rattle.model.specs.Definitions.EmbeddingChecks.{Reason, equal-paths, earlier-begins, later-begins, part-at-sequence}
+use Rattle.model.specs.Definitions.Inverse.{Reading, yields, missing, located}
+use Rattle.model.specs.Definitions.Unreadable.{FirstUnreadable}
 use Rattle.model.specs.Definitions.Explanation as explanations
 use Rattle.model.specs.Definitions.Extending.{Performed, performed, unread, reportIf, reported, extend}
 use Rattle.model.specs.Definitions.Explanation.{Clash, explained, unexplained, reasonNumber, explanationNumbers, Explains}
 use Rattle.model.specs.Definitions.Decimal.{DecimalText, DecimalWritten, with-room, without-room}
 use Rattle.model.specs.Definitions.Entries as model
-use Rattle.model.specs.Definitions.Entries.{Result, refused, accepted, Outcome, answerOf, unlessFaulty, judgeTable, judgeEmbedding, judgeTree, untouched, written, carryWithin, carryContent, carry, bringWithin, bringContent, bringBack}
+use Rattle.model.specs.Definitions.Entries.{Result, refused, accepted, Outcome, answerOf, unlessFaulty, judgeTable, judgeEmbedding, judgeTree, untouched, written, carryWithin, carryContent, carry, bringWithin, bringContent, bringBack, settingOf, readWithin, readContent, readAlong}
 use Rattle.model.specs.Theorems.Terms.{AcceptedEmbedding, AcceptedTree, imageOf, fillerOf, levelsIn, NoSource}
 use Rattle.model.specs.Theorems.EntryLaws.{judges-accept, judge-accepts, judges-are-all, table-is-accepted, tree-judged, tree-is-accepted}
-use Rattle.model.specs.Statements.{DemandThree, demand-three, refused-15-exactly, decimal-text-unique, tables-exactly, embeddings-exactly, trees-exactly, explained-exactly, explains-exactly, answer-is-inside, numbers-begin-as-judged}
+use Rattle.model.specs.Statements.{DemandThree, demand-three, refused-15-exactly, decimal-text-unique, tables-exactly, embeddings-exactly, trees-exactly, explained-exactly, explains-exactly, answer-is-inside, numbers-begin-as-judged, refused-17-exactly}
 
 -- ---- answers
 
@@ -103,6 +105,7 @@ refusal-number : (why : Refusal) → numbersOf why .number ≡ 0 → ⊥
 unfolding numbersOf
 refusal-number (faulty d f) e = fault-number f e
 refusal-number no-image e = omega arith
+refusal-number (unreadable at) e = omega arith
 refusal-number image-too-deep e = omega arith
 refusal-number image-too-long e = omega arith
 refusal-number output-too-short e = omega arith
@@ -276,6 +279,20 @@ keeps-bring-back : (s t e tr before : List ℕ) → Keeps before (bringBack s t 
 unfolding bringBack
 keeps-bring-back s t e tr before = keeps-judged before _ _ _ (keeps-judged before _ _ _ (keeps-judged before _ _ _ (keeps-judged before _ _ _ (keeps-found before _))))
 
+keeps-read-room : (before doc : List ℕ) (count : ℕ) (room : Bool) → Keeps before (readWithin before doc count room)
+unfolding readWithin written answerOf
+keeps-read-room before doc count false = keeps-untouched before output-too-short
+keeps-read-room before doc count true = inl refl
+
+keeps-read : (before : List ℕ) (X : Setting) (k : Content) (r : Reading) → Keeps before (readContent before X k r)
+unfolding readContent
+keeps-read before X k (missing at) = keeps-untouched before (unreadable at)
+keeps-read before X k (yields j) = keeps-read-room before _ _ _
+
+keeps-read-along : (s t e tr before : List ℕ) → Keeps before (readAlong s t e tr before)
+unfolding readAlong
+keeps-read-along s t e tr before = keeps-judged before _ _ _ (keeps-judged before _ _ _ (keeps-judged before _ _ _ (keeps-judged before _ _ _ (keeps-read before _ _ _))))
+
 keeps-report : (before bytes : List ℕ) (room : Bool) → Keeps before (reportIf room before bytes)
 unfolding reportIf answerOf
 keeps-report before bytes false = keeps-untouched before output-too-short
@@ -300,6 +317,9 @@ refused-carry-keeps-output s t e tr before after a call = kept before after a _ 
 
 pub refused-bring-back-keeps-output : (s t e tr before after : List ℕ) (a : Answer) → BringBackCall s t e tr before after a → (a .refusal ≡ 0 → ⊥) → after ≡ before
 refused-bring-back-keeps-output s t e tr before after a call = kept before after a _ call (keeps-bring-back s t e tr before)
+
+pub refused-read-along-keeps-output : (s t e tr before after : List ℕ) (a : Answer) → ReadAlongCall s t e tr before after a → (a .refusal ≡ 0 → ⊥) → after ≡ before
+refused-read-along-keeps-output s t e tr before after a call = kept before after a _ call (keeps-read-along s t e tr before)
 
 pub refused-extend-keeps-output : (t ops before after : List ℕ) (a : Answer) → ExtendTableCall t ops before after a → (a .refusal ≡ 0 → ⊥) → after ≡ before
 refused-extend-keeps-output t ops before after a call = kept before after a _ call (keeps-extend t ops before)
@@ -331,25 +351,27 @@ accepts-trees-exactly t tr a call = (
 
 -- ---- demand 2: 15 exactly when there is no source
 
-not-fifteen : (f : Fault) → faultNumber f ≡ 15 → ⊥
+-- a document's faults have the numbers up to 11
+low-number : (f : Fault) → faultNumber f ≤ 11
 unfolding faultNumber
-not-fifteen too-long e = omega arith
-not-fifteen (bad-form at) e = omega arith
-not-fifteen (over-limit at) e = omega arith
-not-fifteen (bad-operand at) e = omega arith
-not-fifteen (repeated-member at) e = omega arith
-not-fifteen (no-finite-instance t) e = omega arith
-not-fifteen root-moved e = omega arith
-not-fifteen (wrong-end at) e = omega arith
-not-fifteen (wrong-steps at) e = omega arith
-not-fifteen (path-clash at) e = omega arith
-not-fifteen (unexpected at) e = omega arith
+low-number too-long = omega arith
+low-number (bad-form at) = omega arith
+low-number (over-limit at) = omega arith
+low-number (bad-operand at) = omega arith
+low-number (repeated-member at) = omega arith
+low-number (no-finite-instance t) = omega arith
+low-number root-moved = omega arith
+low-number (wrong-end at) = omega arith
+low-number (wrong-steps at) = omega arith
+low-number (path-clash at) = omega arith
+low-number (unexpected at) = omega arith
 
 -- only one refusal has the number 15
 fifteen : (r : Result) → answerOf r .refusal ≡ 15 → r ≡ refused no-image
 unfolding answerOf numbersOf
-fifteen (refused (faulty d f)) e = absurd (not-fifteen f e)
+fifteen (refused (faulty d f)) e = absurd (omega (arith, low-number f))
 fifteen (refused no-image) e = refl
+fifteen (refused (unreadable at)) e = absurd (omega arith)
 fifteen (refused image-too-deep) e = absurd (omega arith)
 fifteen (refused image-too-long) e = absurd (omega arith)
 fifteen (refused output-too-short) e = absurd (omega arith)
@@ -368,6 +390,34 @@ answers-15-exactly s t e tr before after a call =
     let exactly = refused-15-exactly s t e tr before in
     let same : a .refusal ≡ answerOf (bringBack s t e tr before .result) .refusal = refusal-is a _ (call .same-answer) in
     (λ h. exactly .0 (fifteen _ (sym same ∙ h)), λ none-has. same ∙ is-fifteen _ (exactly .1 none-has))
+
+-- ---- reading along the paths (02, N4)
+
+-- only one kind of refusal has the number 17, and its mark is the answer's
+seventeen : (r : Result) → answerOf r .refusal ≡ 17 → r ≡ refused (unreadable (answerOf r .mark))
+unfolding answerOf numbersOf
+seventeen (refused (faulty d f)) e = absurd (omega (arith, low-number f))
+seventeen (refused no-image) e = absurd (omega arith)
+seventeen (refused (unreadable at)) e = refl
+seventeen (refused image-too-deep) e = absurd (omega arith)
+seventeen (refused image-too-long) e = absurd (omega arith)
+seventeen (refused output-too-short) e = absurd (omega arith)
+seventeen (refused no-choice) e = absurd (omega arith)
+seventeen (accepted v f) e = absurd (omega arith)
+
+is-seventeen : (r : Result) (at : ℕ) → r ≡ refused (unreadable at) → answerOf r .refusal ≡ 17
+unfolding answerOf numbersOf
+is-seventeen r at e = rw e refl
+
+-- For any bytes a call of lafindry_read_along answers 17 exactly when tables, embedding and tree are accepted and its mark is the offset of
+-- the target element that stands for the first source element, in document order, whose own paths can't be followed.
+pub answers-17-exactly : (s t e tr before after : List ℕ) (a : Answer) → ReadAlongCall s t e tr before after a
+    → (a .refusal ≡ 17) ↔ (AcceptedEmbedding s t e × AcceptedTree t tr × FirstUnreadable (settingOf s t e) 0 (located 2 (contentOf tr)) (a .mark))
+answers-17-exactly s t e tr before after a call =
+    let exactly = refused-17-exactly s t e tr before (a .mark) in
+    let same : a .refusal ≡ answerOf (readAlong s t e tr before .result) .refusal = refusal-is a _ (call .same-answer) in
+    let mark : answerOf (readAlong s t e tr before .result) .mark ≡ a .mark = sym (ap (λ (n : model.Answer). n .mark) (call .same-answer)) in
+    (λ h. exactly .0 (seventeen _ (sym same ∙ h) ∙ ap (λ (at : ℕ). refused (unreadable at)) mark), λ first. same ∙ is-seventeen _ (a .mark) (exactly .1 first))
 
 -- ---- numbers in decimal (02, N2)
 

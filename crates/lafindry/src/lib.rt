@@ -1,6 +1,6 @@
 // The entries that a C program calls, each on any bytes. include/lafindry.h declares them.
 ghost use Rattle.model.specs.Definitions.Decimal.{DecimalWritten};
-ghost use Rattle.lafindry.specs.Calls.{JudgeTableCall, JudgeEmbeddingCall, ExplainClashCall, ExtendTableCall, JudgeTreeCall, CarryCall, BringBackCall};
+ghost use Rattle.lafindry.specs.Calls.{JudgeTableCall, JudgeEmbeddingCall, ExplainClashCall, ExtendTableCall, JudgeTreeCall, CarryCall, BringBackCall, ReadAlongCall};
 use answer_numbers::Answer;
 use answer_numbers::ExplanationNumbers;
 use answer_numbers::explained;
@@ -67,6 +67,21 @@ pub extern "C" fn lafindry_bring_back<'a>(
     ensures { λ r. ⌜ BringBackCall (now (source .entry)) (now (target .entry)) (now (embedding .entry)) (now (tree .entry)) (now (output .entry)) (now (output .exit)) r ⌝ }
 {
     bring_entry::bring_back(source, target, embedding, tree, output)
+}
+
+// Reads a document along the paths, after all documents are judged: length of the source document, and number of target elements, the
+// root aside, on no followed path.
+#[no_mangle]
+pub extern "C" fn lafindry_read_along<'a>(
+    source: &[u8],
+    target: &[u8],
+    embedding: &'a [u8],
+    tree: &'a [u8],
+    output: &mut [u8],
+) -> Answer
+    ensures { λ r. ⌜ ReadAlongCall (now (source .entry)) (now (target .entry)) (now (embedding .entry)) (now (tree .entry)) (now (output .entry)) (now (output .exit)) r ⌝ }
+{
+    read_entry::read_along(source, target, embedding, tree, output)
 }
 
 // Extends a table by the operations of a document: length of the report that is written.

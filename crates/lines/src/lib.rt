@@ -1,7 +1,7 @@
 // The lines that programs print, made before they are printed, so that each is printed whole.
 ghost use Prim.Native.Nat.{_+_, _*_, _≤_};
 ghost use lib.ListN.{length};
-ghost use Rattle.model.specs.Definitions.Lines.{Line, AnswerLine, CarryLine, BringLine, OperationLine, KeptLine};
+ghost use Rattle.model.specs.Definitions.Lines.{Line, AnswerLine, CarryLine, BringLine, ReadLine, OperationLine, KeptLine};
 ghost use Rattle.answer_numbers.specs.Numbers.{numbers};
 ghost use Rattle.lines.specs.Lines.{numberBytes, mostWord, mostNumbers, lineBytes, WritesNumbers};
 use answer_numbers::Answer;
@@ -70,6 +70,14 @@ pub fn bring_line(out: &mut [u8], a: Answer) -> &mut [u8]
     ensures { λ r. ⌜ BringLine (numbers a) (now r) ⌝ }
 {
     answer_line(out, a, b"brought", &[a.value])
+}
+
+// Makes the line of the program `read` for an answer.
+pub fn read_line(out: &mut [u8], a: Answer) -> &mut [u8]
+    requires { ⌜ lineBytes ≤ length (now out) ⌝ }
+    ensures { λ r. ⌜ ReadLine (numbers a) (now r) ⌝ }
+{
+    answer_line(out, a, b"read", &[a.value, a.filler])
 }
 
 // Makes the line of the program `extend` for the answer to an operation.

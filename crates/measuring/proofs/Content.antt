@@ -1,17 +1,19 @@
--- Conforming content, read from its start: which children are left.
-use mathlib.Core.Path.{_≡_, refl, sym}
-use mathlib.Core.List.{List, [], List·Memᴰ, List·Memᴰ·head, List·Memᴰ·tail}
+-- Conforming content, read from its start: which children are left, and where the rest stands in a document.
+use mathlib.Core.Path.{_≡_, refl, sym, ap, _∙_, subst}
+use mathlib.Core.List.{List, _∷_, List·Memᴰ, List·Memᴰ·head, List·Memᴰ·tail}
 use mathlib.Core.Option.{none}
 use Prim.Native.Nat.{ℕ, suc, _+_, _<_}
 use native.Mathlib.Omega.{arith}
-use lib.ListN.{length}
+use lib.ListN.{length, getD, length-append}
 use Rattle.model.specs.Definitions.Commands.{Need}
 use Rattle.model.specs.Definitions.Table.{Kind, text, empty, sequence, choice, list, Table, kindOf, membersOf}
-use Rattle.model.specs.Definitions.Content.{Content, end, char, elem}
+use Rattle.model.specs.Definitions.Content.{Content, end, char, elem, bytes}
 use Rattle.model.specs.Definitions.Conformance.{Holds, no-character, one-character, nothing, no-member, one-member, chosen, left-out, no-item, one-item}
 use Rattle.model.specs.Definitions.Templates.{firstIn}
 use Rattle.model.specs.Theorems.Facts.{WellFormed}
 use Rattle.rows.specs.FirstChildren.{index-within}
+use Rattle.scanning.specs.Scanning.{ContentAt}
+use Rattle.scanning.specs.Laws.{content-within, element-first, character-first, end-first, Letters, letters, OpensElement, opens, opens-next, ends}
 use Rattle.measuring.specs.Measured.{typeAhead}
 use Rattle.measuring.proofs.Edges.{HasEdge, in-sequence, in-choice, in-list}
 
@@ -32,7 +34,7 @@ pub record ChildLeft (S : Table) (κ : Kind) (i t : ℕ) (k r : Content) : Type 
   pub edge : HasEdge i t κ
   pub rest : ContentLeft S κ (suc i) r
 
-pub child-of : {S : Table} {κ : Kind} {i t : ℕ} {k r : Content} → ContentLeft S κ i (elem t k r) → ChildLeft S κ i t k r
+child-of : {S : Table} {κ : Kind} {i t : ℕ} {k r : Content} → ContentLeft S κ i (elem t k r) → ChildLeft S κ i t k r
 child-of (child-left exists holds edge rest) = record { exists = exists; holds = holds; edge = edge; rest = rest }
 
 module _ (S : Table) where
@@ -87,3 +89,72 @@ module _ (S : Table) where
 -- of an element of a well-formed table
 pub left-of : {S : Table} → WellFormed S → (s : ℕ) {k : Content} → Holds S (kindOf S s) k → ContentLeft S (kindOf S s) 0 k
 left-of {S} wf s holds = left-all S (kindOf S s) (λ m. wf .members-exist s m) holds
+
+-- ---- in a document
+
+pub letter-length : (c : ℕ) (r : Content) → length (bytes (char c r)) ≡ 2 + length (bytes r)
+unfolding bytes
+letter-length c r = omega arith
+
+pub child-length : (t : ℕ) (k r : Content) → length (bytes (elem t k r)) ≡ 2 + length (bytes k) + 1 + length (bytes r)
+unfolding bytes
+child-length t k r = omega (arith, length-append (bytes k) (0x32 ∷ bytes r))
+
+-- what is left of the content of an element of kind κ from offset o and child number i on; the content ends at `close`
+pub record Unread (S : Table) (κ : Kind) (tr : List ℕ) (close o i : ℕ) : Type 0 where
+  pub left : Content
+  pub here : ContentAt tr o left
+  pub fit : ContentLeft S κ i left
+  pub closes : o + length (bytes left) ≡ close
+
+module _ {S : Table} {κ : Kind} {tr : List ℕ} {close o i : ℕ} (now : Unread S κ tr close o i) where
+  pub unread-within : o < length tr
+  unread-within = omega (arith, content-within (now .here))
+
+  -- what is no character and no close opens an element
+  pub unread-opens : (getD tr o 0 ≡ 0x31 → ⊥) → (getD tr o 0 ≡ 0x32 → ⊥) → getD tr o 0 ≡ 0x30
+  unread-opens other another = go (now .left) (now .here)
+    where
+      go : (l : Content) → ContentAt tr o l → getD tr o 0 ≡ 0x30
+      go end a = absurd (another (end-first a))
+      go (char c r) a = absurd (other (character-first a))
+      go (elem t l r) a = element-first a
+
+  -- at the close nothing is left
+  pub unread-done : getD tr o 0 ≡ 0x32 → (now .left ≡ end) × (o ≡ close)
+  unfolding bytes
+  unread-done here =
+      let none : now .left ≡ end = ends (now .left) (now .here) (λ e. omega (arith, e, here)) (λ e. omega (arith, e, here)) in
+      let short : length (bytes (now .left)) ≡ 0 = ap (λ (l : Content). length (bytes l)) none in
+      (none, omega (arith, short, now .closes))
+
+  -- a character, and what follows it
+  module _ (first : getD tr o 0 ≡ 0x31) where
+    abbrev pub lettered : Letters tr o (now .left) (now .here .rest)
+    lettered = letters (now .left) (now .here) first
+
+    abbrev pub unread-letter : Unread S κ tr close (o + 2) i
+    unread-letter =
+        record {
+          left = lettered .next;
+          here = record { rest = now .here .rest; stands = lettered .follows };
+          fit = after-letter (subst (ContentLeft S κ i) (lettered .is) (now .fit));
+          closes = omega (arith, ap (λ (x : Content). length (bytes x)) (lettered .is) ∙ letter-length (lettered .letter) (lettered .next), now .closes);
+        }
+
+  -- a child, which exists, conforms and has an edge, and what follows it
+  module _ (first : getD tr o 0 ≡ 0x30) where
+    abbrev pub opened : OpensElement tr o (now .left) (now .here .rest)
+    opened = opens (now .left) (now .here) first
+
+    pub unread-child : ChildLeft S κ i (opened .type) (opened .inside) (opened .next)
+    unread-child = child-of (subst (ContentLeft S κ i) (opened .is) (now .fit))
+
+    abbrev pub unread-next : {stop : ℕ} → stop ≡ o + 2 + length (bytes (opened .inside)) → Unread S κ tr close (stop + 1) (suc i)
+    unread-next stops =
+        record {
+          left = opened .next;
+          here = subst (λ (p : ℕ). ContentAt tr (p + 1) (opened .next)) (sym stops) (opens-next opened);
+          fit = unread-child .rest;
+          closes = omega (arith, ap (λ (x : Content). length (bytes x)) (opened .is) ∙ child-length (opened .type) (opened .inside) (opened .next), stops, now .closes);
+        }

@@ -1,25 +1,24 @@
 -- The loop over an element's content: the size so far and what is left make up the whole.
-use mathlib.Core.Path.{_≡_, refl, sym, ap, _∙_, subst}
-use mathlib.Core.List.{List, _∷_}
-use Prim.Native.Nat.{ℕ, suc, _+_, _<_, min, max}
+use mathlib.Core.Path.{_≡_, refl, sym, ap, _∙_}
+use mathlib.Core.List.{List}
+use Prim.Native.Nat.{ℕ, suc, _+_, min, max}
 use native.Mathlib.Omega.{arith}
-use lib.ListN.{length, getD, length-append}
+use lib.ListN.{length, getD}
 use Rattle.model.specs.Definitions.Table.{kindOf}
 use Rattle.model.specs.Definitions.Content.{Content, end, char, elem, bytes}
 use Rattle.model.specs.Definitions.Embedding.{pathsOf}
 use Rattle.model.specs.Definitions.Image.{Setting}
 use Rattle.model.specs.Definitions.Templates.{firstIn, around, depthOf, ownLength, ownFiller, ownLevels, itemLength, itemFiller, itemLevels, sumLength, sumFiller, deepest}
-use Rattle.scanning.specs.Scanning.{ContentAt}
-use Rattle.scanning.specs.Laws.{content-within, element-first, character-first, end-first, OpensElement, opens, opens-next, letters, ends}
+use Rattle.scanning.specs.Laws.{OpensElement}
 use Rattle.measuring.specs.Measured.{Held, Measured}
-use Rattle.measuring.proofs.Content.{ContentLeft, ChildLeft, child-of, after-letter}
+use Rattle.measuring.proofs.Content.{Unread, unread-done, lettered, unread-letter, opened, unread-next}
 
 -- ---- held numbers
 
 held-character : (n r : ℕ) → min 60001 (min 60001 (n + 2) + r) ≡ min 60001 (n + (2 + r))
 held-character n r = omega arith
 
-held-child : (n a m r : ℕ) → min 60001 (min 60001 (n + min 60001 a + min 60001 m) + r) ≡ min 60001 (n + (a + m + r))
+pub held-child : (n a m r : ℕ) → min 60001 (min 60001 (n + min 60001 a + min 60001 m) + r) ≡ min 60001 (n + (a + m + r))
 held-child n a m r = omega arith
 
 held-larger : (a b : ℕ) → min 60001 (max a b) ≡ max (min 60001 a) (min 60001 b)
@@ -50,15 +49,7 @@ held-levels n a d m r =
     )
     (larger-again (min 60001 n) (min 60001 a) (min 60001 (d + m)) (min 60001 r))
 
--- ---- content by what it begins with
-
-letter-length : (c : ℕ) (r : Content) → length (bytes (char c r)) ≡ 2 + length (bytes r)
-unfolding bytes
-letter-length c r = omega arith
-
-child-length : (t : ℕ) (k r : Content) → length (bytes (elem t k r)) ≡ 2 + length (bytes k) + 1 + length (bytes r)
-unfolding bytes
-child-length t k r = omega (arith, length-append (bytes k) (0x32 ∷ bytes r))
+-- ---- what content adds, by what it begins with
 
 module _ (X : Setting) (s : ℕ) where
   -- what stands around a child, and the steps to it
@@ -92,16 +83,13 @@ module _ (X : Setting) (s : ℕ) where
 
 -- ---- one element
 
--- what is left of the content k of an element of type s from offset o and child number i on, and the size so far, make up
--- the whole; the content ends at `close`
+-- the size so far, and what is left of the content k of an element of type s from offset o and child number i on, make up the whole;
+-- the content ends at `close`
 pub record Counted (X : Setting) (s : ℕ) (tr : List ℕ) (k : Content) (close o i high long fill : ℕ) : Type 0 where
-  pub left : Content
-  pub here : ContentAt tr o left
-  pub fit : ContentLeft (X .source) (kindOf (X .source) s) i left
-  pub closes : o + length (bytes left) ≡ close
-  pub levels-left : min 60001 (max high (deepest X s i left)) ≡ min 60001 (max (ownLevels X s (firstIn k)) (deepest X s 0 k))
-  pub bytes-left : min 60001 (long + sumLength X s left) ≡ min 60001 (ownLength X s (firstIn k) + sumLength X s k)
-  pub filler-left : min 60001 (fill + sumFiller X s left) ≡ min 60001 (ownFiller X s (firstIn k) + sumFiller X s k)
+  pub unread : Unread (X .source) (kindOf (X .source) s) tr close o i
+  pub levels-left : min 60001 (max high (deepest X s i (unread .left))) ≡ min 60001 (max (ownLevels X s (firstIn k)) (deepest X s 0 k))
+  pub bytes-left : min 60001 (long + sumLength X s (unread .left)) ≡ min 60001 (ownLength X s (firstIn k) + sumLength X s k)
+  pub filler-left : min 60001 (fill + sumFiller X s (unread .left)) ≡ min 60001 (ownFiller X s (firstIn k) + sumFiller X s k)
 
 -- the size of what stands around each item
 pub record Around (X : Setting) (s high long fill : ℕ) : Type 0 where
@@ -110,99 +98,71 @@ pub record Around (X : Setting) (s high long fill : ℕ) : Type 0 where
   pub filler-is : fill ≡ min 60001 (about X s (itemFiller X s))
 
 module _ {X : Setting} {s : ℕ} {tr : List ℕ} {k : Content} {close o i high long fill : ℕ} (now : Counted X s tr k close o i high long fill) where
-  pub counted-within : o < length tr
-  counted-within = omega (arith, content-within (now .here))
-
-  -- what is no character and no close opens an element
-  pub counted-opens : (getD tr o 0 ≡ 0x31 → ⊥) → (getD tr o 0 ≡ 0x32 → ⊥) → getD tr o 0 ≡ 0x30
-  counted-opens other another = go (now .left) (now .here)
-    where
-      go : (l : Content) → ContentAt tr o l → getD tr o 0 ≡ 0x30
-      go end a = absurd (another (end-first a))
-      go (char c r) a = absurd (other (character-first a))
-      go (elem t l r) a = element-first a
-
   -- at the close nothing is left
   pub counted-done : Held high long fill → getD tr o 0 ≡ 0x32 → Measured X s k high long fill × (o ≡ close)
-  unfolding bytes
   counted-done held here =
-      let none : now .left ≡ end = ends (now .left) (now .here) (λ e. omega (arith, e, here)) (λ e. omega (arith, e, here)) in
-      let deep : deepest X s i (now .left) ≡ 0 = ap (deepest X s i) none ∙ nothing-more X s i .0 in
-      let sum : sumLength X s (now .left) ≡ 0 = ap (sumLength X s) none ∙ nothing-more X s i .1 in
-      let filler : sumFiller X s (now .left) ≡ 0 = ap (sumFiller X s) none ∙ nothing-more X s i .2 in
-      let short : length (bytes (now .left)) ≡ 0 = ap (λ (l : Content). length (bytes l)) none in
-      let levels-here : high ≡ min 60001 (max high (deepest X s i (now .left))) = omega (arith, deep, held .levels-held) in
-      let bytes-here : long ≡ min 60001 (long + sumLength X s (now .left)) = omega (arith, sum, held .bytes-held) in
-      let filler-here : fill ≡ min 60001 (fill + sumFiller X s (now .left)) = omega (arith, filler, held .filler-held) in (
+      let done = unread-done (now .unread) here in
+      let deep : deepest X s i (now .unread .left) ≡ 0 = ap (deepest X s i) (done .0) ∙ nothing-more X s i .0 in
+      let sum : sumLength X s (now .unread .left) ≡ 0 = ap (sumLength X s) (done .0) ∙ nothing-more X s i .1 in
+      let filler : sumFiller X s (now .unread .left) ≡ 0 = ap (sumFiller X s) (done .0) ∙ nothing-more X s i .2 in
+      let levels-here : high ≡ min 60001 (max high (deepest X s i (now .unread .left))) = omega (arith, deep, held .levels-held) in
+      let bytes-here : long ≡ min 60001 (long + sumLength X s (now .unread .left)) = omega (arith, sum, held .bytes-held) in
+      let filler-here : fill ≡ min 60001 (fill + sumFiller X s (now .unread .left)) = omega (arith, filler, held .filler-held) in (
         record {
           levels-are = levels-here ∙ now .levels-left;
           bytes-are = bytes-here ∙ now .bytes-left;
           filler-is = filler-here ∙ now .filler-left;
         },
-        omega (arith, short, now .closes),
+        done .1,
       )
 
   -- a character
-  pub counted-letter : getD tr o 0 ≡ 0x31 → (o + 1 < length tr) × Counted X s tr k close (o + 2) i high (min 60001 (long + 2)) fill
+  pub counted-letter : getD tr o 0 ≡ 0x31 → Counted X s tr k close (o + 2) i high (min 60001 (long + 2)) fill
   counted-letter first =
-      let l = letters (now .left) (now .here) first in
+      let l = lettered (now .unread) first in
       let more = letter-more X s i (l .letter) (l .next) in
-      let deep : deepest X s i (l .next) ≡ deepest X s i (now .left) = sym (ap (deepest X s i) (l .is) ∙ more .0) in
-      let sum : 2 + sumLength X s (l .next) ≡ sumLength X s (now .left) = sym (ap (sumLength X s) (l .is) ∙ more .1) in
-      let filler : sumFiller X s (l .next) ≡ sumFiller X s (now .left) = sym (ap (sumFiller X s) (l .is) ∙ more .2) in
-      let short = ap (λ (x : Content). length (bytes x)) (l .is) ∙ letter-length (l .letter) (l .next) in (
-        l .two,
-        record {
-          left = l .next;
-          here = record { rest = now .here .rest; stands = l .follows };
-          fit = after-letter (subst (ContentLeft (X .source) (kindOf (X .source) s) i) (l .is) (now .fit));
-          closes = omega (arith, short, now .closes);
-          levels-left = ap (λ (n : ℕ). min 60001 (max high n)) deep ∙ now .levels-left;
-          bytes-left = held-character long (sumLength X s (l .next)) ∙ ap (λ (n : ℕ). min 60001 (long + n)) sum ∙ now .bytes-left;
-          filler-left = ap (λ (n : ℕ). min 60001 (fill + n)) filler ∙ now .filler-left;
-        },
-      )
+      let deep : deepest X s i (l .next) ≡ deepest X s i (now .unread .left) = sym (ap (deepest X s i) (l .is) ∙ more .0) in
+      let sum : 2 + sumLength X s (l .next) ≡ sumLength X s (now .unread .left) = sym (ap (sumLength X s) (l .is) ∙ more .1) in
+      let filler : sumFiller X s (l .next) ≡ sumFiller X s (now .unread .left) = sym (ap (sumFiller X s) (l .is) ∙ more .2) in
+      record {
+        unread = unread-letter (now .unread) first;
+        levels-left = ap (λ (n : ℕ). min 60001 (max high n)) deep ∙ now .levels-left;
+        bytes-left = held-character long (sumLength X s (l .next)) ∙ ap (λ (n : ℕ). min 60001 (long + n)) sum ∙ now .bytes-left;
+        filler-left = ap (λ (n : ℕ). min 60001 (fill + n)) filler ∙ now .filler-left;
+      }
 
   module _ (first : getD tr o 0 ≡ 0x30) where
-    abbrev pub opened : OpensElement tr o (now .left) (now .here .rest)
-    opened = opens (now .left) (now .here) first
-
-    -- a child: it exists, conforms, and has an edge
-    pub counted-child : ChildLeft (X .source) (kindOf (X .source) s) i (opened .type) (opened .inside) (opened .next)
-    counted-child = child-of (subst (ContentLeft (X .source) (kindOf (X .source) s) i) (opened .is) (now .fit))
+    abbrev child : OpensElement tr o (now .unread .left) (now .unread .here .rest)
+    child = opened (now .unread) first
 
     -- with the size of its image, what follows it is left
     module _ {about-high about-long about-fill depth in-high in-long in-fill stop : ℕ}
         (item : Around X s about-high about-long about-fill)
-        (deep : depth ≡ stepsTo X s i (opened .type))
-        (inner : Measured X (opened .type) (opened .inside) in-high in-long in-fill)
-        (stops : stop ≡ o + 2 + length (bytes (opened .inside))) where
-      levels-next : min 60001 (max (max high (max about-high (min 60001 (depth + in-high)))) (deepest X s (suc i) (opened .next))) ≡ min 60001 (max high (deepest X s i (now .left)))
+        (deep : depth ≡ stepsTo X s i (child .type))
+        (inner : Measured X (child .type) (child .inside) in-high in-long in-fill)
+        (stops : stop ≡ o + 2 + length (bytes (child .inside))) where
+      levels-next : min 60001 (max (max high (max about-high (min 60001 (depth + in-high)))) (deepest X s (suc i) (child .next))) ≡ min 60001 (max high (deepest X s i (now .unread .left)))
       levels-next =
           rw (item .levels-are, deep, inner .levels-are)
-          (held-levels high (about X s (itemLevels X s)) (stepsTo X s i (opened .type)) (max (ownLevels X (opened .type) (firstIn (opened .inside))) (deepest X (opened .type) 0 (opened .inside))) (deepest X s (suc i) (opened .next))
-          ∙ ap (λ (n : ℕ). min 60001 (max high n)) (sym (ap (deepest X s i) (opened .is) ∙ child-levels X s i (opened .type) (opened .inside) (opened .next))))
+          (held-levels high (about X s (itemLevels X s)) (stepsTo X s i (child .type)) (max (ownLevels X (child .type) (firstIn (child .inside))) (deepest X (child .type) 0 (child .inside))) (deepest X s (suc i) (child .next))
+          ∙ ap (λ (n : ℕ). min 60001 (max high n)) (sym (ap (deepest X s i) (child .is) ∙ child-levels X s i (child .type) (child .inside) (child .next))))
 
-      bytes-next : min 60001 (min 60001 (long + about-long + in-long) + sumLength X s (opened .next)) ≡ min 60001 (long + sumLength X s (now .left))
+      bytes-next : min 60001 (min 60001 (long + about-long + in-long) + sumLength X s (child .next)) ≡ min 60001 (long + sumLength X s (now .unread .left))
       bytes-next =
           rw (item .bytes-are, inner .bytes-are)
-          (held-child long (about X s (itemLength X s)) (ownLength X (opened .type) (firstIn (opened .inside)) + sumLength X (opened .type) (opened .inside)) (sumLength X s (opened .next))
-          ∙ ap (λ (n : ℕ). min 60001 (long + n)) (sym (ap (sumLength X s) (opened .is) ∙ child-bytes X s (opened .type) (opened .inside) (opened .next))))
+          (held-child long (about X s (itemLength X s)) (ownLength X (child .type) (firstIn (child .inside)) + sumLength X (child .type) (child .inside)) (sumLength X s (child .next))
+          ∙ ap (λ (n : ℕ). min 60001 (long + n)) (sym (ap (sumLength X s) (child .is) ∙ child-bytes X s (child .type) (child .inside) (child .next))))
 
-      filler-next : min 60001 (min 60001 (fill + about-fill + in-fill) + sumFiller X s (opened .next)) ≡ min 60001 (fill + sumFiller X s (now .left))
+      filler-next : min 60001 (min 60001 (fill + about-fill + in-fill) + sumFiller X s (child .next)) ≡ min 60001 (fill + sumFiller X s (now .unread .left))
       filler-next =
           rw (item .filler-is, inner .filler-is)
-          (held-child fill (about X s (itemFiller X s)) (ownFiller X (opened .type) (firstIn (opened .inside)) + sumFiller X (opened .type) (opened .inside)) (sumFiller X s (opened .next))
-          ∙ ap (λ (n : ℕ). min 60001 (fill + n)) (sym (ap (sumFiller X s) (opened .is) ∙ child-filler X s (opened .type) (opened .inside) (opened .next))))
+          (held-child fill (about X s (itemFiller X s)) (ownFiller X (child .type) (firstIn (child .inside)) + sumFiller X (child .type) (child .inside)) (sumFiller X s (child .next))
+          ∙ ap (λ (n : ℕ). min 60001 (fill + n)) (sym (ap (sumFiller X s) (child .is) ∙ child-filler X s (child .type) (child .inside) (child .next))))
 
       pub counted-next : Counted X s tr k close (stop + 1) (suc i) (max high (max about-high (min 60001 (depth + in-high)))) (min 60001 (long + about-long + in-long)) (min 60001 (fill + about-fill + in-fill))
       counted-next =
-          let short = ap (λ (x : Content). length (bytes x)) (opened .is) ∙ child-length (opened .type) (opened .inside) (opened .next) in
           record {
-            left = opened .next;
-            here = subst (λ (p : ℕ). ContentAt tr (p + 1) (opened .next)) (sym stops) (opens-next opened);
-            fit = counted-child .rest;
-            closes = omega (arith, short, stops, now .closes);
+            unread = unread-next (now .unread) first stops;
             levels-left = levels-next ∙ now .levels-left;
             bytes-left = bytes-next ∙ now .bytes-left;
             filler-left = filler-next ∙ now .filler-left;

@@ -6,7 +6,7 @@ use mathlib.Core.Option.{some}
 use Prim.Native.Nat.{ℕ, zero, suc, _+_, _*_, _≤_, _<_}
 use native.Mathlib.Nat.{add-zero, add-suc, suc-add}
 use native.Mathlib.Omega.{arith}
-use lib.ListN.{length, getD}
+use lib.ListN.{length, drop, getD}
 use lib.Dec.{eqb}
 use Rattle.model.specs.Definitions.Basics.{pick}
 use Rattle.model.specs.Definitions.Commands.{Need}
@@ -15,7 +15,7 @@ use Rattle.model.specs.Definitions.Embedding.{Edge, pathsOf, firstPath, noMap}
 use Rattle.model.specs.Definitions.Image.{pathOfMember}
 use Rattle.model.specs.Definitions.Templates.{depthOf, around}
 use Rattle.loaded_table.specs.Kinds.{each-code, below-lists, list-codes, few-edges}
-use Rattle.loaded_table.specs.Loaded.{Bounded, tableBy, typesIn, kindFrom, length-of}
+use Rattle.loaded_table.specs.Loaded.{Bounded, tableBy, typesIn, kindFrom, kindsOf, countsOf, membersIn, kind-of, length-of}
 use Rattle.loaded_embedding.specs.Loaded.{stepsFrom, edgeIn, edgesFrom, mapsFrom, embeddingIn, embeddingBy, lengthsOf}
 use Rattle.rows.specs.Rows.{indexIn, memberIndex, rowIndex}
 use Rattle.measuring.specs.Measured.{edgeNumber}
@@ -35,13 +35,28 @@ number-of-other code count row i t =
     (λ e. refl) (λ e. refl) (λ e. absurd (e refl)) (λ e. refl) (λ e. refl) (λ k e. refl) code
 
 -- something stands around the items of a list only
-pub around-list : (code count : ℕ) (row : List ℕ) (n : ℕ) → 5 ≤ code → around (kindFrom code count row) n ≡ n
+around-list : (code count : ℕ) (row : List ℕ) (n : ℕ) → 5 ≤ code → around (kindFrom code count row) n ≡ n
 unfolding around
 around-list code count row n = list-codes (λ (k : ℕ). around (kindFrom k count row) n ≡ n) (λ k. refl) code
 
-pub around-other : (code count : ℕ) (row : List ℕ) (n : ℕ) → code < 5 → around (kindFrom code count row) n ≡ 0
+around-other : (code count : ℕ) (row : List ℕ) (n : ℕ) → code < 5 → around (kindFrom code count row) n ≡ 0
 unfolding around
 around-other code count row n = below-lists (λ (k : ℕ). around (kindFrom k count row) n ≡ 0) refl refl refl refl refl code
+
+-- what stands around items of a type whose kind has a code below 5, and of any other
+module _ (source : List ℕ) (s code : ℕ) (exists : s < typesIn source) (is-code : code ≡ getD (kindsOf source) s 0) where
+  pub none-around : code < 5 → (n : ℕ) → 0 ≡ around (kindOf (tableBy source) s) n
+  none-around small n =
+      sym
+      (ap (λ (κ : Kind). around κ n) (kind-of source s exists)
+      ∙ around-other (getD (kindsOf source) s 0) (getD (countsOf source) s 0) (drop (s * 16) (membersIn source)) n (omega (arith, is-code, small)))
+
+  pub all-around : 5 ≤ code → (m n : ℕ) → m ≡ n → m ≡ around (kindOf (tableBy source) s) n
+  all-around large m n same =
+      same
+      ∙ sym
+      (ap (λ (κ : Kind). around κ n) (kind-of source s exists)
+      ∙ around-list (getD (kindsOf source) s 0) (getD (countsOf source) s 0) (drop (s * 16) (membersIn source)) n (omega (arith, is-code, large)))
 
 -- ---- a child's edge
 

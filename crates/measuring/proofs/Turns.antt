@@ -19,11 +19,11 @@ use Rattle.rows.specs.Rows.{levelsIn, bytesIn, fillerIn, sourceRow, itemRow, Si
 use Rattle.measuring.specs.Measured.{edgeNumber, typeAhead, Held, Given, Measured}
 use Rattle.rows.specs.FirstChildren.{first-chosen}
 use Rattle.measuring.proofs.Edges.{number-few, child-steps}
-use Rattle.measuring.proofs.Content.{left-of, first-ahead}
-use Rattle.measuring.proofs.Counting.{Counted, Around, counted-within, counted-opens, counted-done, counted-letter, counted-child, counted-next, opened}
+use Rattle.measuring.proofs.Content.{left-of, first-ahead, unread-within, unread-opens, lettered, opened, unread-child}
+use Rattle.measuring.proofs.Counting.{Counted, Around, counted-done, counted-letter, counted-next}
 
 -- a size around items that is held, is held
-held-around : (κ : Kind) (n m : ℕ) → ((item : ℕ) → κ ≡ list item → n ≡ min 60001 m) → around κ n ≡ min 60001 (around κ m)
+pub held-around : (κ : Kind) (n m : ℕ) → ((item : ℕ) → κ ≡ list item → n ≡ min 60001 m) → around κ n ≡ min 60001 (around κ m)
 unfolding around
 held-around text n m same = omega arith
 held-around empty n m same = omega arith
@@ -34,7 +34,7 @@ held-around (list item) n m same = same item refl
 held-start : (a b : ℕ) → min 60001 (max (min 60001 a) b) ≡ min 60001 (max a b)
 held-start a b = omega arith
 
-held-sum : (a b : ℕ) → min 60001 (min 60001 a + b) ≡ min 60001 (a + b)
+pub held-sum : (a b : ℕ) → min 60001 (min 60001 a + b) ≡ min 60001 (a + b)
 held-sum a b = omega arith
 
 abbrev pub givenSetting : {source map sizes tr : List ℕ} {s from : ℕ} → Given source map sizes tr s from → Setting
@@ -117,10 +117,7 @@ module _ {source map sizes tr : List ℕ} {s from : ℕ} where
           counted = λ g.
               let own = own-at g in
               record {
-                left = g .held;
-                here = g .there;
-                fit = left-of (g .well-formed) s (g .holds);
-                closes = refl;
+                unread = record { left = g .held; here = g .there; fit = left-of (g .well-formed) s (g .holds); closes = refl };
                 levels-left = rw (is-high, own .levels-are) (held-start _ _);
                 bytes-left = rw (is-long, own .bytes-are) (held-sum _ _);
                 filler-left = rw (is-fill, own .filler-is) (held-sum _ _);
@@ -129,14 +126,14 @@ module _ {source map sizes tr : List ℕ} {s from : ℕ} where
 
   module _ {o i high long fill : ℕ} (now : SizeSoFar source map sizes tr s from o i high long fill) (given : Given source map sizes tr s from) where
     pub turn-within : o < length tr
-    turn-within = counted-within (now .counted given)
+    turn-within = unread-within (now .counted given .unread)
 
     pub turn-done : getD tr o 0 ≡ 0x32 → (g : Given source map sizes tr s from)
         → Measured (givenSetting g) s (g .held) high long fill × (o ≡ from + length (bytes (g .held)))
     turn-done here g = counted-done (now .counted g) (now .held) here
 
     pub turn-two : getD tr o 0 ≡ 0x31 → o + 1 < length tr
-    turn-two first = counted-letter (now .counted given) first .0
+    turn-two first = lettered (now .counted given .unread) first .two
 
     -- a character
     pub turn-letter : getD tr o 0 ≡ 0x31 → {high′ long′ fill′ : ℕ} → high′ ≡ high → long′ ≡ min 60001 (long + 2) → fill′ ≡ fill
@@ -147,16 +144,16 @@ module _ {source map sizes tr : List ℕ} {s from : ℕ} where
           far = omega (arith, now .far);
           few = omega (arith, now .few);
           held = record { levels-held = now .held .levels-held; bytes-held = omega arith; filler-held = now .held .filler-held };
-          counted = λ g. counted-letter (now .counted g) first .1;
+          counted = λ g. counted-letter (now .counted g) first;
         }
 
     module _ (other : getD tr o 0 ≡ 0x31 → ⊥) (another : getD tr o 0 ≡ 0x32 → ⊥) where
       first : getD tr o 0 ≡ 0x30
-      first = counted-opens (now .counted given) other another
+      first = unread-opens (now .counted given .unread) other another
 
-      abbrev child-given : (g : Given source map sizes tr s from) → Given source map sizes tr (opened (now .counted g) first .type) (o + 2)
+      abbrev child-given : (g : Given source map sizes tr s from) → Given source map sizes tr (opened (now .counted g .unread) first .type) (o + 2)
       child-given g =
-          let child = counted-child (now .counted g) first in
+          let child = unread-child (now .counted g .unread) first in
           record {
             target = g .target;
             em = g .em;
@@ -164,17 +161,17 @@ module _ {source map sizes tr : List ℕ} {s from : ℕ} where
             well-formed = g .well-formed;
             bounded = g .bounded;
             exists = omega (arith, length-of source, child .exists);
-            held = opened (now .counted g) first .inside;
-            there = opened (now .counted g) first .within;
+            held = opened (now .counted g .unread) first .inside;
+            there = opened (now .counted g .unread) first .within;
             holds = child .holds;
           }
 
       pub turn-opens : o + 1 < length tr
-      turn-opens = opened (now .counted given) first .two
+      turn-opens = opened (now .counted given .unread) first .two
 
       module _ (t : ℕ) (named : t ≡ getD tr (o + 1) 0) where
-        type-is : (g : Given source map sizes tr s from) → t ≡ opened (now .counted g) first .type
-        type-is g = named ∙ opened (now .counted g) first .named
+        type-is : (g : Given source map sizes tr s from) → t ≡ opened (now .counted g .unread) first .type
+        type-is g = named ∙ opened (now .counted g .unread) first .named
 
         -- an element opens
         pub turn-ahead : Ahead source map sizes tr s o i t
@@ -182,7 +179,7 @@ module _ {source map sizes tr : List ℕ} {s from : ℕ} where
             rw (type-is given)
             record {
               two = turn-opens;
-              few = number-few s (given .bounded) (counted-child (now .counted given) first .edge);
+              few = number-few s (given .bounded) (unread-child (now .counted given .unread) first .edge);
               given = child-given given;
             }
 
@@ -199,7 +196,7 @@ module _ {source map sizes tr : List ℕ} {s from : ℕ} where
               record { levels-held = omega (arith, item .levels-are); bytes-held = omega (arith, item .bytes-are); filler-held = omega (arith, item .filler-is) }
 
           inside : (g : Given source map sizes tr s from)
-              → Measured (givenSetting g) (opened (now .counted g) first .type) (opened (now .counted g) first .inside) in-high in-long in-fill × (stop ≡ o + 2 + length (bytes (opened (now .counted g) first .inside)))
+              → Measured (givenSetting g) (opened (now .counted g .unread) first .type) (opened (now .counted g .unread) first .inside) in-high in-long in-fill × (stop ≡ o + 2 + length (bytes (opened (now .counted g .unread) first .inside)))
           inside g =
               subst (λ (u : ℕ). (h : Given source map sizes tr u (o + 2)) → Measured (givenSetting h) u (h .held) in-high in-long in-fill × (stop ≡ o + 2 + length (bytes (h .held)))) (type-is g) inner (child-given g)
 
@@ -210,7 +207,7 @@ module _ {source map sizes tr : List ℕ} {s from : ℕ} where
 
           -- the child ends further on, within the document
           stop-within : (o + 1 < stop) × (stop < length tr)
-          stop-within = omega (arith, inside given .1, content-within (opened (now .counted given) first .within))
+          stop-within = omega (arith, inside given .1, content-within (opened (now .counted given .unread) first .within))
 
           joins : {high′ long′ fill′ : ℕ}
               → high′ ≡ max high (max about-high (min 60001 (depth + in-high)))
@@ -225,7 +222,7 @@ module _ {source map sizes tr : List ℕ} {s from : ℕ} where
                 few = omega (arith, now .few, far);
                 held = record { levels-held = omega (arith, now .held .levels-held, about-is-held .levels-held); bytes-held = omega arith; filler-held = omega arith };
                 counted = λ g.
-                    let steps = child-steps source map (g .em) s i (opened (now .counted g) first .type) (g .exists) (counted-child (now .counted g) first .edge) in
+                    let steps = child-steps source map (g .em) s i (opened (now .counted g .unread) first .type) (g .exists) (unread-child (now .counted g .unread) first .edge) in
                     let deep-here = deep ∙ ap (λ (u : ℕ). getD (lengthsOf map) (s * 16 + edgeNumber (kindOf (tableBy source) s) i u) 0) (type-is g) ∙ sym steps in
                     counted-next (now .counted g) first (around-of g is-high is-long is-fill) deep-here (inside g .0) (inside g .1);
               }

@@ -28,14 +28,14 @@ use rows::Size;
 use rows::TYPE_ROWS;
 
 // A byte at full width.
-fn wide(x: u8) -> usize
+pub fn wide(x: u8) -> usize
     ensures { λ r. ⌜ (r ≡ x) × (r < 256) ⌝ }
 {
     x as usize
 }
 
 // A number held at 60,001.
-fn held(n: usize) -> usize
+pub fn held(n: usize) -> usize
     ensures { λ r. ⌜ r ≡ heldLength n ⌝ }
 {
     if n < OVER_BYTES { n } else { OVER_BYTES }
@@ -78,7 +78,7 @@ fn with_child(size: Size, around: Size, depth: usize, inner: Size) -> Size
 }
 
 // The type of the element that content begins with at `from`; NO_CHILD where it begins with none.
-fn type_ahead(tr: &[u8], from: usize) -> usize
+pub fn type_ahead(tr: &[u8], from: usize) -> usize
     requires { ⌜ ((k : Content) × ContentAt (now tr) from k) ⌝ }
     ensures { λ r. ⌜ ((k : Content) → ContentAt (now (tr .entry)) from k → firstFrom r ≡ typeAhead k) ⌝ }
 {

@@ -19,6 +19,8 @@ pub mod Filler
 pub mod Image
 pub mod Templates
 pub mod Inverse
+pub mod LeftOut
+pub mod Unreadable
 pub mod SingleItems
 pub mod Refusals
 pub mod Valid

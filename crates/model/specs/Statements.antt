@@ -16,7 +16,7 @@ use Rattle.model.specs.Definitions.Commands.{Need, needed, optional}
 use Rattle.model.specs.Definitions.Table.{Kind, text, empty, sequence, choice, list, Table, kindOf, isSequence, isChoice, isList, tableOf}
 use Rattle.model.specs.Definitions.Heights.{heights, heightIn, heightOf, lowest, hasInstance, endlessType}
 use Rattle.model.specs.Definitions.TableChecks.{tableForm, tableOperands, tableRepeats}
-use Rattle.model.specs.Definitions.Content.{Content, end, elem, bytes, document, contentOf, levels}
+use Rattle.model.specs.Definitions.Content.{Content, end, elem, bytes, document, contentOf, levels, elements}
 use Rattle.model.specs.Definitions.Characters.{CharacterClass, Ascii, Accented, Classed, characterClass, allowed}
 use Rattle.model.specs.Definitions.Conformance.{Holds, Conforming, Instance, conforms}
 use Rattle.model.specs.Definitions.TreeChecks.{treeForm, treeLevels, treeOperands, treeExpected, maxLevels}
@@ -29,12 +29,14 @@ use Rattle.model.specs.Definitions.ValidTable.{ValidTable, tableBytes}
 use Rattle.model.specs.Definitions.ValidEmbedding.{PathMapping, mappingOf, StepsExist, NoClash, ValidEmbedding, embeddingBytes}
 use Rattle.model.specs.Definitions.Marks.{TableMarks, EmbeddingMarks, TreeMarks, LowestWithout, PathMarks}
 use Rattle.model.specs.Definitions.Valid.{WrittenBy, ValidTree}
-use Rattle.model.specs.Definitions.Inverse.{follow, readTo, readBack}
+use Rattle.model.specs.Definitions.Inverse.{follow, Located, located, yields, readTo, reading, readBack}
+use Rattle.model.specs.Definitions.LeftOut.{onPaths, leftOut}
+use Rattle.model.specs.Definitions.Unreadable.{PathMissing, Opens, FirstUnreadable}
 use Rattle.model.specs.Definitions.SingleItems.{singleItems}
-use Rattle.model.specs.Definitions.Refusals.{Fault, bad-form, wrong-steps, path-clash, too-long, over-limit, source-table, embedding, tree, Refusal, faulty, output-too-short, no-image, image-too-deep, image-too-long, no-choice, numbersOf, has, maxLength}
+use Rattle.model.specs.Definitions.Refusals.{Fault, bad-form, wrong-steps, path-clash, too-long, over-limit, source-table, embedding, tree, Refusal, faulty, output-too-short, no-image, unreadable, image-too-deep, image-too-long, no-choice, numbersOf, has, maxLength}
 use Rattle.model.specs.Definitions.Decimal.{DecimalForm, DecimalText}
 use Rattle.model.specs.Definitions.Lines.{AnswerLine}
-use Rattle.model.specs.Definitions.Entries.{checkedTable, Answer, answerOf, accepted, refused, judgeTable, judgeEmbedding, settingOf, untouched, carry, bringWithin, bringBack}
+use Rattle.model.specs.Definitions.Entries.{checkedTable, Answer, answerOf, accepted, refused, judgeTable, judgeEmbedding, settingOf, untouched, carry, bringWithin, bringBack, readWithin, readAlong}
 use Rattle.model.specs.Definitions.Explanation.{Clash, explained, unexplained, explain, explanationNumbers, ReasonHolds, Explains}
 use Rattle.model.specs.Definitions.Operations.{keptLength, typeIn, Operation, append-type, append-member, unchanged, withoutMark, operate, Appends}
 use Rattle.model.specs.Computing.{definitions}
@@ -49,6 +51,7 @@ use Rattle.model.specs.Theorems.HeightLaws.{Solves, heights-solve, heigh
 use Rattle.model.specs.Theorems.FillerLaws.{filler-conforms, filler-levels, has-instance, instance-of}
 use Rattle.model.specs.Theorems.JudgedTables.{table-sound, table-well-formed}
 use Rattle.model.specs.Theorems.ReadBack.{first-item}
+use Rattle.model.specs.Theorems.Readings.{yields-held, held-yields}
 use Rattle.model.specs.Theorems.ReadConforms.{nothing-exactly}
 use Rattle.model.specs.Theorems.Measures.{image-levels, image-length, marked, unmarked, countFiller, marked-is-image, marked-filler}
 use Rattle.model.specs.Theorems.Templates.{filler-written, write-image, writes-again}
@@ -70,6 +73,11 @@ use Rattle.model.specs.Theorems.Reasons.{one-holds}
 use Rattle.model.specs.Theorems.Explanations.{explained-10, explanation-holds, explained-so, explain-other, numbers-as-judged}
 use Rattle.model.specs.Theorems.Operations.{type-alone}
 use Rattle.model.specs.Theorems.OperationLaws.{no-type-there, refused-plain, fault-answered, no-choice-exactly, member-refusal, done, done-where-accepted, older-kept, member-falls, member-kept, member-moved}
+use Rattle.model.specs.Theorems.WithoutFiller.{bareImage}
+use Rattle.model.specs.Theorems.Taken.{LeftOf}
+use Rattle.model.specs.Theorems.Kept.{kept-left}
+use Rattle.model.specs.Theorems.ReadingOnBytes.{read-of-image, read-like-brought, read-conforming, left-is-bare-image, told-by-what-is-left, refused-17, read-only}
+use Rattle.model.specs.Theorems.Offsets.{mark-17-opens}
 
 -- ---- 1. conforming and bytes
 
@@ -171,10 +179,12 @@ pub reading-conforms : (s t e : List ℕ) → AcceptedEmbedding s t e → (j k :
 reading-conforms s t e a = read-conforms (settingOf s t e) (judges-valid s t e (judges-accept s t e (a .1)))
 
 -- A source optional choice reads as nothing exactly where the optional choice that its paths agree on is there and empty.
-pub nothing-read-exactly : (X : Setting) (n s : ℕ) (ms : List ℕ) (k : Content) → kindOf (X .source) s ≡ choice optional ms
-    → (readTo X (suc n) s k ≡ some end)
-    ↔ (follow (X .target) (targetOf (X .embedding) s) (beforeChoice (X .target) (targetOf (X .embedding) s) (firstPath (pathsOf (X .embedding) s))) k ≡ some end)
-nothing-read-exactly = nothing-exactly
+pub nothing-read-exactly : (X : Setting) (n s : ℕ) (ms : List ℕ) (l : Located) → kindOf (X .source) s ≡ choice optional ms
+    → (readTo X (suc n) s l ≡ yields end)
+    ↔ (follow (X .target) (targetOf (X .embedding) s) (beforeChoice (X .target) (targetOf (X .embedding) s) (firstPath (pathsOf (X .embedding) s))) (l .holds) ≡ some end)
+nothing-read-exactly X n s ms l kind =
+    let plainly = nothing-exactly X n s ms (l .holds) kind in
+    (λ e. plainly .0 (yields-held X (suc n) s l end e), λ e. held-yields X (suc n) s l end (plainly .1 e))
 
 -- ---- 9. measures
 
@@ -552,3 +562,64 @@ member-moves T valid t m need ms is n e =
       else-unmoved = member-kept T valid t m need ms is e;
       own-falls = member-moved T valid t m need ms is e;
     }
+
+-- ---- 20. reading along the paths (02, N4)
+
+-- Reading the image of a conforming document yields what the document's root holds, and as many elements are left out as the image
+-- has filler elements.
+pub images-are-read : (s t e : List ℕ) → AcceptedEmbedding s t e → (d : List ℕ) → Conforming (tableOf s) d
+    → (reading (settingOf s t e) (contentOf (imageOf s t e d)) ≡ yields (contentOf d))
+    × (leftOut (settingOf s t e) (contentOf d) (contentOf (imageOf s t e d)) ≡ fillerOf s t e d)
+images-are-read = read-of-image
+
+-- Where some conforming source document has an accepted tree as its image, reading the tree gives that one, if there is room for it,
+-- and counts the image's filler elements; the output is the one that bringing back leaves.
+pub reads-as-brought-back : (s t e : List ℕ) → AcceptedEmbedding s t e → (tr : List ℕ) → AcceptedTree t tr → (out d : List ℕ)
+    → Conforming (tableOf s) d → imageOf s t e d ≡ tr
+    → (readAlong s t e tr out ≡ readWithin out d (fillerOf s t e d) (leb (length d) (length out))) × (readAlong s t e tr out .output ≡ bringBack s t e tr out .output)
+reads-as-brought-back = read-like-brought
+
+-- What is read from a conforming target document is a conforming source document, with at most its bytes and at most its levels.
+pub read-conforms-and-is-no-longer : (s t e : List ℕ) → AcceptedEmbedding s t e → (tr : List ℕ) → Conforming (tableOf t) tr
+    → (k : Content) → reading (settingOf s t e) (contentOf tr) ≡ yields k
+    → Conforming (tableOf s) (document 0 k) × (length (document 0 k) ≤ length tr) × (levelsIn (document 0 k) ≤ levelsIn tr)
+read-conforms-and-is-no-longer = read-conforming
+
+-- What `onPaths` leaves of target content is that content with elements and characters taken away.
+pub only-left-out : (X : Setting) (j k : Content) → LeftOf (onPaths X j k) k
+only-left-out = kept-left
+
+-- Of a conforming target document that was read it leaves the image of what was read, without its filler elements; and the elements
+-- that are left and those left out are together all elements but the root.
+pub what-is-left : (s t e : List ℕ) → AcceptedEmbedding s t e → (tr : List ℕ) → Conforming (tableOf t) tr
+    → (j : Content) → reading (settingOf s t e) (contentOf tr) ≡ yields j
+    → (onPaths (settingOf s t e) j (contentOf tr) ≡ bareImage (settingOf s t e) j)
+    × (elements (onPaths (settingOf s t e) j (contentOf tr)) + leftOut (settingOf s t e) j (contentOf tr) ≡ elements (contentOf tr))
+what-is-left = left-is-bare-image
+
+-- Two conforming target documents that are read, and of which the same is left, are read as the same.
+pub same-where-left-out : (s t e : List ℕ) → AcceptedEmbedding s t e → (c d : List ℕ) → Conforming (tableOf t) c → Conforming (tableOf t) d
+    → (i j : Content) → reading (settingOf s t e) (contentOf c) ≡ yields i → reading (settingOf s t e) (contentOf d) ≡ yields j
+    → onPaths (settingOf s t e) i (contentOf c) ≡ onPaths (settingOf s t e) j (contentOf d) → i ≡ j
+same-where-left-out = told-by-what-is-left
+
+-- For any bytes: reading refuses with 17 and a mark exactly when tables, embedding and tree are accepted and the mark is the offset of
+-- the target element that stands for the first source element, in document order, whose own paths can't be followed, whatever the
+-- output.
+pub refused-17-exactly : (s t e tr out : List ℕ) (at : ℕ)
+    → (readAlong s t e tr out .result ≡ refused (unreadable at)) ↔ (AcceptedEmbedding s t e × AcceptedTree t tr × FirstUnreadable (settingOf s t e) 0 (located 2 (contentOf tr)) at)
+refused-17-exactly = refused-17
+
+-- At this mark of the tree an element opens, and it holds content from which the own paths of some source type can't be followed.
+pub mark-17-is-an-element : (s t e tr out : List ℕ) (at : ℕ) → readAlong s t e tr out .result ≡ refused (unreadable at)
+    → (σ : ℕ) × (inside : Content) × Opens tr at inside
+    × PathMissing (tableOf t) (targetOf (embeddingOf e) σ) (pathsOf (embeddingOf e) σ) inside (kindOf (tableOf s) σ)
+mark-17-is-an-element = mark-17-opens
+
+-- Whatever reading writes is what was read, with its length and the number of elements left out as the answer.
+pub reads-only : (s t e : List ℕ) → AcceptedEmbedding s t e → (tr : List ℕ) → AcceptedTree t tr → (out : List ℕ) (n c : ℕ)
+    → readAlong s t e tr out .result ≡ accepted n c
+    → (k : Content) × (reading (settingOf s t e) (contentOf tr) ≡ yields k)
+    × (readAlong s t e tr out ≡ readWithin out (document 0 k) (leftOut (settingOf s t e) k (contentOf tr)) true)
+    × (n ≡ length (document 0 k)) × (c ≡ leftOut (settingOf s t e) k (contentOf tr))
+reads-only = read-only

@@ -29,6 +29,8 @@ pub mod Reasons
 pub mod Explanations
 pub mod ByElements
 pub mod ImageConforms
+pub mod PlainReading
+pub mod Readings
 pub mod ReadBack
 pub mod ReadConforms
 pub mod SingleItems
@@ -38,6 +40,11 @@ pub mod TemplateShapes
 pub mod Templates
 pub mod TemplateMeasures
 pub mod TemplateSizes
+pub mod WithoutFiller
+pub mod Taken
+pub mod Kept
+pub mod BuiltElements
+pub mod BareImages
 pub mod BringingBack
 pub mod Terms
 pub mod EntryLaws
@@ -50,3 +57,7 @@ pub mod RulesNeeded
 pub mod GrownTables
 pub mod Operations
 pub mod OperationLaws
+pub mod Unreadable
+pub mod ReadingAlong
+pub mod ReadingOnBytes
+pub mod Offsets

@@ -1,5 +1,5 @@
 -- The edges of a source type of an accepted setting, by the arrays: its target type, its paths and its members.
-use mathlib.Core.Path.{_≡_, refl, ap, _∙_}
+use mathlib.Core.Path.{_≡_, refl, sym, ap, _∙_}
 use mathlib.Core.Bool.{true}
 use mathlib.Core.List.{List, [], _∷_, List·Memᴰ, List·Memᴰ·head, List·Memᴰ·tail}
 use mathlib.Core.List as lists
@@ -16,7 +16,7 @@ use Rattle.model.specs.Theorems.Facts.{Walks, MemberPath, Along, along-none, al
 use Rattle.model.specs.Theorems.Tools.{true-false}
 use Rattle.model.specs.Theorems.ImageConforms.{list-left}
 use Rattle.loaded_table.specs.Loaded.{kindFrom, kindIn, typesIn, kindsOf, countsOf, membersIn, length-of, kind-of}
-use Rattle.loaded_table.specs.Kinds.{choiceCode, needFrom, row-codes, choice-from, choice-range, list-code}
+use Rattle.loaded_table.specs.Kinds.{code-text, choiceCode, needFrom, row-codes, choice-from, choice-range, list-code}
 use Rattle.loaded_embedding.specs.Loaded.{targetsOf, startsOf, lengthsOf, stepsFrom, edgesFrom, edgeIn, mapsFrom, embeddingIn}
 use Rattle.loaded_setting.specs.Ready.{settingIn, Ready}
 use Rattle.paths.specs.Following.{Followable, pathAt, pathsFrom}
@@ -167,6 +167,25 @@ module _ {source target map em : List ℕ} (ready : Ready source target map em) 
   is-sequence code = kind-is ∙ rw code
 
   -- a sequence or a choice: its members are its row, and each has an edge
+  -- a type whose code isn't that of a text is none
+  pub no-text : (getD (kindsOf source) σ 0 ≡ 0 → ⊥) → κ ≡ text → ⊥
+  no-text other e = other (code-text (getD (kindsOf source) σ 0) count (drop (σ * 16) (membersIn source)) (sym kind-is ∙ e))
+
+  -- a text has one path
+  module _ (code : getD (kindsOf source) σ 0 ≡ 0) where
+    pub is-text : κ ≡ text
+    is-text = kind-is ∙ rw code
+
+    pub text-follows : Followable target em (getD (startsOf map) (σ * 16 + 0) 0) (getD (lengthsOf map) (σ * 16 + 0) 0) (getD (targetsOf map) σ 0)
+    unfolding edgesOf
+    text-follows =
+        let one : edgesOf κ ≡ 1 = ap edgesOf is-text in
+        edge-follows 0 (omega arith)
+
+    pub text-path : firstPath (pathsOf (X .embedding) σ) ≡ pathAt em map (σ * 16 + 0)
+    unfolding pathsFrom firstPath edgesOf
+    text-path = ap firstPath (paths-are ∙ ap (λ (x : Kind). pathsFrom em map (σ * 16) (edgesOf x)) is-text) ∙ ap (pathAt em map) (sym (add-zero (σ * 16)))
+
   module _ (low : 2 ≤ getD (kindsOf source) σ 0) (high : getD (kindsOf source) σ 0 < 5) where
     with-row : (edgesOf κ ≡ length row) × (membersOf κ ≡ row)
     with-row = rw kind-is (row-code (getD (kindsOf source) σ 0) count (drop (σ * 16) (membersIn source)) low high)

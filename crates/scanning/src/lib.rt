@@ -1,6 +1,7 @@
 // Finding one's way in a tree document, on its bytes.
 ghost use Rattle.model.specs.Definitions.Content.{Content};
-ghost use Rattle.model.specs.Definitions.Inverse.{childAt, childOfType};
+ghost use Prim.Native.Nat.{_+_};
+ghost use Rattle.model.specs.Definitions.Inverse.{childAt, childOfType, foundAt, bytesBefore};
 ghost use Rattle.scanning.specs.Scanning.{ContentAt};
 ghost use Rattle.scanning.specs.Finding.{Finds};
 ghost use Rattle.scanning.specs.Spanning.{Spans};
@@ -20,7 +21,7 @@ pub enum Found {
 pub fn child<'a>(tr: &'a [u8], sp: &'a [u16], from: usize, p: usize) -> Found
     requires spans { ⌜ Spans (now tr) (now sp) ⌝ }
     requires content { ⌜ ((k : Content) × ContentAt (now tr) from k) ⌝ }
-    ensures { λ r. ⌜ ((k : Content) → ContentAt (now (tr .entry)) from k → Finds (now (tr .entry)) r (childAt k p)) ⌝ }
+    ensures { λ r. ⌜ ((k : Content) → ContentAt (now (tr .entry)) from k → Finds (now (tr .entry)) r (foundAt (from + bytesBefore k p + 2) (childAt k p))) ⌝ }
 {
     if p == 0 {
         return Found::Missing;
@@ -42,7 +43,7 @@ pub fn child<'a>(tr: &'a [u8], sp: &'a [u16], from: usize, p: usize) -> Found
 // Where the content of the first element of the siblings that begin at `from` begins, if that element has type t.
 pub fn child_of_type(tr: &[u8], from: usize, t: u8) -> Found
     requires { ⌜ ((k : Content) × ContentAt (now tr) from k) ⌝ }
-    ensures { λ r. ⌜ ((k : Content) → ContentAt (now (tr .entry)) from k → Finds (now (tr .entry)) r (childOfType k t)) ⌝ }
+    ensures { λ r. ⌜ ((k : Content) → ContentAt (now (tr .entry)) from k → Finds (now (tr .entry)) r (foundAt (from + 2) (childOfType k t))) ⌝ }
 {
     if tr[from] == OPENS {
         let second = from + 1;

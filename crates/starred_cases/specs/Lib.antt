@@ -3,3 +3,4 @@ pub mod Decimal
 pub mod Written
 pub mod Clashes
 pub mod Operations
+pub mod Reading

@@ -1,16 +1,12 @@
 -- `bring_back` meets its contract: either pair of buffers is long enough.
 use mathlib.Core.Path.{sym}
-use Prim.Native.Nat.{ℕ, _≤_}
+use Prim.Native.Nat.{ℕ}
 use native.Mathlib.Omega.{arith}
-use lib.ListN.{length, replicate, length-replicate}
+use lib.ListN.{length-replicate}
 use borrow.Author.Needs.{needs}
+use Rattle.inverse.specs.Sources.{cleared-buffers}
 use Rattle.bringing.proofs.bring_back.Statement.{statement}
 use Rattle.bringing.proofs.bring_back.Tie as tie
-
--- a document is as long as a cleared buffer at most, and no buffer is longer than a document may be
-cleared-buffers : {long : ℕ} (n : ℕ) → long ≤ n → n ≤ 60000
-    → (long ≤ length {A = ℕ} (replicate n 0)) × (length {A = ℕ} (replicate n 0) ≤ 60000) × (length {A = ℕ} (replicate n 0) ≤ length {A = ℕ} (replicate n 0))
-cleared-buffers n within short = let is = length-replicate {A = ℕ} n 0 in (omega (arith, within, is), omega (arith, short, is), omega arith)
 
 bring-through-requires : tie.Need-bring-through-requires
 bring-through-requires c κs =

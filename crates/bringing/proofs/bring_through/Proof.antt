@@ -1,7 +1,8 @@
 -- `bring_through` meets its contract: what was read is handed on; where nothing was, there is no source.
 use mathlib.Core.Path.{sym}
 use lib.Seq.{length-take-le}
-use Rattle.bringing.proofs.Answering.{read-within, spans-room, read-front, nothing-read}
+use Rattle.inverse.specs.Sources.{read-within, read-front}
+use Rattle.bringing.proofs.Answering.{spans-room, nothing-read}
 use borrow.Author.Needs.{needs}
 use Rattle.bringing.proofs.bring_through.Statement.{statement}
 use Rattle.bringing.proofs.bring_through.Tie as tie

@@ -1,6 +1,7 @@
 -- `give` meets its contract: by what the comparison answers.
 use Rattle.bringing.proofs.Comparing.{denied, confirmed}
-use Rattle.bringing.proofs.Answering.{source-read, other-image, source-no-room, source-copied}
+use Rattle.inverse.specs.Sources.{source-read}
+use Rattle.bringing.proofs.Answering.{other-image, source-no-room, source-copied}
 use borrow.Author.Needs.{needs}
 use Rattle.bringing.proofs.give.Statement.{statement}
 use Rattle.bringing.proofs.give.Tie as tie

@@ -13,15 +13,15 @@ begin-list-requires c κs =
     (start .pre, omega (arith, rest .0 .0 .1, rest .0 .1, rest .1, c .if1 .left, c .before .before .kind .ensures .0))
 
 returns : tie.Need-returns
-returns c = let start = c .before .before .before .before .before in λ k a. begin-sequence (start .pre .ready) (start .pre .known-type) k (sym (c .before .kind .ensures .0) ∙ c .match .keys1)
+returns c = let start = c .before .before .before .before .before in λ k a. begin-sequence (start .pre .ready) (start .pre .known-type) _ (sym (c .before .kind .ensures .0) ∙ c .match .keys1)
 
 returns-2 : tie.Need-returns-2
-returns-2 c = let start = c .before .before .before .before .before in λ k a. begin-choice (start .pre .ready) (start .pre .known-type) k (sym (c .before .kind .ensures .0) ∙ c .match .keys2)
+returns-2 c = let start = c .before .before .before .before .before in λ k a. begin-choice (start .pre .ready) (start .pre .known-type) _ (sym (c .before .kind .ensures .0) ∙ c .match .keys2)
 
 returns-4 : tie.Need-returns-4
 returns-4 c =
     let start = c .before .before .before .before .before .before in
-    λ k a. begin-none (start .pre .ready) (start .pre .known-type) k (omega (arith, c .before .before .kind .ensures .0, c .if1 .taken))
+    λ k a. begin-none (start .pre .ready) (start .pre .known-type) _ (omega (arith, c .before .before .kind .ensures .0, c .if1 .taken))
 
 pub begin-spec : {M : Type 1} → statement M
 begin-spec =

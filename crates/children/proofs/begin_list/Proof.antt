@@ -30,14 +30,14 @@ returns c k a =
     let cut = c .before .before .before .before .before in
     let start = cut .before .before .before .before .before .before .before in
     let i = start .pre .0 in
-    begin-items (i .ready) (i .known-type) (start .pre .1) (cut .before .before .before .start .ensures .0) (cut .before .before .steps .ensures .0) (cut .before .target .ensures .0) (cut .list-depth .ensures) k (rw (c .before .before .found .given .1) at (c .before .before .before .before .follow .ensures k a)) (c .member .ensures .0)
+    begin-items (i .ready) (i .known-type) (start .pre .1) (cut .before .before .before .start .ensures .0) (cut .before .before .steps .ensures .0) (cut .before .target .ensures .0) (cut .list-depth .ensures) _ (rw (c .before .before .found .given .1) at (c .before .before .before .before .follow .ensures k a)) (c .member .ensures .0)
 
 returns-2 : tie.Need-returns-2
 returns-2 c k a =
     let cut = c .before .before .before in
     let start = cut .before .before .before .before .before .before .before in
     let i = start .pre .0 in
-    begin-lost (i .ready) (i .known-type) (start .pre .1) (cut .before .before .before .start .ensures .0) (cut .before .before .steps .ensures .0) (cut .before .target .ensures .0) (cut .list-depth .ensures) k (rw (c .enum-told .given .1) at (c .before .before .follow .ensures k a))
+    begin-lost (i .ready) (i .known-type) (start .pre .1) (cut .before .before .before .start .ensures .0) (cut .before .before .steps .ensures .0) (cut .before .target .ensures .0) (cut .list-depth .ensures) _ (rw (c .enum-told .given .1) at (c .before .before .follow .ensures k a))
 
 pub begin-list-spec : {M : Type 1} → statement M
 begin-list-spec =

@@ -33,17 +33,17 @@ shared-slice-read-if1 c =
 returns : tie.Need-returns
 returns c k a =
     let followed = c .before .before .before .before .before in
-    begin-empty (shared-here (followed .before)) k (rw (c .before .before .before .found .given .1) at (followed .follow .ensures k a)) (c .if1 .taken)
+    begin-empty (shared-here (followed .before)) _ (rw (c .before .before .before .found .given .1) at (followed .follow .ensures k a)) (c .if1 .taken)
 
 returns-2 : tie.Need-returns-2
 returns-2 c k a =
     let followed = c .before .before .before .before .before in
-    begin-member (shared-here (followed .before)) k (held-not (rw (c .before .before .before .found .given .1) at (followed .follow .ensures k a)) (c .if1 .left))
+    begin-member (shared-here (followed .before)) _ (held-not (rw (c .before .before .before .found .given .1) at (followed .follow .ensures k a)) (c .if1 .left))
 
 returns-3 : tie.Need-returns-3
 returns-3 c k a =
     let followed = c .before .before in
-    begin-member (shared-here (followed .before)) k (missing-not (rw (c .enum-told .given .1) at (followed .follow .ensures k a)))
+    begin-member (shared-here (followed .before)) _ (missing-not (rw (c .enum-told .given .1) at (followed .follow .ensures k a)))
 
 pub begin-optional-spec : {M : Type 1} → statement M
 begin-optional-spec =

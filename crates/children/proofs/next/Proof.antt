@@ -32,7 +32,7 @@ returns-3 c =
     let start = c .before .before .before .before .before .before .before in
     λ k parts a shows.
     rw (c .before .before .cursor2 .given .1)
-    (c .next-item .ensures (start .args .source .now) (start .args .map .now) (start .args .image .sigma) k parts (rw (c .before .before .cursor2 .given .1) at shows))
+    (c .next-item .ensures (start .args .source .now) (start .args .map .now) (start .args .image .sigma) _ parts (rw (c .before .before .cursor2 .given .1) at shows))
 
 returns-4 : tie.Need-returns-4
 returns-4 c = λ k parts a shows. rw (c .enum-told2 .given .1) at shows

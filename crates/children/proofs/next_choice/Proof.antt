@@ -38,12 +38,12 @@ loop-again c =
     let l = c .before .before .before .before in
     let i = l .before .before .before .before .before .pre .0 in
     let less = rw (l .before .count .ensures .0) at (c .before .before .before .loop-test .taken) in
-    record { left = λ k parts a left. choice-on (i .ready) (i .known-type) (left .is-choice) _ less k (l .loop .inv .left k parts a left) (rw (c .enum-told .given .1) at (c .before .before .along .ensures k a)) }
+    record { left = λ k parts a left. choice-on (i .ready) (i .known-type) (left .is-choice) _ less _ (l .loop .inv .left k parts a left) (rw (c .enum-told .given .1) at (c .before .before .along .ensures k a)) }
 
 returns-2 : tie.Need-returns-2 Inv-loop μ-loop
 returns-2 c k parts a left =
     let i = c .before .before .before .before .before .before .pre .0 in
-    choice-none (i .ready) (i .known-type) k _ (c .before .loop .inv .left k parts a left) (rw (c .before .before .count .ensures .0) at (c .loop-test .left))
+    choice-none (i .ready) (i .known-type) _ _ (c .before .loop .inv .left k parts a left) (rw (c .before .before .count .ensures .0) at (c .loop-test .left))
 
 pub next-choice-spec : {M : Type 1} → statement M
 next-choice-spec =

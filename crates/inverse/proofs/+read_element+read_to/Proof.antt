@@ -8,9 +8,9 @@ use borrow.Fn.Kinds.{In}
 use borrow.Fn.PlainCycle.{Measures, is, falls, and}
 use Rattle.model.specs.Theorems.Tools.{some-none}
 use Rattle.writing.specs.Laws.{writes-length}
-use Rattle.paths.specs.Edges.{small}
+use Rattle.paths.specs.Edges.{small, text-follows}
 use Rattle.children.specs.Cursors.{cursorWeight}
-use Rattle.inverse.proofs.ByKind.{read-zero, read-text, text-follows}
+use Rattle.inverse.proofs.ByKind.{read-zero, read-text}
 use Rattle.inverse.proofs.Elements.{element-no-room, element-refused, held-within, element-no-close, element-written}
 use Rattle.inverse.proofs.Turning.{Reading, reading-start, turn-shows, turn-done, turn-broken, turn-inside, turn-less, turn-refused, turn-on}
 use Rattle.inverse.proofs.read_element.Reads as read-element
@@ -85,14 +85,14 @@ read-to-read-text-requires t c κs =
     let start = c .before .before .before .before .before .before .before .before .before in
     let i = start .pre .1 .0 in
     let code = sym (c .before .before .kind .ensures .0) ∙ c .before .if2 .taken in
-    (i .spans, (small (i .ready) (i .known-type), (text-follows (i .ready) (i .known-type) _ (c .before .before .before .if1 .left) code, (i .content, start .pre .1 .1))))
+    (i .spans, (small (i .ready) (i .known-type), (text-follows (i .ready) (i .known-type) code, (i .content, start .pre .1 .1))))
 
 read-to-returns-2 : (t : ℕ) → read-to-lts.Need-returns-2 (read-to-calls t) (read-to-at t) read-to.Post read-to-Inv-loop read-to-μ-loop
 read-to-returns-2 t c k a =
     let tested = c .before .before .before .before in
     let i = tested .before .before .before .before .before .before .before .before .pre .1 .0 in
     let code = sym (tested .before .kind .ensures .0) ∙ tested .if2 .taken in
-    rw (read-text (i .ready) (i .known-type) _ (tested .before .before .if1 .left) code k) (c .before .before .read-text .ensures k a)
+    rw (read-text (i .ready) (i .known-type) _ (tested .before .before .if1 .left) code _) (c .before .before .read-text .ensures k a)
 
 read-to-loop-holds : (t : ℕ) → read-to-lts.Need-loop-holds (read-to-calls t) (read-to-at t) read-to.Post read-to-Inv-loop read-to-μ-loop
 read-to-loop-holds t c =
@@ -136,7 +136,7 @@ pub +read-element+read-to-spec : {M : Type 1} → statement M
     read-to.Post
     read-to-Inv-loop
     read-to-μ-loop
-    (λ c k a j e. some-none e (read-zero _ _ _ k (c .if1 .taken)))
+    (λ c k a j e. some-none e (read-zero _ _ _ _ (c .if1 .taken)))
     (λ c κs. let i = c .before .before .before .before .before .before .pre .1 .0 in small (i .ready) (i .known-type))
     (read-to-read-text-requires t)
     (λ c. search needs)

@@ -1,15 +1,15 @@
 -- `read_back` meets its contract: the root element is read, and the byte that ends the document written after it.
 use native.Mathlib.Omega.{arith}
 use borrow.Author.Needs.{needs}
-use Rattle.inverse.proofs.Whole.{root-there, root-type, whole-refused, whole-room, whole-no-end, whole-written}
+use Rattle.inverse.specs.Sources.{root-there, root-image}
+use Rattle.inverse.proofs.Whole.{whole-refused, whole-room, whole-no-end, whole-written}
 use Rattle.inverse.proofs.read_back.Statement.{statement}
 use Rattle.inverse.proofs.read_back.Tie as tie
 
 read-element-requires : tie.Need-read-element-requires
 read-element-requires c κs =
     let start = c .before .before .before .before .before in
-    let here = start .pre .1 .1 in
-    (record { spans = start .pre .0; ready = start .pre .1 .0; known-type = root-type (start .pre .1 .0); content = (here .0, root-there (here .1)) }, omega arith)
+    (root-image (start .pre .1 .0) (start .pre .0) (start .pre .1 .1), omega arith)
 
 returns : tie.Need-returns
 returns c =

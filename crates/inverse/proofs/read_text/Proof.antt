@@ -2,7 +2,7 @@
 use native.Mathlib.Omega.{arith}
 use borrow.Author.Needs.{needs}
 use Rattle.model.specs.Theorems.Tools.{some-none}
-use Rattle.inverse.proofs.Elements.{text-within, text-copied, text-too-long}
+use Rattle.inverse.proofs.Elements.{held-none, text-within, text-copied, text-too-long}
 use Rattle.inverse.proofs.read_text.Statement.{statement}
 use Rattle.inverse.proofs.read_text.Tie as tie
 
@@ -37,7 +37,7 @@ returns-2 c =
     λ k a. text-copied (rw (earlier .before .before .before .found .given .1) at (earlier .before .before .before .before .before .along .ensures k a)) (earlier .before .close-of .ensures) (earlier .if1 .left) (start .pre .1 .1 .1 .1) (c .before .before .copy .ensures)
 
 returns-3 : tie.Need-returns-3
-returns-3 c = λ k a j e. some-none e (rw (c .enum-told .given .1) at (c .before .before .along .ensures k a))
+returns-3 c = λ k a j e. some-none e (held-none (rw (c .enum-told .given .1) at (c .before .before .along .ensures k a)))
 
 pub read-text-spec : {M : Type 1} → statement M
 read-text-spec =

@@ -15,8 +15,9 @@ use Rattle.model.specs.Definitions.TreeChecks.{treeForm, treeLevels, tre
 use Rattle.model.specs.Definitions.Embedding.{embeddingOf}
 use Rattle.model.specs.Definitions.EmbeddingChecks.{embeddingForm, embeddingLimits, embeddingOperands, rootToRoot, wrongEnd, wrongSteps, pathClash}
 use Rattle.model.specs.Definitions.Image.{Setting, image, imageLevels, imageLength, imageFiller}
-use Rattle.model.specs.Definitions.Inverse.{bringBackContent}
-use Rattle.model.specs.Definitions.Refusals.{too-long, bad-form, over-limit, bad-operand, repeated-member, no-finite-instance, root-moved, wrong-end, wrong-steps, path-clash, unexpected, Document, source-table, target-table, embedding, tree, Refusal, faulty, no-image, image-too-deep, image-too-long, output-too-short, Judged, sound, has, faultAt, faultUnless, fits, maxLength, numbersOf}
+use Rattle.model.specs.Definitions.Inverse.{Reading, yields, missing, reading, bringBackContent}
+use Rattle.model.specs.Definitions.LeftOut.{leftOut}
+use Rattle.model.specs.Definitions.Refusals.{too-long, bad-form, over-limit, bad-operand, repeated-member, no-finite-instance, root-moved, wrong-end, wrong-steps, path-clash, unexpected, Document, source-table, target-table, embedding, tree, Refusal, faulty, no-image, unreadable, image-too-deep, image-too-long, output-too-short, Judged, sound, has, faultAt, faultUnless, fits, maxLength, numbersOf}
 
 -- ---- each document by all its checks, in order
 
@@ -165,3 +166,24 @@ bringBack source target em tr out =
     unlessFaulty (untouched out) embedding (judgedEmbedding (tableOf source) (tableOf target) em) λ u.
     unlessFaulty (untouched out) tree (judgedTree (tableOf target) tr) λ u.
     bringContent out (bringBackContent (settingOf source target em) (contentOf tr))
+
+-- ---- reading along the paths (02, N4)
+
+-- what was read of a document whose root holds k: 17, 14, or written, with the number of elements on no followed path
+unfoldable pub readWithin : List ℕ → List ℕ → ℕ → Bool → Outcome
+readWithin out doc count false = untouched out output-too-short
+readWithin out doc count true = written out doc count
+
+unfoldable pub readContent : List ℕ → Setting → Content → Reading → Outcome
+readContent out X k (missing at) = untouched out (unreadable at)
+readContent out X k (yields j) = readWithin out (document 0 j) (leftOut X j k) (leb (length (document 0 j)) (length out))
+
+-- Read along the paths, whose tree is judged by the target table: length of the source document, and the number of target elements, the
+-- root aside, on no followed path.
+unfoldable pub readAlong : List ℕ → List ℕ → List ℕ → List ℕ → List ℕ → Outcome
+readAlong source target em tr out =
+    unlessFaulty (untouched out) source-table (judgedTable source) λ u.
+    unlessFaulty (untouched out) target-table (judgedTable target) λ u.
+    unlessFaulty (untouched out) embedding (judgedEmbedding (tableOf source) (tableOf target) em) λ u.
+    unlessFaulty (untouched out) tree (judgedTree (tableOf target) tr) λ u.
+    readContent out (settingOf source target em) (contentOf tr) (reading (settingOf source target em) (contentOf tr))

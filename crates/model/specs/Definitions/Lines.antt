@@ -40,6 +40,13 @@ CarryLine a bs = AnswerLine carriedWord (a .value ∷ a .filler ∷ []) a bs
 abbrev pub BringLine : Answer → List ℕ → Type 0
 BringLine a bs = AnswerLine broughtWord (a .value ∷ []) a bs
 
+-- `read` (02, N4): length of the source document, and target elements on no followed path
+abbrev pub readWord : List ℕ
+readWord = 0x72 ∷ 0x65 ∷ 0x61 ∷ 0x64 ∷ []
+
+abbrev pub ReadLine : Answer → List ℕ → Type 0
+ReadLine a bs = AnswerLine readWord (a .value ∷ a .filler ∷ []) a bs
+
 -- `extend` (02, N8), for an operation: the number of types
 abbrev pub typesWord : List ℕ
 typesWord = 0x74 ∷ 0x79 ∷ 0x70 ∷ 0x65 ∷ 0x73 ∷ []

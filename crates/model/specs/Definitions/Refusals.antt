@@ -1,4 +1,4 @@
--- 01 "Refusal answers", and of 02, N8 refusal 19: each refusal by a name, and for each its number, document and mark.
+-- 01 "Refusal answers", and of 02 refusals 17 (N4) and 19 (N8): each refusal by a name, and for each its number, document and mark.
 use mathlib.Core.Bool.{Bool, true, false}
 use mathlib.Core.List.{List}
 use Prim.Native.Nat.{ℕ}
@@ -28,6 +28,7 @@ pub data Document : Type 0 where
 pub data Refusal : Type 0 where
   faulty : Document → Fault → Refusal
   no-image : Refusal
+  unreadable : ℕ → Refusal
   image-too-deep : Refusal
   image-too-long : Refusal
   output-too-short : Refusal
@@ -76,6 +77,7 @@ pub record Numbers : Type 0 where
 unfoldable pub numbersOf : Refusal → Numbers
 numbersOf (faulty d f) = record { number = faultNumber f; document = documentNumber d; mark = faultMark f }
 numbersOf no-image = record { number = 15; document = documentNumber tree; mark = 0 }
+numbersOf (unreadable at) = record { number = 17; document = documentNumber tree; mark = at }
 numbersOf image-too-deep = record { number = 12; document = documentNumber output; mark = 0 }
 numbersOf image-too-long = record { number = 13; document = documentNumber output; mark = 0 }
 numbersOf output-too-short = record { number = 14; document = documentNumber output; mark = 0 }

@@ -4,12 +4,13 @@ use mathlib.Core.Path.{_≡_, refl, sym, ap, _∙_, subst}
 use mathlib.Core.Bool.{Bool, true, false, _&&_}
 use mathlib.Core.Option.{Option, none, some}
 use mathlib.Core.Logic.{_↔_}
-use Prim.Native.Nat.{ℕ, suc, _≤_}
+use Prim.Native.Nat.{ℕ, _+_, _≤_, _<_}
 use native.Mathlib.Omega.{arith}
+use lib.ListN.{length}
 use lib.Dec.{eqb}
 use borrow.Author.Tests.{eqb-true, eq-eqb}
 use Rattle.model.specs.Definitions.Table.{kindOf}
-use Rattle.model.specs.Definitions.Content.{Content, end, char, elem, levels, same}
+use Rattle.model.specs.Definitions.Content.{Content, end, char, elem, bytes, document, levels, same}
 use Rattle.model.specs.Definitions.Conformance.{Holds, conforms}
 use Rattle.model.specs.Definitions.Filler.{content, fillers}
 use Rattle.model.specs.Definitions.Image.{Setting, image, imageBy}
@@ -19,8 +20,11 @@ use Rattle.model.specs.Theorems.Tools.{true-false, some-none, and-left, 
 use Rattle.model.specs.Theorems.Conforms.{holds-conforms, conforms-holds}
 use Rattle.model.specs.Theorems.FillerLaws.{filler-conforms}
 use Rattle.model.specs.Theorems.ImageConforms.{image-holds}
+use Rattle.model.specs.Theorems.PlainReading.{plainTo}
+use Rattle.model.specs.Theorems.Readings.{back-plain}
 use Rattle.model.specs.Theorems.ReadBack.{read-back}
 use Rattle.model.specs.Theorems.ReadConforms.{read-holds}
+use Rattle.model.specs.Theorems.Measures.{size, size-elem, document-length}
 use Rattle.model.specs.Theorems.NeverLonger.{levels-never-more}
 
 -- ---- the test for the same content
@@ -51,6 +55,23 @@ same-equal (elem t k r) (elem u l s) e =
     let rests : r ≡ s = same-equal r s (and-right (eqb t u && same k l) (same r s) e) in
     cc
 
+-- ---- levels and bytes
+
+size-char : (c : ℕ) (r : Content) → size (char c r) ≡ 2 + size r
+unfolding bytes
+size-char c r = omega arith
+
+-- each level takes an element's bytes
+levels-size : (k : Content) → levels k ≤ size k
+unfolding levels
+levels-size end = unfold bytes in omega arith
+levels-size (char c r) = omega (arith, size-char c r, levels-size r)
+levels-size (elem t k r) = omega (arith, size-elem t k r, levels-size k, levels-size r)
+
+-- so a document has more bytes than levels
+pub levels-below-length : (k : Content) → levels k < length (document 0 k)
+levels-below-length k = omega (arith, document-length 0 k, levels-size k)
+
 module _ (X : Setting) (v : Valid X) where
   -- a conforming source document, by what its root holds
   abbrev pub Source : Content → Type 0
@@ -65,11 +86,12 @@ module _ (X : Setting) (v : Valid X) where
 
   -- reading it gives back the document
   pub read-image : (k : Content) → Source k → readBack X (image X k) ≡ some k
-  unfolding readBack
-  read-image k h = go (levels-never-more X v k h)
+  read-image k h = back-plain X (image X k) ∙ go (levels-never-more X v k h)
     where
-      go : levels k ≤ levels (image X k) → readBack X (image X k) ≡ some k
-      go less = unfold image imageBy in read-back X v (fillers content (X .target)) 0 k (v .source-sound .well-formed .has-root) h (suc (levels (image X k))) (omega arith)
+      go : levels k ≤ levels (image X k) → plainTo X (length (document 0 (image X k))) 0 (image X k) ≡ some k
+      go less =
+          unfold image imageBy in
+          read-back X v (fillers content (X .target)) 0 k (v .source-sound .well-formed .has-root) h (length (document 0 (image X k))) (omega (arith, levels-below-length (image X k)))
 
   -- so equal images are images of equal documents
   pub image-injective : (k l : Content) → Source k → Source l → image X k ≡ image X l → k ≡ l
@@ -114,7 +136,6 @@ module _ (X : Setting) (v : Valid X) where
 
   -- what is read from a conforming target document conforms to the source table
   pub read-conforms : (j k : Content) → Holds (X .target) (kindOf (X .target) 0) j → readBack X j ≡ some k → Source k
-  unfolding readBack
   read-conforms j k h e =
-      read-holds X v (suc (levels j)) 0 j k (v .source-sound .well-formed .has-root)
-      (subst (λ (t : ℕ). Holds (X .target) (kindOf (X .target) t) j) (sym (v .root-to-root)) h) e
+      read-holds X v (length (document 0 j)) 0 j k (v .source-sound .well-formed .has-root)
+      (subst (λ (t : ℕ). Holds (X .target) (kindOf (X .target) t) j) (sym (v .root-to-root)) h) (sym (back-plain X j) ∙ e)

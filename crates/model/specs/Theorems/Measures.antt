@@ -200,7 +200,7 @@ abbrev pub size : Content → ℕ
 size k = length (bytes k)
 
 -- an element's bytes are its two commands and what it holds
-size-elem : (t : ℕ) (k r : Content) → size (elem t k r) ≡ 3 + size k + size r
+pub size-elem : (t : ℕ) (k r : Content) → size (elem t k r) ≡ 3 + size k + size r
 unfolding bytes
 size-elem t k r = omega (arith, length-append (bytes k) (0x32 ∷ bytes r))
 

@@ -19,22 +19,25 @@ use Rattle.model.specs.Definitions.Conformance.{Holds, no-character, one
 use Rattle.model.specs.Definitions.Embedding.{leaves, Divided, divide, targetOf, pathsOf, firstPath}
 use Rattle.model.specs.Definitions.EmbeddingChecks.{rightSteps, leavesOnly, optionalFirst, maxSteps}
 use Rattle.model.specs.Definitions.Filler.{Builder, content, levelsOf, lengthOf, fillers}
-use Rattle.model.specs.Definitions.Image.{Setting, Placement, placed, beyond, under, growMembers, growKind, grow, place, lettersOf, alongPaths, alongChoice, itemsOf, alongList, placements, imageOfElement, children, imageBy, image}
+use Rattle.model.specs.Definitions.Image.{Setting, Placement, placed, beyond, under, isPlaced, growMembers, growKind, grow, place, lettersOf, alongPaths, alongChoice, itemsOf, alongList, placements, imageOfElement, children, imageBy, image}
 use Rattle.model.specs.Theorems.Facts.{MemberPath, Along, along-none, along-both, ValidEdges, text-edge, no-edge, sequence-edges, choice-edges, list-edge, Valid, Starts, starts-none, starts-more, Leads, Fits, nothing-placed, right-here, below-sequence, below-choice, below-list}
 use Rattle.model.specs.Theorems.Tools.{pick-true, true-false, some-none}
-use Rattle.model.specs.Theorems.Measures.{Hom, image-hom, levels-hom, size, size-hom, document-length}
+use Rattle.model.specs.Theorems.Measures.{image-hom, levels-hom, size, size-elem, size-hom, document-length}
 use Rattle.model.specs.Theorems.Placing.{path-of-member, placements-fit, divide-good, single-fits}
 
 -- ---- measures
 
--- A measure of content that a builder computes: `join` measures what stands side by side, `wrap` an element by what it
--- holds.
+-- A measure of source content, and a builder that measures of an image at least what paths build: `join` measures what stands side
+-- by side, `wrap` an element by what it holds. What the builder makes of a filler element is left open, so that it may count it or not.
 pub record Measure (B : Builder ℕ) (μ : Content → ℕ) : Type 0 where
-  pub computes : Hom content B μ
   pub join : ℕ → ℕ → ℕ
   pub wrap : ℕ → ℕ
+  pub measure-end : μ end ≡ 0
+  pub measure-char : (c : ℕ) (r : Content) → μ (char c r) ≡ B .letter c (μ r)
+  pub measure-elem : (t : ℕ) (k r : Content) → μ (elem t k r) ≡ join (wrap (μ k)) (μ r)
   pub of-none : B .none ≡ 0
-  pub of-element : (built : Bool) (t k r : ℕ) → B .element built t k r ≡ join (wrap k) r
+  pub of-built : (t k r : ℕ) → B .element true t k r ≡ join (wrap k) r
+  pub of-filler : (t k r : ℕ) → r ≤ B .element false t k r
   pub join-comm : (a b : ℕ) → join a b ≡ join b a
   pub join-assoc : (a b c : ℕ) → join (join a b) c ≡ join a (join b c)
   pub join-zero : (a : ℕ) → join a 0 ≡ a
@@ -77,11 +80,11 @@ starts-map f starts-none = starts-none
 starts-map f (starts-more {q = q} h later) = starts-more (f q h) (starts-map f later)
 
 -- the paths of a sequence's members, and of a choice's, have a step
-sequence-needs-step : (ms : List ℕ) → rightSteps (sequence ms) [] ≡ false
+pub sequence-needs-step : (ms : List ℕ) → rightSteps (sequence ms) [] ≡ false
 unfolding rightSteps leavesOnly some-of
 sequence-needs-step ms = refl
 
-choice-needs-step : (need : Need) (ms : List ℕ) → rightSteps (choice need ms) [] ≡ false
+pub choice-needs-step : (need : Need) (ms : List ℕ) → rightSteps (choice need ms) [] ≡ false
 unfolding rightSteps leavesOnly some-of optionalFirst
 choice-needs-step needed ms = refl
 choice-needs-step optional ms = refl
@@ -107,8 +110,8 @@ module _ (B : Builder ℕ) (μ : Content → ℕ) (M : Measure B μ) where
   join-swap : (a b c : ℕ) → join a (join b c) ≡ join b (join a c)
   join-swap a b c = rw (← M .join-assoc a b c, M .join-comm a b, M .join-assoc b a c)
 
-  element-alone : (built : Bool) (t k : ℕ) → B .element built t k (B .none) ≡ wrap k
-  element-alone built t k = M .of-element built t k (B .none) ∙ ap (join (wrap k)) (M .of-none) ∙ M .join-zero (wrap k)
+  element-alone : (t k : ℕ) → B .element true t k (B .none) ≡ wrap k
+  element-alone t k = M .of-built t k (B .none) ∙ ap (join (wrap k)) (M .of-none) ∙ M .join-zero (wrap k)
 
   -- what is placed, each wrapped
   wrapped : List (Placement ℕ) → ℕ
@@ -175,6 +178,13 @@ module _ (B : Builder ℕ) (μ : Content → ℕ) (M : Measure B μ) where
   wrapped-under q starts-none = refl
   wrapped-under q (starts-more {q = p} {path} {a} {ps} h later) = rw (pick-true (eqb q p) (placed path a ∷ under q ps) (under q ps) (eq-eqb q p (sym h))) (ap (join (wrap a)) (wrapped-under q later))
 
+  -- a member of a sequence is at least what is placed below it, whether a path builds it or it is filler
+  member-grows : (m inside rest : ℕ) (qs : List (Placement ℕ)) (later : ℕ) → wrapped qs ≤ wrap inside → later ≤ rest
+      → join (wrapped qs) later ≤ B .element (isPlaced qs) m inside rest
+  unfolding wrapped isPlaced
+  member-grows m inside rest [] later here behind = rw (M .join-comm, M .join-zero) (le-trans behind (M .of-filler m inside rest))
+  member-grows m inside rest (q ∷ qs) later here behind = rw (M .of-built) (M .join-mono _ _ _ _ here behind)
+
   -- all members of a sequence together are at least what is placed below them
   members-grow : (inside : ℕ → List (Placement ℕ) → ℕ) (ps : List (Placement ℕ)) (p : ℕ) (ms : List ℕ)
       → ((i m : ℕ) → entry (suc i) ms ≡ some m → wrapped (under (i + p) ps) ≤ wrap (inside m (under (i + p) ps)))
@@ -182,8 +192,8 @@ module _ (B : Builder ℕ) (μ : Content → ℕ) (M : Measure B μ) where
   unfolding spread growMembers entry
   members-grow inside ps p [] each = zero-le
   members-grow inside ps p (m ∷ ms) each =
-      rw (M .of-element)
-      (M .join-mono _ _ _ _ (rw zero-add at (each 0 m refl)) (members-grow inside ps (suc p) ms (λ i m′ e. rw (add-suc, ← suc-add) (each (suc i) m′ e))))
+      member-grows m (inside m (under p ps)) _ (under p ps) _ (rw zero-add at (each 0 m refl))
+      (members-grow inside ps (suc p) ms (λ i m′ e. rw (add-suc, ← suc-add) (each (suc i) m′ e)))
 
   -- what is placed along paths that all have a step is wrapped once more
   wrapped-again : {ok : ℕ → Type 0} {ps : List (Placement ℕ)} (g : ℕ) → Starts ok ps → weigh ps ≤ g → wrapped ps ≤ wrap g
@@ -216,14 +226,6 @@ module _ (B : Builder ℕ) (μ : Content → ℕ) (M : Measure B μ) where
 
   -- ---- a source element and its image
 
-  measure-end : μ end ≡ 0
-  unfolding content
-  measure-end = M .computes .on-none ∙ M .of-none
-
-  measure-elem : (t : ℕ) (k r : Content) → μ (elem t k r) ≡ join (wrap (μ k)) (μ r)
-  unfolding content
-  measure-elem t k r = M .computes .on-element true t k r ∙ M .of-element true t (μ k) (μ r)
-
   -- one placement alone weighs at least what it holds
   weigh-one : (path : List ℕ) (a : ℕ) → a ≤ weigh (placed path a ∷ [])
   unfolding weigh
@@ -239,33 +241,33 @@ module _ (B : Builder ℕ) (μ : Content → ℕ) (M : Measure B μ) where
 
   module _ (X : Setting) (fs : List ℕ) where
     letters-measure : {k : Content} → Holds (X .source) text k → lettersOf B (children B X fs k) ≡ μ k
-    unfolding content lettersOf children
-    letters-measure no-character = sym (M .computes .on-none)
-    letters-measure (one-character {c} {r} ok later) = rw (letters-measure later) (sym (M .computes .on-letter c r))
+    unfolding lettersOf children
+    letters-measure no-character = M .of-none ∙ sym (M .measure-end)
+    letters-measure (one-character {c} {r} ok later) = rw (letters-measure later) (sym (M .measure-char c r))
 
     sequence-weighs : (τ : ℕ) (κ : Kind) {ms : List ℕ} {pss : List (List ℕ)} {k : Content} → rightSteps κ [] ≡ false → Along (MemberPath X τ κ) ms pss
         → Holds (X .source) (sequence ms) k → Bounded B μ X fs k → μ k ≤ weigh (alongPaths pss (children B X fs k))
     unfolding alongPaths children
-    sequence-weighs τ κ none-wrong along-none no-member bounded-end = rw measure-end zero-le
+    sequence-weighs τ κ none-wrong along-none no-member bounded-end = rw (M .measure-end) zero-le
     sequence-weighs τ κ none-wrong (along-both good goods) (one-member held later) (bounded-elem here there) =
-        rw (measure-elem, weigh-step (X .target) τ κ _ _ _ none-wrong (good .good .right))
+        rw (M .measure-elem, weigh-step (X .target) τ κ _ _ _ none-wrong (good .good .right))
         (M .join-mono _ _ _ _ (M .wrap-mono _ _ here) (sequence-weighs τ κ none-wrong goods later there))
 
     -- a choice of either kind: its one member, or nothing, which measures nothing
     choice-weighs : (τ : ℕ) (κ : Kind) (shared : List ℕ) {need : Need} {ms : List ℕ} {pss : List (List ℕ)} {k : Content} → rightSteps κ [] ≡ false
         → Along (MemberPath X τ κ) ms pss → Holds (X .source) (choice need ms) k → Bounded B μ X fs k → μ k ≤ weigh (alongChoice B shared ms pss (children B X fs k))
     unfolding alongChoice children weigh
-    choice-weighs τ κ shared none-wrong goods left-out bounded = rw measure-end zero-le
+    choice-weighs τ κ shared none-wrong goods left-out bounded = rw (M .measure-end) zero-le
     choice-weighs τ κ shared none-wrong goods (chosen {m = m} mem held) (bounded-elem here there) =
-        rw (measure-elem, measure-end, weigh-step (X .target) τ κ _ _ [] none-wrong (path-of-member m mem goods .right))
+        rw (M .measure-elem, M .measure-end, weigh-step (X .target) τ κ _ _ [] none-wrong (path-of-member m mem goods .right))
         (M .join-mono _ _ _ _ (M .wrap-mono _ _ here) zero-le)
 
     items-weigh : (d : Divided) {m : ℕ} {k : Content} → ((a : ℕ) → Fits (X .target) (suc maxSteps) (d .item) (placed (d .rest) a ∷ []))
         → Holds (X .source) (list m) k → Bounded B μ X fs k → μ k ≤ itemsOf B (place B (X .target) fs (d .item)) d (children B X fs k)
     unfolding itemsOf children place
-    items-weigh d fits no-item bounded-end = rw measure-end zero-le
+    items-weigh d fits no-item bounded-end = rw (M .measure-end) zero-le
     items-weigh d fits (one-item held later) (bounded-elem here there) =
-        rw (measure-elem, M .of-element)
+        rw (M .measure-elem, M .of-built)
         (M .join-mono _ _ _ _ (M .wrap-mono _ _ (le-trans here (le-trans (weigh-one (d .rest) _) (grow-enough (X .target) fs (fits _))))) (items-weigh d fits later there))
 
     placed-enough : (τ : ℕ) (κ : Kind) {pss : List (List ℕ)} {k : Content}
@@ -274,7 +276,7 @@ module _ (B : Builder ℕ) (μ : Content → ℕ) (M : Measure B μ) where
         → Holds (X .source) κ k → Bounded B μ X fs k → μ k ≤ weigh (placements B (X .target) fs κ τ pss (children B X fs k))
     unfolding placements firstPath alongList
     placed-enough τ κ (text-edge {ps} good ends) rest held bounded = rw (letters-measure held) (weigh-one _ _)
-    placed-enough τ κ no-edge rest nothing bounded = rw measure-end zero-le
+    placed-enough τ κ no-edge rest nothing bounded = rw (M .measure-end) zero-le
     placed-enough τ κ (sequence-edges {ms} along apart) rest held bounded = sequence-weighs τ (sequence ms) (sequence-needs-step ms) along held bounded
     placed-enough τ κ (choice-edges {need} {ms} along apart shared) rest held bounded = choice-weighs τ (choice need ms) _ (choice-needs-step need ms) along held bounded
     placed-enough τ κ (list-edge {m} {ps} good) rest held bounded = le-trans (items-weigh (divide (X .target) τ ps) (λ a. rest m a refl) held bounded) (weigh-one _ _)
@@ -314,25 +316,22 @@ module _ (B : Builder ℕ) (μ : Content → ℕ) (M : Measure B μ) where
         → μ k ≤ imageOfElement B X fs s (children B X fs k)
     measure-grows s exists k held = element-grows s exists k held (all-bounded held (valid .source-sound .well-formed .members-exist s))
 
-  -- what a source document's root holds measures at most what its image's root holds
-  pub measure-never-more : (X : Setting) → Valid X → PlacementsFit B X (fillers B (X .target)) → RestFits ℕ X
-      → (k : Content) → Holds (X .source) (kindOf (X .source) 0) k → μ k ≤ μ (image X k)
-  unfolding image
-  measure-never-more X valid fits rest k held =
-      rw (image-hom content B μ (M .computes) X k)
-      (unfold imageBy in measure-grows X (fillers B (X .target)) valid fits rest 0 (valid .source-sound .well-formed .has-root) k held)
-
 -- ---- levels and bytes
 
-levels-measure : Measure levelsOf levels
-unfolding levelsOf
-levels-measure =
+-- a builder of levels, which may or may not count those of filler
+pub levels-measure : {B : Builder ℕ} → B .none ≡ 0 → ((c r : ℕ) → B .letter c r ≡ r) → ((t k r : ℕ) → B .element true t k r ≡ max (suc k) r)
+    → ((t k r : ℕ) → r ≤ B .element false t k r) → Measure B levels
+unfolding levels
+levels-measure none letter built filler =
     record {
-      computes = levels-hom;
       join = max;
       wrap = suc;
-      of-none = refl;
-      of-element = λ built t k r. refl;
+      measure-end = refl;
+      measure-char = λ c r. sym (letter c (levels r));
+      measure-elem = λ t k r. refl;
+      of-none = none;
+      of-built = built;
+      of-filler = filler;
       join-comm = max-comm;
       join-assoc = λ a b c. omega arith;
       join-zero = max-zero;
@@ -341,15 +340,20 @@ levels-measure =
       wrap-more = λ a. omega arith;
     }
 
-size-measure : Measure lengthOf size
-unfolding lengthOf
-size-measure =
+-- and one of bytes
+pub size-measure : {B : Builder ℕ} → B .none ≡ 0 → ((c r : ℕ) → B .letter c r ≡ 2 + r) → ((t k r : ℕ) → B .element true t k r ≡ 3 + k + r)
+    → ((t k r : ℕ) → r ≤ B .element false t k r) → Measure B size
+unfolding bytes
+size-measure none letter built filler =
     record {
-      computes = size-hom;
       join = _+_;
       wrap = λ k. 3 + k;
-      of-none = refl;
-      of-element = λ built t k r. refl;
+      measure-end = refl;
+      measure-char = λ c r. omega (arith, letter c (size r));
+      measure-elem = size-elem;
+      of-none = none;
+      of-built = built;
+      of-filler = filler;
       join-comm = add-comm;
       join-assoc = add-assoc;
       join-zero = add-zero;
@@ -379,13 +383,26 @@ rest-edges-fit {X = X} τ m (list-edge {ps = ps} good) e a =
 pub rest-always-fits : {A : Type 0} (X : Setting) → Valid X → RestFits A X
 rest-always-fits X valid s m exists e a = rest-edges-fit (targetOf (X .embedding) s) m (valid .edges s exists) e a
 
+-- what a source document's root holds measures at most what its image's root holds
+pub measure-never-more : (B : Builder ℕ) (μ : Content → ℕ) → Measure B μ → (X : Setting) → Valid X
+    → (k : Content) → Holds (X .source) (kindOf (X .source) 0) k → μ k ≤ imageBy B X k
+unfolding imageBy
+measure-never-more B μ M X valid k held =
+    measure-grows B μ M X (fillers B (X .target)) valid (placements-always-fit B X _ valid) (rest-always-fits X valid) 0 (valid .source-sound .well-formed .has-root) k held
+
 -- a source document has at most the levels of its image
 pub levels-never-more : (X : Setting) → Valid X → (k : Content) → Holds (X .source) (kindOf (X .source) 0) k → levels k ≤ levels (image X k)
-levels-never-more X valid = measure-never-more levelsOf levels levels-measure X valid (placements-always-fit levelsOf X _ valid) (rest-always-fits X valid)
+unfolding levelsOf image
+levels-never-more X valid k held =
+    rw (image-hom content levelsOf levels levels-hom X k)
+    (measure-never-more levelsOf levels (levels-measure refl (λ c r. refl) (λ t j r. refl) (λ t j r. omega arith)) X valid k held)
 
 -- what its root holds has at most the bytes of what its image's root holds
 pub bytes-never-more : (X : Setting) → Valid X → (k : Content) → Holds (X .source) (kindOf (X .source) 0) k → length (bytes k) ≤ length (bytes (image X k))
-bytes-never-more X valid = measure-never-more lengthOf size size-measure X valid (placements-always-fit lengthOf X _ valid) (rest-always-fits X valid)
+unfolding lengthOf image
+bytes-never-more X valid k held =
+    rw (image-hom content lengthOf size size-hom X k)
+    (measure-never-more lengthOf size (size-measure refl (λ c r. refl) (λ t j r. refl) (λ t j r. omega arith)) X valid k held)
 
 -- and so it has at most the bytes of its image
 pub document-never-longer : (X : Setting) → Valid X → (k : Content) → Holds (X .source) (kindOf (X .source) 0) k → length (document 0 k) ≤ length (document 0 (image X k))

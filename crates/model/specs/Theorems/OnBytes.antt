@@ -16,7 +16,7 @@ use Rattle.model.specs.Definitions.TreeChecks.{treeLevels, maxLevels}
 use Rattle.model.specs.Definitions.Image.{Setting, image}
 use Rattle.model.specs.Definitions.Inverse.{readBack, bringBackContent}
 use Rattle.model.specs.Definitions.SingleItems.{singleItems}
-use Rattle.model.specs.Definitions.Refusals.{Judged, sound, has, Document, source-table, target-table, embedding, tree, too-long, over-limit, faulty, no-image, image-too-deep, image-too-long, output-too-short, maxLength}
+use Rattle.model.specs.Definitions.Refusals.{Judged, sound, has, Fault, Document, Refusal, source-table, target-table, embedding, tree, too-long, over-limit, faulty, no-image, image-too-deep, image-too-long, output-too-short, maxLength}
 use Rattle.model.specs.Definitions.Entries.{judgedTable, judgedEmbedding, judgedTree, Outcome, accepted, refused, untouched, written, unlessFaulty, settingOf, carry, bringWithin, bringContent, bringBack}
 use Rattle.model.specs.Theorems.Facts.{Valid}
 use Rattle.model.specs.Theorems.Tools.{some-none}
@@ -37,12 +37,12 @@ conforming-content {S} {d} c =
     let is : contentOf d ≡ k = ap contentOf (c .1) ∙ content-of-document 0 k in
     (c .1 ∙ ap (document 0) (sym is), subst (λ (j : Content). Holds S (kindOf S 0) j) (sym is) (c .2))
 
-content-conforming : {S : Table} (k : Content) → Holds S (kindOf S 0) k → Conforming S (document 0 k)
+pub content-conforming : {S : Table} (k : Content) → Holds S (kindOf S 0) k → Conforming S (document 0 k)
 unfolding Conforming
 content-conforming k h = (k, refl, h)
 
 -- an accepted tree and what its root holds
-accepted-tree : (t d : List ℕ) → AcceptedTree t d → (d ≡ document 0 (contentOf d)) × Holds (tableOf t) (kindOf (tableOf t) 0) (contentOf d)
+pub accepted-tree : (t d : List ℕ) → AcceptedTree t d → (d ≡ document 0 (contentOf d)) × Holds (tableOf t) (kindOf (tableOf t) 0) (contentOf d)
 accepted-tree t d a =
     let checks = tree-checks (tableOf t) d (tree-judged t d (a .1) .1) in
     accepted-content (tableOf t) (table-sound t (tree-judged t d (a .1) .0) .well-formed) d (checks .form) (checks .operands) (checks .expected)
@@ -61,10 +61,10 @@ module _ (s t e : List ℕ) (a : AcceptedEmbedding s t e) where
   abbrev X : Setting
   X = settingOf s t e
 
-  judges : Judges s t e
+  pub judges : Judges s t e
   judges = judges-accept s t e (a .1)
 
-  valid : Valid X
+  pub valid : Valid X
   valid = judges-valid s t e judges
 
   image-of-content : (k : Content) → imageOf s t e (document 0 k) ≡ document 0 (image X k)
@@ -105,7 +105,7 @@ module _ (s t e : List ℕ) (a : AcceptedEmbedding s t e) where
     bring-tree out = rw (judges .source-sound, judges .target-sound, judges .embedding-sound, tree-judged t tr (b .1) .1)
 
     -- a document with this image has it as its content's image
-    same-content : (d : List ℕ) → imageOf s t e d ≡ tr → image X (contentOf d) ≡ contentOf tr
+    pub same-content : (d : List ℕ) → imageOf s t e d ≡ tr → image X (contentOf d) ≡ contentOf tr
     same-content d is = document-injective 0 0 (image X (contentOf d)) (contentOf tr) (is ∙ accepted-tree t tr b .0) .1
 
     no-source : (out : List ℕ) → (bringBack s t e tr out .result ≡ refused no-image) ↔ NoSource s t e tr
@@ -198,23 +198,38 @@ module _ (s t e : List ℕ) (a : AcceptedEmbedding s t e) where
 
 -- ---- 15, for any bytes
 
--- an answer of 15 went past a document's judgement
-past-fault : (out : List ℕ) (d : Document) (j : Judged) (later : Unit {0} → Outcome) → unlessFaulty (untouched out) d j later .result ≡ refused no-image
-    → (j ≡ sound) × (later tt .result ≡ refused no-image)
+-- a refusal that is no document's fault
+abbrev pub NoFault : Refusal → Type 0
+NoFault why = (d : Document) (f : Fault) → faulty d f ≡ why → ⊥
+
+-- such a refusal went past a document's judgement
+past-fault : (out : List ℕ) (d : Document) (j : Judged) (later : Outcome) (why : Refusal) → NoFault why → unlessFaulty (untouched out) d j (λ u. later) .result ≡ refused why
+    → (j ≡ sound) × (later .result ≡ refused why)
 unfolding unlessFaulty untouched
-past-fault out d sound later e = (refl, e)
-past-fault out d (has f) later e = let z : _≡_ {A = ℕ} 0 1 = cc in absurd (omega arith)
+past-fault out d sound later why other e = (refl, e)
+past-fault out d (has f) later why other e = absurd (other d f cc)
+
+-- and past those of both tables, the embedding and a tree of the target table
+pub past-judges : (s t e tr out : List ℕ) (last : Outcome) (why : Refusal) → NoFault why
+    → unlessFaulty (untouched out) source-table (judgedTable s) (λ u.
+    unlessFaulty (untouched out) target-table (judgedTable t) λ u.
+    unlessFaulty (untouched out) embedding (judgedEmbedding (tableOf s) (tableOf t) e) λ u.
+    unlessFaulty (untouched out) tree (judgedTree (tableOf t) tr) λ u. last) .result ≡ refused why
+    → AcceptedEmbedding s t e × AcceptedTree t tr
+past-judges s t e tr out last why other h =
+    let source = past-fault out source-table (judgedTable s) _ why other h in
+    let target = past-fault out target-table (judgedTable t) _ why other (source .1) in
+    let map = past-fault out embedding (judgedEmbedding (tableOf s) (tableOf t) e) _ why other (target .1) in
+    let read = past-fault out tree (judgedTree (tableOf t) tr) _ why other (map .1) in (
+      judges-are-all s t e (record { source-sound = source .0; target-sound = target .0; embedding-sound = map .0 }),
+      tree-is-accepted t tr (target .0) (read .0),
+    )
 
 pub refused-15 : (s t e tr out : List ℕ) → (bringBack s t e tr out .result ≡ refused no-image) ↔ (AcceptedEmbedding s t e × AcceptedTree t tr × NoSource s t e tr)
 unfolding bringBack
 refused-15 s t e tr out = (
   λ h.
-      let source = past-fault out source-table (judgedTable s) _ h in
-      let target = past-fault out target-table (judgedTable t) _ (source .1) in
-      let map = past-fault out embedding (judgedEmbedding (tableOf s) (tableOf t) e) _ (target .1) in
-      let last = past-fault out tree (judgedTree (tableOf t) tr) _ (map .1) in
-      let a : AcceptedEmbedding s t e = judges-are-all s t e (record { source-sound = source .0; target-sound = target .0; embedding-sound = map .0 }) in
-      let b : AcceptedTree t tr = tree-is-accepted t tr (target .0) (last .0) in
-      (a, b, no-source s t e a tr b out .0 h),
+      let all = past-judges s t e tr out _ no-image (λ d f same. let z : _≡_ {A = ℕ} 0 1 = cc in omega arith) h in
+      (all .0, all .1, no-source s t e (all .0) tr (all .1) out .0 h),
   λ all. no-source s t e (all .0) tr (all .1) out .1 (all .2),
 )

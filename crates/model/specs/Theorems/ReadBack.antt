@@ -20,7 +20,8 @@ use Rattle.model.specs.Definitions.Embedding.{targetOf, firstPath, next,
 use Rattle.model.specs.Definitions.EmbeddingChecks.{maxSteps, optionalFirst, rightSteps, whereOneEnds, wherePathsPart, clashReason, clash}
 use Rattle.model.specs.Definitions.Filler.{content}
 use Rattle.model.specs.Definitions.Image.{Setting, Placement, placed, under, beyond, growMembers, growKind, grow, place, Child, children, imageOfElement, placements, alongPaths, alongChoice, pathOfMember, itemsOf, alongList}
-use Rattle.model.specs.Definitions.Inverse.{childAt, childOfType, enter, follow, readOne, readMembers, readIfThere, readChoice, unlessEmpty, readItems, readList, readKind, readTo}
+use Rattle.model.specs.Definitions.Inverse.{childAt, childOfType, firstItem, enter, follow}
+use Rattle.model.specs.Theorems.PlainReading.{plainOne, plainMembers, plainIfThere, plainChoice, plainUnlessEmpty, plainItems, plainList, plainKind, plainTo}
 use Rattle.model.specs.Theorems.Facts.{WellFormed, Walks, MemberPath, Along, along-none, along-both, All, all-none, all-more, Pairs, pairs-none, pairs-more, Compatible, ValidEdges, text-edge, no-edge, sequence-edges, choice-edges, list-edge, Valid, Starts, starts-none, starts-more, Fits, nothing-placed, right-here, below-sequence, below-choice, below-list}
 use Rattle.model.specs.Theorems.Tools.{true-false, some-none, pick-true, pick-false, one-plus}
 use Rattle.model.specs.Theorems.Partings.{behind-shared, behind-differs, apart-kind}
@@ -40,7 +41,7 @@ child-of-members inside ps i zero (n ∷ ms) m e = let same : n ≡ m = cc in rw
 child-of-members inside ps i (suc p) (n ∷ ms) m e = rw (add-suc i p, ← suc-add i p) (child-of-members inside ps (suc i) p ms m e)
 
 -- a placement's first step, and what is under it
-first-step : {A : Type 0} {ok : ℕ → Type 0} {ps : List (Placement A)} {path : List ℕ} {a : A} → Starts ok ps → List·Memᴰ (placed path a) ps
+pub first-step : {A : Type 0} {ok : ℕ → Type 0} {ps : List (Placement A)} {path : List ℕ} {a : A} → Starts ok ps → List·Memᴰ (placed path a) ps
     → (q : ℕ) × (rest : List ℕ) × (path ≡ q ∷ rest) × ok q
 first-step starts-none h = absurd (List·Memᴰ·not-nil h)
 first-step {A} {ok} {path = path} {a = a} (starts-more {q = q} {path = other} {a = b} f st) h = go (List·Memᴰ·cases-cons h) (first-step st)
@@ -72,7 +73,7 @@ under-nil : {A : Type 0} (p : ℕ) → under {A = A} p [] ≡ []
 unfolding under
 under-nil p = refl
 
-under-one : {A : Type 0} (p : ℕ) (path : List ℕ) (a : A) → under p (placed (p ∷ path) a ∷ []) ≡ placed path a ∷ []
+pub under-one : {A : Type 0} (p : ℕ) (path : List ℕ) (a : A) → under p (placed (p ∷ path) a ∷ []) ≡ placed path a ∷ []
 under-one {A} p path a = under-same p path a [] ∙ ap (λ (ps : List (Placement A)). placed path a ∷ ps) (under-nil p)
 
 child-of-sequence : (inside : ℕ → List (Placement Content) → Content) (ps : List (Placement Content)) (q : ℕ) (ms : List ℕ) (m : ℕ)
@@ -87,7 +88,7 @@ unfolding childOfType
 child-of-its-type t k r = pick-true (eqb t t) (some k) none (eq-eqb t t refl)
 
 -- a kind that is a choice of either kind
-is-choice : (κ : Kind) → isChoice κ ≡ true → (need : Need) × (κ ≡ choice need (membersOf κ))
+pub is-choice : (κ : Kind) → isChoice κ ≡ true → (need : Need) × (κ ≡ choice need (membersOf κ))
 unfolding isChoice membersOf
 is-choice text e = true-false refl (sym e)
 is-choice empty e = true-false refl (sym e)
@@ -116,7 +117,7 @@ unfolding follow andThen
 follow-none T τ q qs k e = rw e refl
 
 -- where it finds something, the path goes on in that
-follow-some : (T : Table) (τ q : ℕ) (qs : List ℕ) (k j : Content) → enter (kindOf T τ) q (next T τ q) k ≡ some j
+pub follow-some : (T : Table) (τ q : ℕ) (qs : List ℕ) (k j : Content) → enter (kindOf T τ) q (next T τ q) k ≡ some j
     → follow T τ (q ∷ qs) k ≡ follow T (next T τ q) qs j
 unfolding follow andThen
 follow-some T τ q qs k j e = rw e refl
@@ -124,7 +125,7 @@ follow-some T τ q qs k j e = rw e refl
 -- the first item of a list is followed, and an empty list has none
 pub first-item : (T : Table) (τ m p : ℕ) (ps : List ℕ) → kindOf T τ ≡ list m
     → ((t : ℕ) (k r : Content) → follow T τ (p ∷ ps) (elem t k r) ≡ follow T (next T τ p) ps k) × (follow T τ (p ∷ ps) end ≡ none)
-unfolding enter childAt
+unfolding enter firstItem
 first-item T τ m p ps e = (λ t k r. follow-some T τ p ps (elem t k r) k (rw e refl), follow-none T τ p ps end (rw e refl))
 
 module _ (T : Table) (fs : List Content) where
@@ -152,7 +153,7 @@ module _ (T : Table) (fs : List Content) where
   -- a step into a list
   enter-list : (n τ m : ℕ) (path : List ℕ) (a : Content) (ps : List (Placement Content))
       → kindOf T τ ≡ list m → Fits T n m (under 1 (placed (1 ∷ path) a ∷ ps)) → Entered n τ (placed (1 ∷ path) a ∷ ps) 1
-  unfolding enter grow growKind content childAt
+  unfolding enter grow growKind content firstItem
   enter-list n τ m path a ps e fits = rw (item-next T τ m e, e) (refl, fits)
 
   pub enter-placed : {n τ q : ℕ} {path : List ℕ} {a : Content} {ps : List (Placement Content)} → Fits T (suc n) τ ps → List·Memᴰ (placed (q ∷ path) a) ps → Entered n τ ps q
@@ -206,7 +207,7 @@ module _ (T : Table) (fs : List Content) where
   -- ---- the path of a member that was not taken
 
   -- two steps of a choice lead to different types
-  other-member : WellFormed T → (τ p q : ℕ) (need : Need) (ms : List ℕ) → kindOf T τ ≡ choice need ms → stepFrom (kindOf T τ) p ≡ some (next T τ p) → stepFrom (kindOf T τ) q ≡ some (next T τ q)
+  pub other-member : WellFormed T → (τ p q : ℕ) (need : Need) (ms : List ℕ) → kindOf T τ ≡ choice need ms → stepFrom (kindOf T τ) p ≡ some (next T τ p) → stepFrom (kindOf T τ) q ≡ some (next T τ q)
       → eqb q p ≡ false → eqb (next T τ q) (next T τ p) ≡ false
   unfolding stepFrom membersOf
   other-member wf τ p q need ms e wp wq d =
@@ -279,7 +280,7 @@ unfolding follow
 follow-here T τ k j e = cc
 
 -- the first choice left by a path of an optional choice is an optional one
-left-optional : (ms : List ℕ) (κs : List Kind) → rightSteps (choice optional ms) κs ≡ true → optionalFirst κs ≡ true
+pub left-optional : (ms : List ℕ) (κs : List Kind) → rightSteps (choice optional ms) κs ≡ true → optionalFirst κs ≡ true
 unfolding rightSteps
 left-optional ms κs e = e
 
@@ -315,12 +316,12 @@ not-empty T τ (p ∷ ps) k a e there empty-there = go (isChoice (kindOf T τ)) 
 
 -- an element read, before what was read after it
 read-one : (read : ℕ → Content → Option Content) (m : ℕ) (found rest : Option Content) (a k r : Content)
-    → found ≡ some a → read m a ≡ some k → rest ≡ some r → readOne read m found rest ≡ some (elem m k r)
-unfolding readOne andThen
+    → found ≡ some a → read m a ≡ some k → rest ≡ some r → plainOne read m found rest ≡ some (elem m k r)
+unfolding plainOne andThen
 read-one read m found rest a k r e f g = rw (e, f, g) refl
 
 -- the path of a member is one of the paths
-path-in : {R : ℕ → List ℕ → Type 0} (t : ℕ) {ms : List ℕ} {pss : List (List ℕ)} → Along R ms pss → List·Memᴰ t ms → List·Memᴰ (pathOfMember t ms pss) pss
+pub path-in : {R : ℕ → List ℕ → Type 0} (t : ℕ) {ms : List ℕ} {pss : List (List ℕ)} → Along R ms pss → List·Memᴰ t ms → List·Memᴰ (pathOfMember t ms pss) pss
 unfolding pathOfMember
 path-in t along-none h = absurd (List·Memᴰ·not-nil h)
 path-in t (along-both {a = m} {b = ps} {xs = ms} {ys = pss} r al) h = go (eqb t m) refl (path-in t al) (List·Memᴰ·cases-cons h)
@@ -350,7 +351,7 @@ leaves-choice need ms left e = go (isChoice left) refl
     go false q = true-false refl (rw q at e)
 
 -- two paths of a choice that don't clash part at a choice
-choice-apart : (T : Table) (τ : ℕ) (need : Need) (ms ps qs : List ℕ) → clash T (choice need ms) τ ps qs ≡ false → (κ : Kind) × (parting T τ ps qs .behind ≡ apart κ) × (isChoice κ ≡ true)
+pub choice-apart : (T : Table) (τ : ℕ) (need : Need) (ms ps qs : List ℕ) → clash T (choice need ms) τ ps qs ≡ false → (κ : Kind) × (parting T τ ps qs .behind ≡ apart κ) × (isChoice κ ≡ true)
 unfolding clash clashReason whereOneEnds isThere
 choice-apart T τ need ms ps qs e = go (parting T τ ps qs .behind) refl
   where
@@ -399,17 +400,17 @@ module _ (X : Setting) (fs : List Content) (read : ℕ → Content → Option Co
   members-back : {R : ℕ → List ℕ → Type 0} (at : List ℕ → Option Content) {ms : List ℕ} {pss : List (List ℕ)} {k : Content} → Along R ms pss
       → Holds (X .source) (sequence ms) k → Each Reads k
       → ((path : List ℕ) (a : Content) → List·Memᴰ (placed path a) (alongPaths pss (children content X fs k)) → at path ≡ some a)
-      → readMembers read at ms pss ≡ some k
-  unfolding readMembers alongPaths children
+      → plainMembers read at ms pss ≡ some k
+  unfolding plainMembers alongPaths children
   members-back at along-none no-member ea f = refl
   members-back at (along-both {b = ps} {xs = ms} {ys = pss} r al) (one-member {m = m} {k = k} {r = rest} hk hr) (each-elem p ea) f =
-      read-one read m (at ps) (readMembers read at ms pss) (imageOfElement content X fs m (children content X fs k)) k rest
+      read-one read m (at ps) (plainMembers read at ms pss) (imageOfElement content X fs m (children content X fs k)) k rest
       (f ps _ (List·Memᴰ·head refl)) p (members-back at al hr ea (λ path a there. f path a (List·Memᴰ·tail there)))
 
   items-back : (inside : List (Placement Content) → Content) (d : Divided) (beyond-it : Content → Option Content) (m : ℕ) {k : Content}
       → ((a : Content) → beyond-it (inside (placed (d .rest) a ∷ [])) ≡ some a) → Holds (X .source) (list m) k → Each Reads k
-      → readItems read beyond-it m (itemsOf content inside d (children content X fs k)) ≡ some k
-  unfolding readItems itemsOf children content
+      → plainItems read beyond-it m (itemsOf content inside d (children content X fs k)) ≡ some k
+  unfolding plainItems itemsOf children content
   items-back inside d beyond-it m f no-item ea = refl
   items-back inside d beyond-it m f (one-item {k = k} {r = rest} hk hr) (each-elem p ea) =
       read-one read m (beyond-it (inside (placed (d .rest) (imageOfElement content X fs m (children content X fs k)) ∷ []))) _ (imageOfElement content X fs m (children content X fs k)) k rest
@@ -419,16 +420,16 @@ module _ (X : Setting) (fs : List Content) (read : ℕ → Content → Option Co
   choice-back : (τ t : ℕ) (κ : Kind) (at : List ℕ → Option Content) (a k : Content) {ms : List ℕ} {pss : List (List ℕ)} → read t a ≡ some k
       → Along (MemberPath X τ κ) ms pss → Pairs (Compatible X τ κ) pss → List·Memᴰ t ms → at (pathOfMember t ms pss) ≡ some a
       → ((qs : List ℕ) → Walks (X .target) τ qs → Compatible X τ κ qs (pathOfMember t ms pss) → at qs ≡ none)
-      → readChoice read at ms pss ≡ some (elem t k end)
-  unfolding readChoice pathOfMember readIfThere
+      → plainChoice read at ms pss ≡ some (elem t k end)
+  unfolding plainChoice pathOfMember plainIfThere
   choice-back τ t κ at a k e along-none pr h found absent = absurd (List·Memᴰ·not-nil h)
   choice-back τ t κ at a k e (along-both {a = m} {b = ps} {xs = ms} {ys = pss} g al) (pairs-more apart-from pr) h found absent =
       go (eqb t m) refl (choice-back τ t κ at a k e al pr) (List·Memᴰ·cases-cons h)
     where
       go : (b : Bool) → eqb t m ≡ b
           → (List·Memᴰ t ms → at (pathOfMember t ms pss) ≡ some a → ((qs : List ℕ) → Walks (X .target) τ qs → Compatible X τ κ qs (pathOfMember t ms pss) → at qs ≡ none)
-          → readChoice read at ms pss ≡ some (elem t k end))
-          → (t ≡ m) ⊎ List·Memᴰ t ms → readChoice read at (m ∷ ms) (ps ∷ pss) ≡ some (elem t k end)
+          → plainChoice read at ms pss ≡ some (elem t k end))
+          → (t ≡ m) ⊎ List·Memᴰ t ms → plainChoice read at (m ∷ ms) (ps ∷ pss) ≡ some (elem t k end)
       go true d rec c =
           let same : m ≡ t = sym (eqb-true t m d) in
           let here : at ps ≡ some a = sym (ap at (pick-true (eqb t m) ps (pathOfMember t ms pss) d)) ∙ found in
@@ -458,41 +459,41 @@ module _ (X : Setting) (wf : WellFormed (X .target)) (fs : List Content) (read :
   one-found τ path a w h = follow-placed (X .target) fs (suc maxSteps) τ path a (placed path a ∷ []) (single-fits (X .target) maxSteps a w h) (List·Memᴰ·head refl)
 
   text-back : (τ : ℕ) (ps : List ℕ) {k : Content} → ValidEdges X τ text (ps ∷ []) → Holds (X .source) text k
-      → readKind read (X .target) text τ (ps ∷ []) (place content (X .target) fs τ (placements content (X .target) fs text τ (ps ∷ []) (children content X fs k))) ≡ some k
-  unfolding readKind placements firstPath
+      → plainKind read (X .target) text τ (ps ∷ []) (place content (X .target) fs τ (placements content (X .target) fs text τ (ps ∷ []) (children content X fs k))) ≡ some k
+  unfolding plainKind placements firstPath
   text-back τ ps {k} edges h = placed-found τ (children content X fs k) edges ps _ (List·Memᴰ·head refl) ∙ ap some (letters-back X fs h)
 
   sequence-back : (τ : ℕ) {ms : List ℕ} {pss : List (List ℕ)} {k : Content} → Along (MemberPath X τ (sequence ms)) ms pss → Pairs (Compatible X τ (sequence ms)) pss
       → Holds (X .source) (sequence ms) k → Each (Reads X fs read) k
-      → readKind read (X .target) (sequence ms) τ pss (place content (X .target) fs τ (placements content (X .target) fs (sequence ms) τ pss (children content X fs k))) ≡ some k
-  unfolding readKind placements
+      → plainKind read (X .target) (sequence ms) τ pss (place content (X .target) fs τ (placements content (X .target) fs (sequence ms) τ pss (children content X fs k))) ≡ some k
+  unfolding plainKind placements
   sequence-back τ {ms} {pss} {k} al pr h ea = members-back X fs read _ al h ea (λ path a there. placed-found τ (children content X fs k) (sequence-edges al pr) path a there)
 
   -- where the shared optional choice is empty, nothing is read
   reads-nothing : (τ : ℕ) (ms : List ℕ) (pss : List (List ℕ)) (K : Content) → follow (X .target) τ (beforeChoice (X .target) τ (firstPath pss)) K ≡ some end
-      → readKind read (X .target) (choice optional ms) τ pss K ≡ some end
-  unfolding readKind unlessEmpty
+      → plainKind read (X .target) (choice optional ms) τ pss K ≡ some end
+  unfolding plainKind plainUnlessEmpty
   reads-nothing τ ms pss K e = rw e refl
 
   -- a choice is read by its members, an optional one where the optional choice that its paths share isn't empty
   by-members : (need : Need) (τ : ℕ) (ms : List ℕ) (pss : List (List ℕ)) (K j : Content)
       → (need ≡ optional → follow (X .target) τ (beforeChoice (X .target) τ (firstPath pss)) K ≡ some end → ⊥)
-      → readChoice read (λ p. follow (X .target) τ p K) ms pss ≡ some j → readKind read (X .target) (choice need ms) τ pss K ≡ some j
-  unfolding readKind
+      → plainChoice read (λ p. follow (X .target) τ p K) ms pss ≡ some j → plainKind read (X .target) (choice need ms) τ pss K ≡ some j
+  unfolding plainKind
   by-members needed τ ms pss K j full e = e
   by-members optional τ ms pss K j full e = go (follow (X .target) τ (beforeChoice (X .target) τ (firstPath pss)) K) refl
     where
       go : (o : Option Content) → follow (X .target) τ (beforeChoice (X .target) τ (firstPath pss)) K ≡ o
-          → unlessEmpty o (readChoice read (λ p. follow (X .target) τ p K) ms pss) ≡ some j
-      go none f = unfold unlessEmpty in e
+          → plainUnlessEmpty o (plainChoice read (λ p. follow (X .target) τ p K) ms pss) ≡ some j
+      go none f = unfold plainUnlessEmpty in e
       go (some end) f = absurd (full refl f)
-      go (some (char c r)) f = unfold unlessEmpty in e
-      go (some (elem t k r)) f = unfold unlessEmpty in e
+      go (some (char c r)) f = unfold plainUnlessEmpty in e
+      go (some (elem t k r)) f = unfold plainUnlessEmpty in e
 
   -- a choice of either kind is read back from the image of what it holds
   choice-read : (τ : ℕ) (need : Need) {ms : List ℕ} {pss : List (List ℕ)} {k : Content} → Along (MemberPath X τ (choice need ms)) ms pss
       → Pairs (Compatible X τ (choice need ms)) pss → Holds (X .source) (choice need ms) k → Each (Reads X fs read) k
-      → readKind read (X .target) (choice need ms) τ pss (place content (X .target) fs τ (placements content (X .target) fs (choice need ms) τ pss (children content X fs k))) ≡ some k
+      → plainKind read (X .target) (choice need ms) τ pss (place content (X .target) fs τ (placements content (X .target) fs (choice need ms) τ pss (children content X fs k))) ≡ some k
   unfolding placements alongChoice children content
   choice-read τ need {ms} {pss} al pr left-out ea =
       let walks = shared-walks X τ (choice need ms) al in
@@ -529,8 +530,8 @@ module _ (X : Setting) (wf : WellFormed (X .target)) (fs : List Content) (read :
           left-optional ms (leaves (X .target) τ path) (subst (λ (d : Need). rightSteps (choice d ms) (leaves (X .target) τ path) ≡ true) same (path-of-member m there al .right))
 
   list-read : (τ m : ℕ) (ps : List ℕ) {k : Content} → MemberPath X τ (list m) m ps → Holds (X .source) (list m) k → Each (Reads X fs read) k
-      → readKind read (X .target) (list m) τ (ps ∷ []) (place content (X .target) fs τ (placements content (X .target) fs (list m) τ (ps ∷ []) (children content X fs k))) ≡ some k
-  unfolding readKind readList placements firstPath alongList andThen
+      → plainKind read (X .target) (list m) τ (ps ∷ []) (place content (X .target) fs τ (placements content (X .target) fs (list m) τ (ps ∷ []) (children content X fs k))) ≡ some k
+  unfolding plainKind plainList placements firstPath alongList andThen
   list-read τ m ps {k} g h ea =
       let d : Divided = divide (X .target) τ ps in
       let parts : GoodParts (X .target) τ maxSteps d = divide-good (X .target) τ maxSteps ps (g .good .walks) (g .good .short) in
@@ -540,8 +541,8 @@ module _ (X : Setting) (wf : WellFormed (X .target)) (fs : List Content) (read :
 
   -- what a source element of a kind holds is read back, if what its elements hold is
   kind-back : (τ : ℕ) {κ : Kind} {pss : List (List ℕ)} {k : Content} → ValidEdges X τ κ pss → Holds (X .source) κ k → Each (Reads X fs read) k
-      → readKind read (X .target) κ τ pss (place content (X .target) fs τ (placements content (X .target) fs κ τ pss (children content X fs k))) ≡ some k
-  unfolding readKind
+      → plainKind read (X .target) κ τ pss (place content (X .target) fs τ (placements content (X .target) fs κ τ pss (children content X fs k))) ≡ some k
+  unfolding plainKind
   kind-back τ (text-edge {ps = ps} g e) h ea = text-back τ ps (text-edge g e) h
   kind-back τ no-edge nothing ea = refl
   kind-back τ (sequence-edges al pr) h ea = sequence-back τ al pr h ea
@@ -550,8 +551,8 @@ module _ (X : Setting) (wf : WellFormed (X .target)) (fs : List Content) (read :
 
 -- what the elements of content hold is read with a bound that the content's levels don't reach
 each-read : (X : Setting) (fs : List Content) (n : ℕ) {k : Content}
-    → Each (λ (t : ℕ) (j : Content). (b : ℕ) → levels j < b → readTo X b t (imageOfElement content X fs t (children content X fs j)) ≡ some j) k
-    → levels k < suc n → Each (Reads X fs (λ t j. readTo X n t j)) k
+    → Each (λ (t : ℕ) (j : Content). (b : ℕ) → levels j < b → plainTo X b t (imageOfElement content X fs t (children content X fs j)) ≡ some j) k
+    → levels k < suc n → Each (Reads X fs (λ t j. plainTo X n t j)) k
 unfolding levels
 each-read X fs n each-end h = each-end
 each-read X fs n (each-char ea) h = each-char (each-read X fs n ea h)
@@ -559,15 +560,15 @@ each-read X fs n (each-elem p ea) h = each-elem (p n (omega arith)) (each-read X
 
 -- Reading the image of an element of a conforming source document gives back what the element holds.
 pub read-back : (X : Setting) → Valid X → (fs : List Content) (s : ℕ) (k : Content) → s < length (X .source) → Holds (X .source) (kindOf (X .source) s) k
-    → (n : ℕ) → levels k < n → readTo X n s (imageOfElement content X fs s (children content X fs k)) ≡ some k
+    → (n : ℕ) → levels k < n → plainTo X n s (imageOfElement content X fs s (children content X fs k)) ≡ some k
 read-back X v fs =
     by-elements (X .source) (v .source-sound .well-formed)
-    (λ s k. (n : ℕ) → levels k < n → readTo X n s (imageOfElement content X fs s (children content X fs k)) ≡ some k) step
+    (λ s k. (n : ℕ) → levels k < n → plainTo X n s (imageOfElement content X fs s (children content X fs k)) ≡ some k) step
   where
     step : (s : ℕ) (k : Content) → s < length (X .source) → Holds (X .source) (kindOf (X .source) s) k
-        → Each (λ (t : ℕ) (j : Content). (b : ℕ) → levels j < b → readTo X b t (imageOfElement content X fs t (children content X fs j)) ≡ some j) k
-        → (n : ℕ) → levels k < n → readTo X n s (imageOfElement content X fs s (children content X fs k)) ≡ some k
+        → Each (λ (t : ℕ) (j : Content). (b : ℕ) → levels j < b → plainTo X b t (imageOfElement content X fs t (children content X fs j)) ≡ some j) k
+        → (n : ℕ) → levels k < n → plainTo X n s (imageOfElement content X fs s (children content X fs k)) ≡ some k
     step s k exists holds ea zero h = absurd (omega arith)
     step s k exists holds ea (suc n) h =
-        unfold readTo imageOfElement in
-        kind-back X (v .target-sound .well-formed) fs (λ t j. readTo X n t j) (targetOf (X .embedding) s) (v .edges s exists) holds (each-read X fs n ea h)
+        unfold plainTo imageOfElement in
+        kind-back X (v .target-sound .well-formed) fs (λ t j. plainTo X n t j) (targetOf (X .embedding) s) (v .edges s exists) holds (each-read X fs n ea h)

@@ -18,7 +18,8 @@ use Rattle.model.specs.Definitions.Conformance.{Holds, nothing, no-membe
 use Rattle.model.specs.Definitions.Embedding.{targetOf, pathsOf, firstPath, next, endOf, divide, Divided, beforeChoice}
 use Rattle.model.specs.Definitions.EmbeddingChecks.{maxSteps}
 use Rattle.model.specs.Definitions.Image.{Setting}
-use Rattle.model.specs.Definitions.Inverse.{childAt, childOfType, enter, follow, readOne, readMembers, readIfThere, readChoice, unlessEmpty, readItems, readList, readKind, readTo}
+use Rattle.model.specs.Definitions.Inverse.{childAt, childOfType, firstItem, enter, follow}
+use Rattle.model.specs.Theorems.PlainReading.{plainOne, plainMembers, plainIfThere, plainChoice, plainUnlessEmpty, plainItems, plainList, plainKind, plainTo}
 use Rattle.model.specs.Theorems.Facts.{Walks, MemberPath, Along, along-none, along-both, ValidEdges, text-edge, no-edge, sequence-edges, choice-edges, list-edge, Valid}
 use Rattle.model.specs.Theorems.Tools.{some-none, pick-true, pick-false}
 use Rattle.model.specs.Theorems.Placing.{walks-step, walks-rest, GoodParts, divide-good, AtList, divide-at-list}
@@ -57,8 +58,8 @@ chosen-holds T m {j = j} (chosen {m = n} {k = k} there hk) f = go (eqb m n) refl
     go false e = some-none f (pick-false (eqb m n) (some k) none e)
 
 -- the first item of a list conforms to its item type
-item-holds : (T : Table) (m : ℕ) {k j : Content} → Holds T (list m) k → childAt k 1 ≡ some j → Holds T (kindOf T m) j
-unfolding childAt
+item-holds : (T : Table) (m : ℕ) {k j : Content} → Holds T (list m) k → firstItem k ≡ some j → Holds T (kindOf T m) j
+unfolding firstItem
 item-holds T m no-item f = some-none f refl
 item-holds T m {j = j} (one-item {k = k} hk hr) f = let j-is : k ≡ j = cc in subst (λ (i : Content). Holds T (kindOf T m) i) j-is hk
 
@@ -69,7 +70,7 @@ only-item (suc zero) n m e = cc
 only-item (suc (suc q)) n m e = some-none e refl
 
 -- a step leads to content that conforms to the type that it leads to
-enter-holds : (T : Table) (q m : ℕ) (κ : Kind) {k j : Content} → Holds T κ k → stepFrom κ q ≡ some m → enter κ q m k ≡ some j → Holds T (kindOf T m) j
+pub enter-holds : (T : Table) (q m : ℕ) (κ : Kind) {k j : Content} → Holds T κ k → stepFrom κ q ≡ some m → enter κ q m k ≡ some j → Holds T (kindOf T m) j
 unfolding enter stepFrom membersOf
 enter-holds T q m text h e f = some-none f refl
 enter-holds T q m empty h e f = some-none f refl
@@ -98,8 +99,8 @@ pub record ReadParts (read : ℕ → Content → Option Content) (m : ℕ) (foun
   pub was-after : rest ≡ some after
   pub made : elem m inside after ≡ k
 
-read-parts : (read : ℕ → Content → Option Content) (m : ℕ) (found rest : Option Content) (k : Content) → readOne read m found rest ≡ some k → ReadParts read m found rest k
-unfolding readOne
+pub read-parts : (read : ℕ → Content → Option Content) (m : ℕ) (found rest : Option Content) (k : Content) → plainOne read m found rest ≡ some k → ReadParts read m found rest k
+unfolding plainOne
 read-parts read m found rest k e =
     let first = and-then found (λ a. andThen (read m a) (λ i. andThen rest (λ r. some (elem m i r)))) e in
     let second = and-then (read m (first .0)) (λ i. andThen rest (λ r. some (elem m i r))) (first .2) in
@@ -113,16 +114,16 @@ module _ (X : Setting) (read : ℕ → Content → Option Content) where
   ReadHolds m = (a k : Content) → Holds (X .target) (kindOf (X .target) (targetOf (X .embedding) m)) a → read m a ≡ some k → Holds (X .source) (kindOf (X .source) m) k
 
   -- from conforming content, along a member's path, to conforming content of the member
-  member-holds : (τ m : ℕ) (κ : Kind) (ps : List ℕ) (k a : Content) → MemberPath X τ κ m ps → Holds (X .target) (kindOf (X .target) τ) k → follow (X .target) τ ps k ≡ some a
+  pub member-holds : (τ m : ℕ) (κ : Kind) (ps : List ℕ) (k a : Content) → MemberPath X τ κ m ps → Holds (X .target) (kindOf (X .target) τ) k → follow (X .target) τ ps k ≡ some a
       → Holds (X .target) (kindOf (X .target) (targetOf (X .embedding) m)) a
   member-holds τ m κ ps k a g h f = subst (λ (t : ℕ). Holds (X .target) (kindOf (X .target) t) a) (g .ends) (follow-holds (X .target) τ ps k a (g .good .walks) h f)
 
   members-read : (τ : ℕ) (κ : Kind) (k : Content) → Holds (X .target) (kindOf (X .target) τ) k → {ms : List ℕ} {pss : List (List ℕ)} {j : Content} → Along (MemberPath X τ κ) ms pss
-      → ((m : ℕ) → List·Memᴰ m ms → ReadHolds m) → readMembers read (λ p. follow (X .target) τ p k) ms pss ≡ some j → Holds (X .source) (sequence ms) j
-  unfolding readMembers
+      → ((m : ℕ) → List·Memᴰ m ms → ReadHolds m) → plainMembers read (λ p. follow (X .target) τ p k) ms pss ≡ some j → Holds (X .source) (sequence ms) j
+  unfolding plainMembers
   members-read τ κ k h {j = j} along-none rec e = let j-is : end ≡ j = cc in subst (λ (i : Content). Holds (X .source) (sequence []) i) j-is no-member
   members-read τ κ k h {j = j} (along-both {a = m} {b = ps} {xs = ms} {ys = pss} g al) rec e =
-      let parts : ReadParts read m (follow (X .target) τ ps k) (readMembers read (λ p. follow (X .target) τ p k) ms pss) j = read-parts read m _ _ j e in
+      let parts : ReadParts read m (follow (X .target) τ ps k) (plainMembers read (λ p. follow (X .target) τ p k) ms pss) j = read-parts read m _ _ j e in
       subst (λ (i : Content). Holds (X .source) (sequence (m ∷ ms)) i) (parts .made)
       (one-member
       (rec m (List·Memᴰ·head refl) (parts .image) (parts .inside) (member-holds τ m κ ps k (parts .image) g h (parts .was-found)) (parts .was-read))
@@ -131,18 +132,18 @@ module _ (X : Setting) (read : ℕ → Content → Option Content) where
   -- what is read of a choice is a member that conforms
   choice-read : (τ : ℕ) (κ : Kind) (need : Need) (all : List ℕ) (k : Content) → Holds (X .target) (kindOf (X .target) τ) k → {ms : List ℕ} {pss : List (List ℕ)} {j : Content}
       → Along (MemberPath X τ κ) ms pss → ((m : ℕ) → List·Memᴰ m ms → List·Memᴰ m all × ReadHolds m)
-      → readChoice read (λ p. follow (X .target) τ p k) ms pss ≡ some j → Holds (X .source) (choice need all) j
-  unfolding readChoice
+      → plainChoice read (λ p. follow (X .target) τ p k) ms pss ≡ some j → Holds (X .source) (choice need all) j
+  unfolding plainChoice
   choice-read τ κ need all k h along-none rec e = some-none e refl
   choice-read τ κ need all k h {j = j} (along-both {a = m} {b = ps} {xs = ms} {ys = pss} g al) rec e =
       go (follow (X .target) τ ps k) refl (choice-read τ κ need all k h al (λ n there. rec n (List·Memᴰ·tail there))) e
     where
       go : (o : Option Content) → follow (X .target) τ ps k ≡ o
-          → (readChoice read (λ p. follow (X .target) τ p k) ms pss ≡ some j → Holds (X .source) (choice need all) j)
-          → readIfThere read m o (readChoice read (λ p. follow (X .target) τ p k) ms pss) ≡ some j → Holds (X .source) (choice need all) j
-      go none f later e = unfold readIfThere in later e
+          → (plainChoice read (λ p. follow (X .target) τ p k) ms pss ≡ some j → Holds (X .source) (choice need all) j)
+          → plainIfThere read m o (plainChoice read (λ p. follow (X .target) τ p k) ms pss) ≡ some j → Holds (X .source) (choice need all) j
+      go none f later e = unfold plainIfThere in later e
       go (some a) f later e =
-          let parts : ReadParts read m (some a) (some end) j = read-parts read m (some a) (some end) j (unfold readIfThere in e) in
+          let parts : ReadParts read m (some a) (some end) j = read-parts read m (some a) (some end) j (unfold plainIfThere in e) in
           let image-is : some a ≡ some (parts .image) = parts .was-found in
           let after-is : some end ≡ some (parts .after) = parts .was-after in
           let ended : parts .after ≡ end = cc in
@@ -154,8 +155,8 @@ module _ (X : Setting) (read : ℕ → Content → Option Content) where
 
   -- an optional choice reads as nothing, or as a choice does
   unless-empty : (ms : List ℕ) (o member : Option Content) (j : Content) → (member ≡ some j → Holds (X .source) (choice optional ms) j)
-      → unlessEmpty o member ≡ some j → Holds (X .source) (choice optional ms) j
-  unfolding unlessEmpty
+      → plainUnlessEmpty o member ≡ some j → Holds (X .source) (choice optional ms) j
+  unfolding plainUnlessEmpty
   unless-empty ms none member j read-member e = read-member e
   unless-empty ms (some end) member j read-member e = let j-is : end ≡ j = cc in subst (λ (i : Content). Holds (X .source) (choice optional ms) i) j-is left-out
   unless-empty ms (some (char c r)) member j read-member e = read-member e
@@ -163,18 +164,18 @@ module _ (X : Setting) (read : ℕ → Content → Option Content) where
 
   -- so what is read of a choice of either kind conforms
   choice-kind-read : (need : Need) (ms : List ℕ) (τ : ℕ) (pss : List (List ℕ)) (k j : Content)
-      → (readChoice read (λ p. follow (X .target) τ p k) ms pss ≡ some j → Holds (X .source) (choice need ms) j)
-      → readKind read (X .target) (choice need ms) τ pss k ≡ some j → Holds (X .source) (choice need ms) j
-  unfolding readKind
+      → (plainChoice read (λ p. follow (X .target) τ p k) ms pss ≡ some j → Holds (X .source) (choice need ms) j)
+      → plainKind read (X .target) (choice need ms) τ pss k ≡ some j → Holds (X .source) (choice need ms) j
+  unfolding plainKind
   choice-kind-read needed ms τ pss k j read-member e = read-member e
   choice-kind-read optional ms τ pss k j read-member e = unless-empty ms _ _ j read-member e
 
   items-read : (m τ : ℕ) (rest : List ℕ) → Walks (X .target) τ rest → endOf (X .target) τ rest ≡ targetOf (X .embedding) m → ReadHolds m → {items j : Content}
-      → Holds (X .target) (list τ) items → readItems read (follow (X .target) τ rest) m items ≡ some j → Holds (X .source) (list m) j
-  unfolding readItems
+      → Holds (X .target) (list τ) items → plainItems read (follow (X .target) τ rest) m items ≡ some j → Holds (X .source) (list m) j
+  unfolding plainItems
   items-read m τ rest w ends rec {j = j} no-item e = let j-is : end ≡ j = cc in subst (λ (i : Content). Holds (X .source) (list m) i) j-is no-item
   items-read m τ rest w ends rec {j = j} (one-item {k = k} {r = r} hk hr) e =
-      let parts : ReadParts read m (follow (X .target) τ rest k) (readItems read (follow (X .target) τ rest) m r) j = read-parts read m _ _ j e in
+      let parts : ReadParts read m (follow (X .target) τ rest k) (plainItems read (follow (X .target) τ rest) m r) j = read-parts read m _ _ j e in
       let held : Holds (X .target) (kindOf (X .target) (targetOf (X .embedding) m)) (parts .image) =
       subst (λ (t : ℕ). Holds (X .target) (kindOf (X .target) t) (parts .image)) ends (follow-holds (X .target) τ rest k (parts .image) w hk (parts .was-found)) in
       subst (λ (i : Content). Holds (X .source) (list m) i) (parts .made)
@@ -182,8 +183,8 @@ module _ (X : Setting) (read : ℕ → Content → Option Content) where
 
   -- what a source element of a kind holds, read from conforming content, conforms
   kind-read : (τ : ℕ) (k j : Content) {κ : Kind} {pss : List (List ℕ)} → ValidEdges X τ κ pss → Holds (X .target) (kindOf (X .target) τ) k
-      → ((m : ℕ) → List·Memᴰ m (membersOf κ) → ReadHolds m) → readKind read (X .target) κ τ pss k ≡ some j → Holds (X .source) κ j
-  unfolding readKind membersOf firstPath readList
+      → ((m : ℕ) → List·Memᴰ m (membersOf κ) → ReadHolds m) → plainKind read (X .target) κ τ pss k ≡ some j → Holds (X .source) κ j
+  unfolding plainKind membersOf firstPath plainList
   kind-read τ k j (text-edge {ps = ps} g t) h rec e =
       let held : Holds (X .target) (kindOf (X .target) (endOf (X .target) τ ps)) j = follow-holds (X .target) τ ps k j (g .walks) h e in
       text-anywhere (X .source) (subst (λ (κ : Kind). Holds (X .target) κ j) (is-text _ t) held)
@@ -195,25 +196,25 @@ module _ (X : Setting) (read : ℕ → Content → Option Content) where
       let d : Divided = divide (X .target) τ ps in
       let parts : GoodParts (X .target) τ maxSteps d = divide-good (X .target) τ maxSteps ps (g .good .walks) (g .good .short) in
       let at : AtList (X .target) τ ps d = divide-at-list (X .target) τ ps (g .good .walks) (list-left (g .good)) in
-      let found = and-then (follow (X .target) τ (d .before) k) (λ items. readItems read (follow (X .target) (d .item) (d .rest)) m items) e in
+      let found = and-then (follow (X .target) τ (d .before) k) (λ items. plainItems read (follow (X .target) (d .item) (d .rest)) m items) e in
       let held : Holds (X .target) (kindOf (X .target) (endOf (X .target) τ (d .before))) (found .0) = follow-holds (X .target) τ (d .before) k (found .0) (parts .before-walks) h (found .1) in
       items-read m (d .item) (d .rest) (parts .rest-walks) (at .same-end ∙ g .ends) (rec m (List·Memᴰ·head refl))
       (subst (λ (κ : Kind). Holds (X .target) κ (found .0)) (at .is-list) held) (found .2)
 
 -- What reading conforming target content yields conforms to the source table.
 pub read-holds : (X : Setting) → Valid X → (n s : ℕ) (k j : Content) → s < length (X .source) → Holds (X .target) (kindOf (X .target) (targetOf (X .embedding) s)) k
-    → readTo X n s k ≡ some j → Holds (X .source) (kindOf (X .source) s) j
-unfolding readTo
+    → plainTo X n s k ≡ some j → Holds (X .source) (kindOf (X .source) s) j
+unfolding plainTo
 read-holds X v zero s k j exists h e = some-none e refl
 read-holds X v (suc n) s k j exists h e =
-    kind-read X (λ t i. readTo X n t i) (targetOf (X .embedding) s) k j (v .edges s exists) h
+    kind-read X (λ t i. plainTo X n t i) (targetOf (X .embedding) s) k j (v .edges s exists) h
     (λ m there a i. read-holds X v n m a i (v .source-sound .well-formed .members-exist s m there)) e
 
 -- ---- an optional choice that reads as nothing
 
 -- an element that is read is something
-one-some : (read : ℕ → Content → Option Content) (m : ℕ) (found rest : Option Content) → readOne read m found rest ≡ some end → ⊥
-unfolding readOne
+one-some : (read : ℕ → Content → Option Content) (m : ℕ) (found rest : Option Content) → plainOne read m found rest ≡ some end → ⊥
+unfolding plainOne
 one-some read m found rest e =
     let inner = and-then found _ e in
     let inside = and-then (read m (inner .0)) _ (inner .2) in
@@ -222,23 +223,23 @@ one-some read m found rest e =
     absurd (omega arith)
 
 -- and so is the member of a choice
-member-some : (read : ℕ → Content → Option Content) (at : List ℕ → Option Content) (ms : List ℕ) (pss : List (List ℕ)) → readChoice read at ms pss ≡ some end → ⊥
-unfolding readChoice
+member-some : (read : ℕ → Content → Option Content) (at : List ℕ → Option Content) (ms : List ℕ) (pss : List (List ℕ)) → plainChoice read at ms pss ≡ some end → ⊥
+unfolding plainChoice
 member-some read at [] pss e = some-none e refl
 member-some read at (m ∷ ms) [] e = some-none e refl
 member-some read at (m ∷ ms) (p ∷ pss) e = go (at p) e (member-some read at ms pss)
   where
-    go : (found : Option Content) → readIfThere read m found (readChoice read at ms pss) ≡ some end → (readChoice read at ms pss ≡ some end → ⊥) → ⊥
-    go none e later = unfold readIfThere in later e
-    go (some k) e later = unfold readIfThere in one-some read m (some k) (some end) e
+    go : (found : Option Content) → plainIfThere read m found (plainChoice read at ms pss) ≡ some end → (plainChoice read at ms pss ≡ some end → ⊥) → ⊥
+    go none e later = unfold plainIfThere in later e
+    go (some k) e later = unfold plainIfThere in one-some read m (some k) (some end) e
 
 -- It reads as nothing exactly where the optional choice that its paths agree on is there and empty.
 pub nothing-exactly : (X : Setting) (n s : ℕ) (ms : List ℕ) (k : Content) → kindOf (X .source) s ≡ choice optional ms
-    → (readTo X (suc n) s k ≡ some end)
+    → (plainTo X (suc n) s k ≡ some end)
     ↔ (follow (X .target) (targetOf (X .embedding) s) (beforeChoice (X .target) (targetOf (X .embedding) s) (firstPath (pathsOf (X .embedding) s))) k ≡ some end)
-unfolding readTo readKind
+unfolding plainTo plainKind
 nothing-exactly X n s ms k kind =
-    (λ e. go (follow (X .target) τ shared k) (rw kind at e), λ e. rw (kind, e) (unfold unlessEmpty in refl))
+    (λ e. go (follow (X .target) τ shared k) (rw kind at e), λ e. rw (kind, e) (unfold plainUnlessEmpty in refl))
   where
     τ : ℕ
     τ = targetOf (X .embedding) s
@@ -247,8 +248,8 @@ nothing-exactly X n s ms k kind =
     shared = beforeChoice (X .target) τ (firstPath (pathsOf (X .embedding) s))
 
     go : (found : Option Content)
-        → unlessEmpty found (readChoice (λ t inside. readTo X n t inside) (λ p. follow (X .target) τ p k) ms (pathsOf (X .embedding) s)) ≡ some end → found ≡ some end
-    go none e = unfold unlessEmpty in absurd (member-some _ _ ms _ e)
+        → plainUnlessEmpty found (plainChoice (λ t inside. plainTo X n t inside) (λ p. follow (X .target) τ p k) ms (pathsOf (X .embedding) s)) ≡ some end → found ≡ some end
+    go none e = unfold plainUnlessEmpty in absurd (member-some _ _ ms _ e)
     go (some end) e = refl
-    go (some (char c r)) e = unfold unlessEmpty in absurd (member-some _ _ ms _ e)
-    go (some (elem t j r)) e = unfold unlessEmpty in absurd (member-some _ _ ms _ e)
+    go (some (char c r)) e = unfold plainUnlessEmpty in absurd (member-some _ _ ms _ e)
+    go (some (elem t j r)) e = unfold plainUnlessEmpty in absurd (member-some _ _ ms _ e)

@@ -30,7 +30,7 @@ use Rattle.model.specs.Theorems.ByElements.{Each, each-end, each-elem, b
 -- ---- measures that add up
 
 -- a number for each character and each element
-record Adds (B : Builder ℕ) : Type 0 where
+pub record Adds (B : Builder ℕ) : Type 0 where
   pub letter-cost : ℕ
   pub cost : Bool → ℕ
   pub no-cost : B .none ≡ 0
@@ -52,7 +52,7 @@ adds-join a =
     }
 
 -- the same on rows; a hole adds nothing
-record RowAdds (T : Table) (B : Builder ℕ) (M : Adds B) (μ : List Symbol → ℕ) : Type 0 where
+pub record RowAdds (T : Table) (B : Builder ℕ) (M : Adds B) (μ : List Symbol → ℕ) : Type 0 where
   pub of-end : μ [] ≡ 0
   pub of-opening : (t : ℕ) (row : List Symbol) → μ (opening t ∷ row) ≡ M .cost true + μ row
   pub of-closing : (row : List Symbol) → μ (closing ∷ row) ≡ μ row
@@ -149,7 +149,7 @@ filler-rows T =
 -- ---- sums over a source document
 
 -- what the content of an element of type s adds, given a row's and an item's row's own part
-sumOf : Setting → ℕ → (ℕ → Option ℕ → ℕ) → (ℕ → ℕ) → ℕ → Content → ℕ
+unfoldable pub sumOf : Setting → ℕ → (ℕ → Option ℕ → ℕ) → (ℕ → ℕ) → ℕ → Content → ℕ
 sumOf X c own item s end = 0
 sumOf X c own item s (char x r) = c + sumOf X c own item s r
 sumOf X c own item s (elem t k r) = around (kindOf (X .source) s) (item s) + (own t (firstIn k) + sumOf X c own item t k) + sumOf X c own item s r
@@ -277,7 +277,7 @@ module _ (B : Builder ℕ) (M : Adds B) (X : Setting) (valid : Valid X) (μ : Li
       (kind-sum s (kindOf (X .source) s) exists refl (valid .edges s exists) held each)
 
   -- The measure of the image is the sum over the rows of the source elements.
-  image-sum : (k : Content) → Holds (X .source) (kindOf (X .source) 0) k → imageBy B X k ≡ own 0 (firstIn k) + adds 0 k
+  pub image-sum : (k : Content) → Holds (X .source) (kindOf (X .source) 0) k → imageBy B X k ≡ own 0 (firstIn k) + adds 0 k
   unfolding imageBy Sums
   image-sum k held = by-elements (X .source) (valid .source-sound .well-formed) Sums element-sums 0 k (valid .source-sound .well-formed .has-root) held
 

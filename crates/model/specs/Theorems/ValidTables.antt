@@ -304,7 +304,7 @@ abbrev NoneAmong : List ℕ → List ℕ → Type 0
 NoneAmong earlier ms = (p m : ℕ) → entry p ms ≡ some m → memberOf m earlier ≡ false
 
 -- of distinct types those behind the first are distinct
-distinct-later : (m : ℕ) (ms : List ℕ) → Distinct (m ∷ ms) → Distinct ms
+pub distinct-later : (m : ℕ) (ms : List ℕ) → Distinct (m ∷ ms) → Distinct ms
 unfolding Distinct entry
 distinct-later m ms d zero q n e f = some-none e refl
 distinct-later m ms d (suc p) zero n e f = some-none f refl

@@ -3,7 +3,7 @@ use mathlib.Core.Path.{_≡_, refl}
 use Prim.Native.Nat.{ℕ, _-_, _≤_}
 use native.Mathlib.Omega.{arith}
 use lib.ListN.{length}
-use Rattle.scanning.proofs.Searching.{child-zero, reached-within, reached-none, reached-inside, reached-found, reached-close, reached-next, Seeks}
+use Rattle.scanning.proofs.Searching.{child-zero, found-nowhere, reached-within, reached-none, reached-inside, reached-found, reached-close, reached-next, Seeks}
 use Rattle.scanning.proofs.child.Statement.{statement}
 use Rattle.scanning.proofs.child.Tie as tie
 
@@ -18,7 +18,7 @@ two-left : (left : ℕ) → 1 ≤ left → (left ≡ 1 → ⊥) → 2 ≤ left
 two-left left some other = omega arith
 
 loop-holds : tie.Need-loop-holds Inv-loop μ-loop
-loop-holds c = record { some-left = omega (arith, c .if1 .left); reached = λ k a. record { content = k; there = a; same = refl } }
+loop-holds c = record { some-left = omega (arith, c .if1 .left); reached = λ k a. record { content = k; there = a; same = refl; place = refl } }
 
 shared-slice-read-if2 : tie.Need-shared-slice-read-if2 Inv-loop μ-loop
 shared-slice-read-if2 c = reached-within (c .before .loop .inv .reached (c .before .before .before .before .before .pre .1 .0) (c .before .before .before .before .before .pre .1 .1))
@@ -47,7 +47,7 @@ child-spec =
     (tie.spec
     Inv-loop
     μ-loop
-    (λ c k a. rw (c .if1 .taken) (child-zero k))
+    (λ c k a. found-nowhere _ (rw (c .if1 .taken) (child-zero k)))
     loop-holds
     shared-slice-read-if2
     add-inside
