@@ -36,3 +36,5 @@ check-definitions: reference
 	@tools/check-definitions --most 700 --longest 200 tests/data/n9.txt target/generated-clashes.txt
 	@target/cargo/release/reference generate 1 600 operations > target/generated-operations.txt
 	@tools/check-definitions --most 900 --longest 300 tests/data/n8.txt target/generated-operations.txt
+	@target/cargo/release/reference generate 1 600 edited > target/generated-edited.txt
+	@tools/check-definitions --most 900 --longest 300 tests/data/n4.txt target/generated-edited.txt

@@ -49,6 +49,8 @@ pub const RECORDS_TARGET: &[u8] = &[
     0x11,                            // 7: nothing
     0x1F,
 ];
+/// The type of those notes.
+pub const NOTE: u8 = 4;
 #[rustfmt::skip]
 pub const RECORDS_EMBEDDING: &[u8] = &[
     0x20, 0, 0x21, 0x22, 1, 0x22, 1, 0x21, 0x22, 2,
@@ -202,6 +204,19 @@ pub fn one_text() -> Setting {
 pub fn mostly_filler() -> Setting {
     let target = [&[0x14, 1, 0x12], &[0x15, 2].repeat(MOST_MEMBERS)[..], &[0x11, 0x1F]].concat();
     Setting::new(&[0x14, 1, 0x11, 0x1F], &target, &[0x20, 0, 0x21, 0x22, 1, 0x20, 1, 0x2F])
+}
+
+/// A list of empty elements, each mapped to a sequence of 16 texts, which are
+/// filler.
+pub fn filler_texts() -> Setting {
+    let target = [&[0x14, 1, 0x12], &[0x15, 2].repeat(MOST_MEMBERS)[..], &[0x10, 0x1F]].concat();
+    Setting::new(&[0x14, 1, 0x11, 0x1F], &target, &[0x20, 0, 0x21, 0x22, 1, 0x20, 1, 0x2F])
+}
+
+/// A list of texts, each in a list of its own in the target.
+pub fn listed_texts() -> Setting {
+    let embedding = [0x20, 0, 0x21, 0x22, 1, 0x20, 1, 0x21, 0x22, 1, 0x2F];
+    Setting::new(&[0x14, 1, 0x10, 0x1F], &[0x14, 1, 0x14, 2, 0x10, 0x1F], &embedding)
 }
 
 /// A list of texts whose characters go along a path of 12 sequences.

@@ -1,10 +1,11 @@
-//! What is carried and brought back: images from 21 to 60,000 bytes, and a
-//! thousand different patches.
+//! What is carried, brought back and read along: images from 21 to 60,000 bytes, a
+//! thousand different patches, and edited images.
 
 use crate::documents::*;
 use crate::inputs::Input;
 use lafindry_reference::generate::{random_tree, Rng, Shape, TableSize, World};
 use lafindry_reference::table::accept;
+use lafindry_reference::tree::{build, Element};
 use lafindry_reference::vectors::{Answer, Case, Entry};
 use lafindry_reference::{MOST_BYTES, SOURCE};
 
@@ -32,14 +33,90 @@ pub fn carried() -> Vec<Input> {
     inputs
 }
 
-/// The images of what is carried, to be brought back.
-pub fn brought_back(carried: &Input) -> Input {
+/// The images of what is carried, given to an entry.
+pub fn images(carried: &Input, entry: Entry) -> Input {
     let cases = carried.cases.iter().map(|carried| {
         let mut documents = carried.documents.clone();
         documents[3] = image(carried).expect("the input is carried");
-        Case { entry: Entry::BringBack, documents, output_length: MOST_BYTES }
+        Case { entry, documents, output_length: MOST_BYTES }
     });
     Input { name: carried.name, cases: cases.collect() }
+}
+
+/// Edited images to be read along, of about 60,000 bytes: characters written into
+/// filler, further items in lists that stand for one; and one whose last such list
+/// lacks its item, so that it is refused with 17.
+pub fn edited() -> Vec<Input> {
+    let of_records = Setting::new(RECORDS_SOURCE, RECORDS_TARGET, RECORDS_EMBEDDING);
+    let texts = |times| repeated(&[0x30, 1, 0x31, 0x41, 0x32], times);
+    let items = |times| repeated(&[0x30, 1, 0x32], times);
+    vec![
+        largest_edited("records, notes written", &of_records, |length| records(length.max(10)), write_notes),
+        largest_edited("16 texts written an item", &filler_texts(), items, write_fillers),
+        largest_edited("a second item in each list", &listed_texts(), texts, add_second_items),
+        largest_edited("16 items in each list", &listed_texts(), texts, fill_lists),
+        largest_edited("the last list without item", &listed_texts(), texts, empty_last_list),
+    ]
+}
+
+/// The largest of some trees whose image, edited, has at most 60,000 bytes, to be
+/// read along.
+fn largest_edited(
+    name: &'static str,
+    setting: &Setting,
+    tree: impl Fn(usize) -> Vec<u8>,
+    edit: fn(&mut Element),
+) -> Input {
+    let edited = |size: usize| {
+        let mut root = build(&image(&carry(setting, &tree(size)))?);
+        edit(&mut root);
+        Some(root.to_bytes()).filter(|bytes| bytes.len() <= MOST_BYTES)
+    };
+    let (mut low, mut high) = (1, MOST_BYTES);
+    while low < high {
+        let middle = (low + high).div_ceil(2);
+        match edited(middle) {
+            Some(_) => low = middle,
+            None => high = middle - 1,
+        }
+    }
+    let bytes = edited(low).expect("a small image can be edited");
+    Input { name, cases: vec![Case { entry: Entry::ReadAlong, ..carry(setting, &bytes) }] }
+}
+
+/// Writes four characters into each note of records.
+fn write_notes(element: &mut Element) {
+    if element.element_type == NOTE {
+        element.characters = b"note".to_vec();
+    }
+    element.children.iter_mut().for_each(write_notes);
+}
+
+/// Writes a character into each filler text of [`filler_texts`].
+fn write_fillers(root: &mut Element) {
+    let texts = root.children.iter_mut().flat_map(|item| &mut item.children);
+    texts.for_each(|text| text.characters = vec![b'F']);
+}
+
+/// Puts so many items behind the first of each inner list of [`listed_texts`].
+fn add_items(root: &mut Element, count: usize) {
+    for list in &mut root.children {
+        let item = list.children[0].clone();
+        list.children.extend(vec![item; count]);
+    }
+}
+
+fn add_second_items(root: &mut Element) {
+    add_items(root, 1);
+}
+
+fn fill_lists(root: &mut Element) {
+    add_items(root, 15);
+}
+
+/// Takes the item from the last inner list of [`listed_texts`].
+fn empty_last_list(root: &mut Element) {
+    root.children.iter_mut().last().into_iter().for_each(|list| list.children.clear());
 }
 
 /// A tree to be carried into 60,000 bytes.

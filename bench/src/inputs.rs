@@ -1,6 +1,6 @@
 //! What is timed: documents of the patch of paper 01, of a table of records, of
-//! one with optional settings, near the limits, a thousand different patches, and
-//! rows of operations on a table.
+//! one with optional settings, near the limits, a thousand different patches,
+//! edited images, and rows of operations on a table.
 
 use crate::documents::*;
 use crate::images;
@@ -19,8 +19,10 @@ pub struct Input {
 /// All inputs, by entry.
 pub fn all() -> Vec<Input> {
     let carried = images::carried();
-    let brought_back = carried.iter().map(images::brought_back).collect();
-    [tables(), embeddings(), trees(), carried, brought_back].into_iter().flatten().collect()
+    let given = |entry| carried.iter().map(|input| images::images(input, entry)).collect();
+    let (brought_back, read): (Vec<Input>, Vec<Input>) = (given(Entry::BringBack), given(Entry::ReadAlong));
+    let all = [tables(), embeddings(), trees(), carried, brought_back, read, images::edited()];
+    all.into_iter().flatten().collect()
 }
 
 /// An input of one judgement.

@@ -1,5 +1,5 @@
 //! Times the library and the reference on the same inputs, in one run: the five
-//! entries, the explanation of clashes, and operations on tables. First each
+//! entries, reading along, the explanation of clashes, and operations on tables. First each
 //! input's answer and output bytes are compared. A line has the length of the last
 //! document, for operations with that of the table, and of what is written, both
 //! times of one call in microseconds, and the library's time divided by the
@@ -14,7 +14,9 @@ use lafindry_entries::{call, call_explain, call_extend, ensure, Explanations, Ex
 use lafindry_reference::vectors::explanations::EXPLAIN;
 use lafindry_reference::vectors::operations::EXTEND;
 use lafindry_reference::vectors::{Answer, Case, Entry};
-use lafindry_reference::{bring_back, carry, extend_table, judge_embedding, judge_table, judge_tree};
+use lafindry_reference::{
+    bring_back, carry, extend_table, judge_embedding, judge_table, judge_tree, read_along,
+};
 use lafindry_reference::{Refusal, MOST_BYTES};
 use std::hint::black_box;
 use std::process::ExitCode;
@@ -190,6 +192,7 @@ fn reference_call(case: &Case, output: &mut [u8]) {
         Entry::JudgeTree => judge_tree(&d[0], &d[1]).map(|elements| (elements, 0)),
         Entry::Carry => carry(&d[0], &d[1], &d[2], &d[3], output).map(|c| (c.length, c.filler)),
         Entry::BringBack => bring_back(&d[0], &d[1], &d[2], &d[3], output).map(|length| (length, 0)),
+        Entry::ReadAlong => read_along(&d[0], &d[1], &d[2], &d[3], output).map(|r| (r.length, r.aside)),
     };
     let _ = black_box(answer);
 }
@@ -240,6 +243,31 @@ mod tests {
         inputs::all().iter().try_for_each(|input| answers(input).map(drop))?;
         inputs::questions().iter().try_for_each(|asked| explanations.compare(&asked.question).map(drop))?;
         inputs::operated().iter().try_for_each(|operated| extensions.compare(&operated.extension).map(drop))
+    }
+
+    /// The edited images are of about 60,000 bytes and no images; all but the last
+    /// are read, with elements aside, and that one is refused at its end.
+    #[test]
+    fn edited_images_are_long() -> Result<(), Failure> {
+        let edited = images::edited();
+        for (number, Input { name, cases }) in edited.iter().enumerate() {
+            let document = &cases[0].documents[3];
+            let answer = answers(&edited[number])?.remove(0);
+            let back = Case { entry: Entry::BringBack, ..cases[0].clone() };
+            let is_image = matches!(back.run_into(&mut vec![0; MOST_BYTES]), Answer::Ok { .. });
+            let right = match answer {
+                Answer::Ok { filler, .. } => number + 1 < edited.len() && filler > 0,
+                Answer::Refused(Refusal { number: refusal, mark, .. }) => {
+                    number + 1 == edited.len() && refusal == 17 && mark as usize + 10 > document.len()
+                }
+            };
+            let is_long = document.len() > 59_800;
+            ensure(
+                right && is_long && !is_image,
+                format!("{name}: {} bytes, {}", document.len(), summary(&answer)),
+            )?;
+        }
+        Ok(())
     }
 
     /// All operations of the benchmark are accepted, and so many move numbers.

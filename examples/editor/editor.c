@@ -1,12 +1,13 @@
 /*
  * A start for a desktop editor: loads a source table, a target table, an embedding and a tree, judges them, carries the
- * tree, brings its image back and compares. Every refusal is printed in words; where two paths of the embedding clash,
- * a second line says which and why.
+ * tree, brings its image back and compares. Where a fifth file is given, the image as it was edited on the larger unit,
+ * it reads that along the paths. Every refusal is printed in words; where two paths of the embedding clash, a second
+ * line says which and why, and where an edited image can't be read, which element that is about.
  *
- *     editor [SOURCE-TABLE TARGET-TABLE EMBEDDING TREE]
+ *     editor [SOURCE-TABLE TARGET-TABLE EMBEDDING TREE [EDITED-IMAGE]]
  *
- * Without files it takes those of examples/patch. It ends with 0 where the tree came back, 1 after a refusal, and 2
- * where it could not do its work.
+ * Without files it takes those of examples/patch. It ends with 0 where the tree came back and the edited image, if
+ * there is one, was read, 1 after a refusal, and 2 where it could not do its work.
  */
 #include "lafindry.h"
 
@@ -31,6 +32,9 @@ static struct document documents[4] = {
     {.file = "examples/patch/tr"},
 };
 static uint8_t image[LAFINDRY_MOST_BYTES], source[LAFINDRY_MOST_BYTES];
+
+/* The edited image, which is document 4 where it is read; it has no file where none is given. */
+static struct document edited;
 
 static const char *const names[] = {
     [LAFINDRY_SOURCE_TABLE] = "source table", [LAFINDRY_TARGET_TABLE] = "target table",
@@ -60,6 +64,7 @@ static const struct {
     [LAFINDRY_IMAGE_TOO_LONG] = {NOTHING, "the image would be longer than 60,000 bytes"},
     [LAFINDRY_OUTPUT_TOO_SHORT] = {NOTHING, "too short for what would be written"},
     [LAFINDRY_NO_IMAGE] = {NOTHING, "not the image of any source tree"},
+    [LAFINDRY_NO_PATH] = {BYTES, "the paths of the source element that stands here can't be followed"},
 };
 
 /* The words for LAFINDRY_WRONG_STEPS where the path belongs to an optional choice, such as of modules that a patch may
@@ -114,15 +119,27 @@ static void print_clash(void)
     printf("%s\n", clashes[clash.reason]);
 }
 
-/* Prints a refusal: the document, the place in it if there is one, and the reason; of a clash, its explanation too. */
-static void print_refusal(struct lafindry_answer answer)
+/* Prints of which type the element is that stands for a source element which can't be read, and what it may lack. The
+   edited image has passed all checks of a tree, so an element is opened at the mark. */
+static void print_unread(uint64_t mark)
+{
+    if (mark + 1 >= edited.length)
+        return;
+    printf("the element there is of target type %d: a list on its paths lacks the item that is needed, or no member's "
+           "path is there\n",
+           edited.bytes[mark + 1]);
+}
+
+/* Prints a refusal: the document, document 4 being called so, the place in it if there is one, and the reason; of a
+   clash, its explanation too, and of what can't be read, the element. */
+static void print_refusal_of(struct lafindry_answer answer, const char *tree)
 {
     /* An answer out of range would mean that the header and the library are not of one version. */
     if (answer.refusal >= sizeof refusals / sizeof refusals[0] || answer.document >= sizeof names / sizeof names[0]) {
         printf("refused: an unknown answer\n");
         return;
     }
-    printf("refused: %s", names[answer.document]);
+    printf("refused: %s", answer.document == LAFINDRY_TREE ? tree : names[answer.document]);
     if (refusals[answer.refusal].mark == BYTES)
         printf(", offset %" PRIu64, answer.mark);
     if (refusals[answer.refusal].mark == TYPES)
@@ -131,7 +148,11 @@ static void print_refusal(struct lafindry_answer answer)
     printf(": %s (refusal %" PRIu64 ")\n", optional ? optional_steps : refusals[answer.refusal].words, answer.refusal);
     if (answer.refusal == LAFINDRY_PATH_CLASH)
         print_clash();
+    if (answer.refusal == LAFINDRY_NO_PATH)
+        print_unread(answer.mark);
 }
+
+static void print_refusal(struct lafindry_answer answer) { print_refusal_of(answer, names[LAFINDRY_TREE]); }
 
 /* Loads a file; whether that succeeded. */
 static int load(struct document *document)
@@ -210,19 +231,44 @@ static int go_there_and_back(void)
     return same ? DONE : FAILED;
 }
 
+/* Reads the edited image along the paths; gives the status to end with. */
+static int read_edited(void)
+{
+    const struct document *s = &documents[0], *t = &documents[1], *e = &documents[2], *tree = &documents[3];
+    struct lafindry_answer read =
+        lafindry_read_along(s->bytes, s->length, t->bytes, t->length, e->bytes, e->length, edited.bytes, edited.length,
+                            source, sizeof source);
+    if (read.refusal != LAFINDRY_ACCEPTED) {
+        print_refusal_of(read, "edited image");
+        return REFUSED;
+    }
+    int same = read.value == tree->length && memcmp(source, tree->bytes, tree->length) == 0;
+    printf("edited image: %s, %zu bytes, elements on no followed path: %" PRIu64 "\n", edited.file, edited.length,
+           read.filler);
+    printf("read along: %" PRIu64 " bytes, %s\n", read.value, same ? "the same as the tree" : "another tree");
+    return DONE;
+}
+
 int main(int count, char **arguments)
 {
-    if (count != 1 && count != 5) {
-        fprintf(stderr, "usage: editor [SOURCE-TABLE TARGET-TABLE EMBEDDING TREE]\n");
+    if (count != 1 && count != 5 && count != 6) {
+        fprintf(stderr, "usage: editor [SOURCE-TABLE TARGET-TABLE EMBEDDING TREE [EDITED-IMAGE]]\n");
         return FAILED;
     }
     for (int i = 0; i < 4; i++) {
-        if (count == 5)
+        if (count > 1)
             documents[i].file = arguments[1 + i];
         if (!load(&documents[i]))
             return FAILED;
     }
+    if (count == 6) {
+        edited.file = arguments[5];
+        if (!load(&edited))
+            return FAILED;
+    }
     int status = judge_all() ? go_there_and_back() : REFUSED;
+    if (status == DONE && edited.file != NULL)
+        status = read_edited();
     if (fflush(stdout) != 0 || ferror(stdout)) {
         perror("standard output");
         return FAILED;

@@ -1,7 +1,7 @@
 /*
- * Calls the five entries, lafindry_explain_clash, lafindry_extend_table and lafindry_decimal through
- * include/lafindry.h, with buffers lent as lend.h says. Prints one line for each group, for changes of one byte how
- * often the reference and the library gave each answer, and last 'N passed, M failed'.
+ * Calls the five entries, lafindry_explain_clash, lafindry_read_along, lafindry_extend_table and lafindry_decimal
+ * through include/lafindry.h, with buffers lent as lend.h says. Prints one line for each group, for changes of one byte
+ * how often the reference and the library gave each answer, and last 'N passed, M failed'.
  */
 #include "lend.h"
 
@@ -60,6 +60,12 @@ static struct call bring_back(struct document source, struct document target, st
     return (struct call){.entry = BRING_BACK, .documents = {source, target, embedding, tree}, .room = room};
 }
 
+static struct call read_along(struct document source, struct document target, struct document embedding,
+                              struct document tree, size_t room)
+{
+    return (struct call){.entry = READ_ALONG, .documents = {source, target, embedding, tree}, .room = room};
+}
+
 static struct call extend(struct document table, struct document operations, size_t room)
 {
     return (struct call){.entry = EXTEND_TABLE, .documents = {table, operations}, .room = room};
@@ -70,11 +76,15 @@ static struct call decimal(uint64_t number, size_t room)
     return (struct call){.entry = DECIMAL, .number = number, .room = room};
 }
 
-/* The patch carried, and a tree brought back by it. */
+/* The patch carried, and a tree brought back and read by it. */
 static struct call carry_patch(size_t room) { return carry(SOURCE, TARGET, EMBEDDING, TREE, room); }
 static struct call bring_by_patch(struct document tree, size_t room)
 {
     return bring_back(SOURCE, TARGET, EMBEDDING, tree, room);
+}
+static struct call read_by_patch(struct document tree, size_t room)
+{
+    return read_along(SOURCE, TARGET, EMBEDDING, tree, room);
 }
 
 /* Comparing and counting. */
@@ -199,7 +209,7 @@ static struct expected explained_clash(uint64_t mark, struct clash clash)
     return (struct expected){.answer = refused(LAFINDRY_PATH_CLASH, LAFINDRY_EMBEDDING, mark), .clash = clash};
 }
 
-/* A document is written, with so many filler elements, or a report, with none. */
+/* A document is written, with so many filler elements, or elements on no followed path, or a report, with none. */
 #define EXPECT_WRITTEN(document, filler, call) \
     expect_at("entries.c line", __LINE__, written_document((document), (filler)), (call))
 
@@ -341,6 +351,61 @@ static void optional_cases(void)
     end_group();
 }
 
+/* A list of texts in a list of lists of lists of texts; paper 02, N4. */
+static const struct document TEXTS = BYTES(0x14, 0x01, 0x10, 0x1F);
+static const struct document NESTED_TEXTS = BYTES(0x14, 0x01, 0x14, 0x02, 0x14, 0x03, 0x10, 0x1F);
+static const struct document INTO_NESTED =
+    BYTES(0x20, 0x00, 0x21, 0x22, 0x01, 0x22, 0x01, 0x20, 0x02, 0x21, 0x22, 0x01, 0x2F);
+
+static struct call read_nested(struct document tree, size_t room)
+{
+    return read_along(TEXTS, NESTED_TEXTS, INTO_NESTED, tree, room);
+}
+
+static void reading_cases(void)
+{
+    begin_group("worked cases of reading along");
+    EXPECT_WRITTEN(TREE, 1, read_by_patch(IMAGE, LAFINDRY_MOST_BYTES));
+    EXPECT(refused(LAFINDRY_OUTPUT_TOO_SHORT, LAFINDRY_OUTPUT, 0), read_by_patch(IMAGE, 14));
+    /* The image with a character in its filler element, and a tree that is judged by the target table. */
+    const struct document altered = DOCUMENT(0x30, 0x00, 0x30, 0x01, 0x30, 0x03, 0x31, 0x41, 0x32, 0x30, 0x03, 0x31,
+                                             0x42, 0x32, 0x32, 0x30, 0x02, 0x30, 0x05, 0x32, 0x32, 0x32, 0x3F);
+    EXPECT_WRITTEN(TREE, 1, read_by_patch(altered, 15));
+    EXPECT(refused(LAFINDRY_UNEXPECTED, LAFINDRY_TREE, 4), read_by_patch(TREE, LAFINDRY_MOST_BYTES));
+    /* Filler that is longer than it has to be: two elements more. */
+    EXPECT_WRITTEN(EMPTY_TREE, 2,
+                   read_along(EMPTY_ROOT, CHOICE_OF_ITSELF, MAPPED_ROOT,
+                              DOCUMENT(0x30, 0x00, 0x30, 0x00, 0x30, 0x01, 0x32, 0x32, 0x32, 0x3F), 4));
+
+    /* No item; one; one whose lists have a second item each. */
+    EXPECT_WRITTEN(EMPTY_TREE, 0, read_nested(EMPTY_TREE, 4));
+    EXPECT_WRITTEN(DOCUMENT(0x30, 0x00, 0x30, 0x01, 0x31, 0x41, 0x32, 0x32, 0x3F), 0,
+                   read_nested(DOCUMENT(0x30, 0x00, 0x30, 0x01, 0x30, 0x02, 0x30, 0x03, 0x31, 0x41, 0x32, 0x32, 0x32,
+                                        0x32, 0x3F),
+                               9));
+    EXPECT_WRITTEN(DOCUMENT(0x30, 0x00, 0x30, 0x01, 0x32, 0x32, 0x3F), 2,
+                   read_nested(DOCUMENT(0x30, 0x00, 0x30, 0x01, 0x30, 0x02, 0x30, 0x03, 0x32, 0x30, 0x03, 0x31, 0x41,
+                                        0x32, 0x32, 0x30, 0x02, 0x32, 0x32, 0x32, 0x3F),
+                               7));
+    /* The text lacks its item; the list lacks the rest of its path, also where only its second item does and the first
+       one's text lacks its item: the list comes before the text. 17 comes before 14. */
+    EXPECT(refused(LAFINDRY_NO_PATH, LAFINDRY_TREE, 4),
+           read_nested(DOCUMENT(0x30, 0x00, 0x30, 0x01, 0x30, 0x02, 0x32, 0x32, 0x32, 0x3F), 9));
+    EXPECT(refused(LAFINDRY_NO_PATH, LAFINDRY_TREE, 0),
+           read_nested(DOCUMENT(0x30, 0x00, 0x30, 0x01, 0x32, 0x32, 0x3F), 9));
+    EXPECT(refused(LAFINDRY_NO_PATH, LAFINDRY_TREE, 0),
+           read_nested(DOCUMENT(0x30, 0x00, 0x30, 0x01, 0x30, 0x02, 0x32, 0x32, 0x30, 0x01, 0x32, 0x32, 0x3F), 0));
+
+    /* Nothing where the second optional choice, on which the paths agree, is empty; the first one may hold what it
+       likes. A choice that needs a member can't be read there. */
+    const struct document first = DOCUMENT(0x30, 0x00, 0x30, 0x03, 0x30, 0x01, 0x31, 0x41, 0x32, 0x32, 0x30, 0x03, 0x32,
+                                           0x32, 0x3F);
+    EXPECT_WRITTEN(EMPTY_TREE, 2, read_along(OPTIONAL_ROOT, TWO_OPTIONAL, INTO_SECOND, first, 4));
+    EXPECT(refused(LAFINDRY_NO_PATH, LAFINDRY_TREE, 0),
+           read_along(DOCUMENT(0x13, 0x15, 0x01, 0x15, 0x02, 0x10, 0x11, 0x1F), TWO_OPTIONAL, INTO_SECOND, first, 4));
+    end_group();
+}
+
 /* All lengths of output around what is needed, and longer ones. */
 static void output_lengths(void)
 {
@@ -351,6 +416,8 @@ static void output_lengths(void)
                   carry_patch(room));
         expect_at("brought back into", room, room < TREE.length ? too_short : written_document(TREE, 0),
                   bring_by_patch(IMAGE, room));
+        expect_at("read into", room, room < TREE.length ? too_short : written_document(TREE, 1),
+                  read_by_patch(IMAGE, room));
     }
     end_group();
 }
@@ -383,7 +450,7 @@ enum { KEPT_LAST = 16 };
 /* Answers counted by refusal (0: accepted) and document, the sums of their other fields, and of the bytes written, each
    byte multiplied by its place from 1; clashes counted by reason. */
 struct tally {
-    uint64_t count[LAFINDRY_NO_IMAGE + 1][LAFINDRY_OPERATIONS + 1], marks, values, fillers, bytes;
+    uint64_t count[LAFINDRY_NO_PATH + 1][LAFINDRY_OPERATIONS + 1], marks, values, fillers, bytes;
     uint64_t reasons[LAFINDRY_PARTS_AT_SEQUENCE + 1];
 };
 
@@ -421,6 +488,10 @@ static const struct place {
     {"bring back, target table", BRING_BACK, PATCH_IMAGE, 1, LAFINDRY_TARGET_TABLE, 15, 0, &TREE},
     {"bring back, embedding", BRING_BACK, PATCH_IMAGE, 2, LAFINDRY_EMBEDDING, 15, 0, &TREE},
     {"bring back, tree", BRING_BACK, PATCH_IMAGE, 3, LAFINDRY_TREE, 15, 0, &TREE},
+    {"read along, source table", READ_ALONG, PATCH_IMAGE, 0, LAFINDRY_SOURCE_TABLE, 15, 1, &TREE},
+    {"read along, target table", READ_ALONG, PATCH_IMAGE, 1, LAFINDRY_TARGET_TABLE, 15, 1, &TREE},
+    {"read along, embedding", READ_ALONG, PATCH_IMAGE, 2, LAFINDRY_EMBEDDING, 15, 1, &TREE},
+    {"read along, tree", READ_ALONG, PATCH_IMAGE, 3, LAFINDRY_TREE, 15, 1, &TREE},
     {"extend, table", EXTEND_TABLE, OPERATED, 0, LAFINDRY_SOURCE_TABLE, 32, 0, &REPORT},
     {"extend, operations", EXTEND_TABLE, OPERATED, 1, LAFINDRY_OPERATIONS, 32, 0, &REPORT},
     {"explain, source table", EXPLAIN_CLASH, SETTING, 0, LAFINDRY_SOURCE_TABLE, 5, 0, NULL},
@@ -538,6 +609,11 @@ static void null_pointers(void)
          lafindry_bring_back(NULL, 0, NULL, 0, NULL, 0, NULL, 0, NULL, 0)},
         {refused(LAFINDRY_OUTPUT_TOO_SHORT, LAFINDRY_OUTPUT, 0),
          lafindry_bring_back(s, sn, t, tn, e, en, IMAGE.bytes, IMAGE.length, NULL, 0)},
+        {refused(LAFINDRY_BAD_FORM, LAFINDRY_SOURCE_TABLE, 0),
+         lafindry_read_along(NULL, 0, NULL, 0, NULL, 0, NULL, 0, NULL, 0)},
+        {refused(LAFINDRY_BAD_FORM, LAFINDRY_TREE, 0), lafindry_read_along(s, sn, t, tn, e, en, NULL, 0, NULL, 0)},
+        {refused(LAFINDRY_OUTPUT_TOO_SHORT, LAFINDRY_OUTPUT, 0),
+         lafindry_read_along(s, sn, t, tn, e, en, IMAGE.bytes, IMAGE.length, NULL, 0)},
         {refused(LAFINDRY_BAD_FORM, LAFINDRY_SOURCE_TABLE, 0), lafindry_extend_table(NULL, 0, NULL, 0, NULL, 0)},
         {refused(LAFINDRY_OUTPUT_TOO_SHORT, LAFINDRY_OUTPUT, 0), lafindry_extend_table(s, sn, NULL, 0, NULL, 0)},
         {accepted(0), accepted(lafindry_decimal(0, NULL, 0))},
@@ -582,8 +658,9 @@ static int is_well_formed(enum entry entry, const struct result *result)
     if (!is_explained_right(entry, result))
         return 0;
     if (answer.refusal == LAFINDRY_ACCEPTED)
-        return answer.document == 0 && answer.mark == 0 && answer.value > 0 && (answer.filler == 0 || entry == CARRY);
-    return answer.refusal <= LAFINDRY_NO_IMAGE && is_document(entry, answer.document) && answer.value == 0 &&
+        return answer.document == 0 && answer.mark == 0 && answer.value > 0 &&
+               (answer.filler == 0 || entry == CARRY || entry == READ_ALONG);
+    return answer.refusal <= LAFINDRY_NO_PATH && is_document(entry, answer.document) && answer.value == 0 &&
            answer.filler == 0;
 }
 
@@ -631,7 +708,7 @@ static struct tally tally_changes(const struct place *place)
 static void compare_tallies(const struct place *place, const struct tally *reference, const struct tally *library)
 {
     printf("\n  %s:", place->name);
-    for (int refusal = 0; refusal <= LAFINDRY_NO_IMAGE; refusal++) {
+    for (int refusal = 0; refusal <= LAFINDRY_NO_PATH; refusal++) {
         for (int document = 0; document <= LAFINDRY_OPERATIONS; document++) {
             const unsigned long long expected = reference->count[refusal][document];
             const unsigned long long counted = library->count[refusal][document];
@@ -829,6 +906,8 @@ static void all_characters(void)
         expect_at("text brought back, byte", byte, allowed ? written_document(tree, 0) : in_image,
                   bring_back(TEXT, TEXT_IN_SEQUENCE, embedding, image, tree.length));
         changed_images += !allowed;
+        expect_at("text read, byte", byte, allowed ? written_document(tree, 0) : in_image,
+                  read_along(TEXT, TEXT_IN_SEQUENCE, embedding, image, tree.length));
 
         const struct expected unexpected = only(refused(LAFINDRY_UNEXPECTED, LAFINDRY_TREE, 2));
         const struct expected in_list = allowed ? unexpected : in_tree;
@@ -837,6 +916,8 @@ static void all_characters(void)
                   carry(LIST_OF_ITSELF, LIST_OF_ITSELF, embedding, tree, ROOM));
         expect_at("list brought back, byte", byte, in_list,
                   changed_image(bring_back(LIST_OF_ITSELF, LIST_OF_ITSELF, embedding, tree, ROOM)));
+        expect_at("list read, byte", byte, in_list,
+                  read_along(LIST_OF_ITSELF, LIST_OF_ITSELF, embedding, tree, ROOM));
     }
     end_group();
 }
@@ -881,6 +962,7 @@ static void limits_of_levels(void)
                    bring_back(LIST_OF_ITSELF, sequences, embedding, many_lists(64, NO_BYTES), 193));
     EXPECT_WRITTEN(many_lists(63, filler), 126, carry(LIST_OF_ITSELF, filled, embedding, many_levels(63), ROOM));
     EXPECT_WRITTEN(many_levels(63), 0, bring_back(LIST_OF_ITSELF, filled, embedding, many_lists(63, filler), ROOM));
+    EXPECT_WRITTEN(many_levels(63), 126, read_along(LIST_OF_ITSELF, filled, embedding, many_lists(63, filler), ROOM));
     /* 129 levels. */
     EXPECT(refused(LAFINDRY_IMAGE_TOO_DEEP, LAFINDRY_OUTPUT, 0),
            carry(LIST_OF_ITSELF, filled, embedding, many_levels(64), ROOM));
@@ -888,6 +970,8 @@ static void limits_of_levels(void)
            carry(LIST_OF_ITSELF, filled, embedding, many_levels(64), 0));
     EXPECT(refused(LAFINDRY_OVER_LIMIT, LAFINDRY_TREE, 259),
            bring_back(LIST_OF_ITSELF, filled, embedding, many_lists(64, filler), ROOM));
+    EXPECT(refused(LAFINDRY_OVER_LIMIT, LAFINDRY_TREE, 259),
+           read_along(LIST_OF_ITSELF, filled, embedding, many_lists(64, filler), ROOM));
     end_group();
 }
 
@@ -917,6 +1001,12 @@ static void limits_of_length(void)
            carry(TEXT, TEXT_IN_SEQUENCE, embedding, text_root(29997), 0));
     EXPECT(refused(LAFINDRY_TOO_LONG, LAFINDRY_TREE, 0),
            bring_back(TEXT, TEXT_IN_SEQUENCE, embedding, text_member(29997, NO_BYTES), ROOM));
+    EXPECT_WRITTEN(text_root(29995), 1,
+                   read_along(TEXT, beside_empty, embedding, text_member(29995, empty), 59994));
+    EXPECT(refused(LAFINDRY_OUTPUT_TOO_SHORT, LAFINDRY_OUTPUT, 0),
+           read_along(TEXT, beside_empty, embedding, text_member(29995, empty), 59993));
+    EXPECT(refused(LAFINDRY_TOO_LONG, LAFINDRY_TREE, 0),
+           read_along(TEXT, TEXT_IN_SEQUENCE, embedding, text_member(29997, NO_BYTES), ROOM));
     /* Far longer than could be written in any time. */
     EXPECT(refused(LAFINDRY_IMAGE_TOO_LONG, LAFINDRY_OUTPUT, 0),
            carry(EMPTY_ROOT, tower(), MAPPED_ROOT, EMPTY_TREE, ROOM));
@@ -1491,6 +1581,7 @@ int main(void)
     worked_judging_cases();
     worked_writing_cases();
     optional_cases();
+    reading_cases();
     output_lengths();
     beginnings();
     null_pointers();

@@ -1,5 +1,6 @@
 // The header in a C++ program: the patch's source table is judged through it, the clash of paper 01's choice whose
-// paths part at a sequence is explained, and a table is extended. Prints 'N passed, M failed'.
+// paths part at a sequence is explained, a text is read by the first of two items, and a table is extended. Prints
+// 'N passed, M failed'.
 #include "lafindry.h"
 
 #include <cstdio>
@@ -27,6 +28,19 @@ static bool explains()
            e.later == 2 && e.shared == 0;
 }
 
+static bool reads()
+{
+    const uint8_t source[] = {0x10, 0x1F}, target[] = {0x14, 0x01, 0x10, 0x1F};
+    const uint8_t embedding[] = {0x20, 0x00, 0x21, 0x22, 0x01, 0x2F};
+    const uint8_t tree[] = {0x30, 0x00, 0x30, 0x01, 0x31, 0x41, 0x32, 0x30, 0x01, 0x31, 0x42, 0x32, 0x32, 0x3F};
+    const uint8_t expected[] = {0x30, 0x00, 0x31, 0x41, 0x32, 0x3F};
+    uint8_t output[sizeof expected];
+    const lafindry_answer answer = lafindry_read_along(source, sizeof source, target, sizeof target, embedding,
+                                                       sizeof embedding, tree, sizeof tree, output, sizeof output);
+    return answer.refusal == LAFINDRY_ACCEPTED && answer.value == sizeof expected && answer.filler == 1 &&
+           std::memcmp(output, expected, sizeof expected) == 0;
+}
+
 // A sequence of type 0 is appended to one empty type; a member of that sequence is refused.
 static bool extends()
 {
@@ -42,7 +56,7 @@ static bool extends()
 
 int main()
 {
-    const int passed = judges() + explains() + extends();
-    std::printf("%d passed, %d failed\n", passed, 3 - passed);
-    return passed == 3 ? 0 : 1;
+    const int passed = judges() + explains() + reads() + extends();
+    std::printf("%d passed, %d failed\n", passed, 4 - passed);
+    return passed == 4 ? 0 : 1;
 }

@@ -1,8 +1,8 @@
 /*
- * The entries, lafindry_explain_clash, lafindry_extend_table and lafindry_decimal, called in a thread whose stack has a
- * megabyte, on the deepest and longest documents and with tables of 64 types; and those that write with an output of
- * more than 4 GiB, mapped without reserve. Prints the most stack that each took, one line for each case that failed,
- * and last 'N passed, M failed'.
+ * The entries, lafindry_explain_clash, lafindry_read_along, lafindry_extend_table and lafindry_decimal, called in a
+ * thread whose stack has a megabyte, on the deepest and longest documents and with tables of 64 types; and those that
+ * write with an output of more than 4 GiB, mapped without reserve. Prints the most stack that each took, one line for
+ * each case that failed, and last 'N passed, M failed'.
  */
 #define _DEFAULT_SOURCE
 #include "lafindry.h"
@@ -203,8 +203,8 @@ static struct report growing_report(void)
 static struct document source, target, map, operations;
 static struct report report;
 
-/* The five entries, lafindry_explain_clash, lafindry_extend_table and lafindry_decimal; those that write are the
-   last. */
+/* The five entries, lafindry_explain_clash, lafindry_read_along, lafindry_extend_table and lafindry_decimal; those that
+   write are the last. */
 enum entry {
     JUDGE_TABLE,
     JUDGE_EMBEDDING,
@@ -212,12 +212,14 @@ enum entry {
     JUDGE_TREE,
     CARRY,
     BRING_BACK,
+    READ_ALONG,
     EXTEND_TABLE,
     DECIMAL,
     ENTRIES
 };
-static const char *const NAMES[ENTRIES] = {"judge a table", "judge an embedding", "explain a clash", "judge a tree",
-                                           "carry",         "bring back",         "extend a table",  "write a number"};
+static const char *const NAMES[ENTRIES] = {"judge a table", "judge an embedding", "explain a clash",
+                                           "judge a tree",  "carry",              "bring back",
+                                           "read along",    "extend a table",     "write a number"};
 
 /* What lafindry_decimal answers is the `value` of an answer that accepts. An explanation has an answer of its own. */
 struct call {
@@ -257,6 +259,10 @@ static void *make_call(void *argument)
     case CARRY:
         c->answer = lafindry_carry(source.bytes, source.length, target.bytes, target.length, map.bytes, map.length,
                                    t->bytes, t->length, c->output, c->room);
+        break;
+    case READ_ALONG:
+        c->answer = lafindry_read_along(source.bytes, source.length, target.bytes, target.length, map.bytes, map.length,
+                                        t->bytes, t->length, c->output, c->room);
         break;
     case EXTEND_TABLE:
         c->answer = lafindry_extend_table(source.bytes, source.length, operations.bytes, operations.length, c->output,
@@ -372,6 +378,40 @@ static void last_clash(void)
            "the last paths are equal");
 }
 
+/* Lists in lists of the target, so many levels deep; a source list stands at every other of them. Where the last one
+   stands for an item, its own item is missing. */
+static struct document nested(int levels)
+{
+    struct document d = {{0}, 0};
+    for (int level = 0; level < levels; level++)
+        put_two(&d, 0x30, level % 2);
+    for (int level = 0; level < levels; level++)
+        put(&d, 0x32);
+    put(&d, 0x3F);
+    return d;
+}
+
+/* A list of itself in lists of lists of themselves: read where the last list is one that takes items, and refused where
+   it stands for one item. */
+static void deepest_reading(void)
+{
+    static struct document trees[2];
+    source = (struct document){{0x14, 0x00, 0x1F}, 3};
+    target = (struct document){{0x14, 0x01, 0x14, 0x00, 0x1F}, 5};
+    map = (struct document){{0x20, 0x00, 0x21, 0x22, 0x01, 0x22, 0x01, 0x2F}, 8};
+    trees[0] = nested(LEVELS - 1);
+    trees[1] = nested(LEVELS);
+    struct call read = {.entry = READ_ALONG, .tree = &trees[0], .output = enough, .room = sizeof enough};
+    struct call refused = {.entry = READ_ALONG, .tree = &trees[1], .output = enough, .room = sizeof enough};
+    measure(&read);
+    expect(read.answer.refusal == LAFINDRY_ACCEPTED && read.answer.filler == 0 && read.answer.value == 3 * 64 + 1,
+           "the deepest lists are read");
+    measure(&refused);
+    expect(refused.answer.refusal == LAFINDRY_NO_PATH && refused.answer.document == LAFINDRY_TREE &&
+               refused.answer.mark == 2 * (LEVELS - 2),
+           "the deepest list lacks its item");
+}
+
 /* A table of one type grown to 64, its numbers moved again and again. */
 static void grown_table(void)
 {
@@ -422,6 +462,7 @@ int main(void)
     small_stacks();
     large_outputs();
     last_clash();
+    deepest_reading();
     grown_table();
     for (int entry = 0; entry < ENTRIES; entry++)
         printf("stack, %s: %zu bytes\n", NAMES[entry], most[entry]);

@@ -42,7 +42,7 @@ int documents_of(enum entry entry)
 
 int writes(enum entry entry)
 {
-    return entry == CARRY || entry == BRING_BACK || entry == EXTEND_TABLE || entry == DECIMAL;
+    return entry == CARRY || entry == BRING_BACK || entry == READ_ALONG || entry == EXTEND_TABLE || entry == DECIMAL;
 }
 
 int same_answer(struct lafindry_answer a, struct lafindry_answer b)
@@ -154,6 +154,9 @@ static struct lafindry_answer call_entry(const struct call *call, const struct l
     case CARRY:
         return lafindry_carry(p[0], d[0].length, p[1], d[1].length, p[2], d[2].length, p[3], d[3].length,
                               lent->output, call->room);
+    case READ_ALONG:
+        return lafindry_read_along(p[0], d[0].length, p[1], d[1].length, p[2], d[2].length, p[3], d[3].length,
+                                   lent->output, call->room);
     case EXTEND_TABLE:
         return lafindry_extend_table(p[0], d[0].length, p[1], d[1].length, lent->output, call->room);
     case DECIMAL:

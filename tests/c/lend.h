@@ -1,8 +1,8 @@
 /*
- * Documents and outputs lent to the five entries and to lafindry_extend_table, documents to lafindry_explain_clash and
- * outputs to lafindry_decimal, so that every byte read or written outside them is noticed. A call is made twice: with
- * each buffer ending where an inaccessible page begins, so that going beyond it faults, and with each starting where
- * one ends. The other bytes of the buffers hold junk, which has to stay.
+ * Documents and outputs lent to the five entries, to lafindry_read_along and to lafindry_extend_table, documents to
+ * lafindry_explain_clash and outputs to lafindry_decimal, so that every byte read or written outside them is noticed. A
+ * call is made twice: with each buffer ending where an inaccessible page begins, so that going beyond it faults, and
+ * with each starting where one ends. The other bytes of the buffers hold junk, which has to stay.
  */
 #ifndef LEND_H
 #define LEND_H
@@ -26,8 +26,18 @@ struct document {
 
 static const struct document NO_BYTES = {NULL, 0};
 
-/* The five entries, lafindry_explain_clash, lafindry_extend_table and lafindry_decimal. */
-enum entry { JUDGE_TABLE, JUDGE_EMBEDDING, EXPLAIN_CLASH, JUDGE_TREE, CARRY, BRING_BACK, EXTEND_TABLE, DECIMAL };
+/* The five entries, lafindry_explain_clash, lafindry_read_along, lafindry_extend_table and lafindry_decimal. */
+enum entry {
+    JUDGE_TABLE,
+    JUDGE_EMBEDDING,
+    EXPLAIN_CLASH,
+    JUDGE_TREE,
+    CARRY,
+    BRING_BACK,
+    READ_ALONG,
+    EXTEND_TABLE,
+    DECIMAL
+};
 
 /* An entry with its documents in the order of their numbers, and the length of the output for those that write. DECIMAL
    has no document but a number. */

@@ -77,6 +77,18 @@ extern "C" {
         output: *mut u8,
         output_length: usize,
     ) -> CAnswer;
+    fn lafindry_read_along(
+        source_table: *const u8,
+        source_table_length: usize,
+        target_table: *const u8,
+        target_table_length: usize,
+        embedding: *const u8,
+        embedding_length: usize,
+        tree: *const u8,
+        tree_length: usize,
+        output: *mut u8,
+        output_length: usize,
+    ) -> CAnswer;
 }
 
 /// Calls an entry on its documents, in the order of paper 01. Entries that
@@ -94,6 +106,7 @@ pub fn call(entry: Entry, documents: &[Vec<u8>], output: &mut [u8]) -> CAnswer {
             Entry::JudgeTree => lafindry_judge_tree(d(0), n(0), d(1), n(1)),
             Entry::Carry => lafindry_carry(d(0), n(0), d(1), n(1), d(2), n(2), d(3), n(3), o, room),
             Entry::BringBack => lafindry_bring_back(d(0), n(0), d(1), n(1), d(2), n(2), d(3), n(3), o, room),
+            Entry::ReadAlong => lafindry_read_along(d(0), n(0), d(1), n(1), d(2), n(2), d(3), n(3), o, room),
         }
     }
 }
@@ -149,11 +162,11 @@ fn junk(documents: &[Vec<u8>], output_length: usize) -> Vec<u8> {
 /// The answer that a C answer stands for, with the bytes written. The error
 /// says that a field which doesn't apply isn't 0.
 pub fn read(case: &Case, given: CAnswer, output: &[u8]) -> Result<Answer, String> {
-    read_answer(given, case.entry.writes().then_some(output), case.entry == Entry::Carry)
+    read_answer(given, case.entry.writes().then_some(output), case.entry.counts_elements())
 }
 
-/// The same for a function that is lent an output or not, and answers a number of
-/// filler elements or not.
+/// The same for a function that is lent an output or not, and counts elements in
+/// the field for filler or not.
 fn read_answer(given: CAnswer, output: Option<&[u8]>, has_filler: bool) -> Result<Answer, String> {
     let CAnswer { refusal, document, mark, value, filler } = given;
     let answer = if refusal == 0 {

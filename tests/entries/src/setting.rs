@@ -22,14 +22,15 @@ impl Setting {
         Setting { documents: [source, target, embedding] }
     }
 
-    /// The case of carrying a tree, or bringing it back, into so many bytes.
+    /// The case of carrying a tree, bringing it back or reading it along, into so
+    /// many bytes.
     pub fn case(&self, entry: Entry, tree: &[u8], output_length: usize) -> Case {
         let documents = [&self.documents[..], &[tree.to_vec()]].concat();
         Case { entry, documents, output_length }
     }
 
-    /// Carries a tree, or brings it back, into so many bytes, and compares with
-    /// the reference. Gives the document written.
+    /// Carries a tree, brings it back or reads it along, into so many bytes, and
+    /// compares with the reference. Gives the document written.
     pub fn written(
         &self,
         tally: &mut Tally,

@@ -10,7 +10,7 @@ use std::collections::{BTreeMap, BTreeSet};
 use std::fmt;
 
 /// The greatest number of a refusal.
-const LAST_REFUSAL: u64 = 15;
+const LAST_REFUSAL: u64 = 17;
 
 /// The documents that are refused, in the order in which they are judged.
 const DOCUMENTS: [u64; 5] = [SOURCE, TARGET, EMBEDDING, TREE, OUTPUT];
@@ -40,7 +40,7 @@ pub enum Kind {
     Table,
     Embedding,
     Tree,
-    /// A tree to bring back.
+    /// A tree to bring back or to read along.
     Image,
 }
 
@@ -48,7 +48,7 @@ impl Kind {
     /// The kind of the document in a place of an entry.
     fn at(entry: Entry, at: usize) -> Kind {
         match (entry, at) {
-            (Entry::BringBack, 3) => Kind::Image,
+            (Entry::BringBack | Entry::ReadAlong, 3) => Kind::Image,
             (Entry::JudgeTree, 1) | (_, 3) => Kind::Tree,
             (_, 2) => Kind::Embedding,
             _ => Kind::Table,
@@ -258,6 +258,7 @@ fn can_answer(entry: Entry, (number, document): Refused) -> bool {
         }
         (TREE, 1..=4 | 11) => !matches!(entry, Entry::JudgeTable | Entry::JudgeEmbedding),
         (TREE, 15) => entry == Entry::BringBack,
+        (TREE, 17) => entry == Entry::ReadAlong,
         (OUTPUT, 12 | 13) => entry == Entry::Carry,
         (OUTPUT, 14) => entry.writes(),
         _ => false,

@@ -12,7 +12,7 @@ use lafindry_reference::clauses::characters::{has_accent, shown, CharacterClause
 use lafindry_reference::generate::cases::Made;
 use lafindry_reference::generate::{Rng, World};
 use lafindry_reference::vectors::{Answer, Case, Entry};
-use lafindry_reference::{Refusal, MOST_LEVELS, TREE};
+use lafindry_reference::{Refusal, MOST_LEVELS, OUTPUT, TREE};
 use seed::seed;
 use std::ops::RangeInclusive;
 
@@ -129,7 +129,7 @@ impl Run {
     fn ensure(&mut self, case: Case, expected: Answer) -> Result<(), Failure> {
         let made = match expected {
             Answer::Ok { .. } => Made::Whole,
-            Answer::Refused(Refusal { number: 15, .. }) => Made::Altered,
+            Answer::Refused(Refusal { number: 14 | 15, .. }) => Made::Altered,
             Answer::Refused(_) => Made::Damaged,
         };
         self.0.count_change(case.entry, case.documents.len() - 1, made);
@@ -137,28 +137,31 @@ impl Run {
     }
 
     /// Fails unless a tree is judged, carried and, as it is in its image,
-    /// brought back with these answers. The outputs are just long enough.
-    fn ensure_all(&mut self, tree: &[u8], answers: [Answer; 3]) -> Result<(), Failure> {
-        let [judged, carried, brought_back] = answers;
+    /// brought back and read along with these answers. The outputs are just long
+    /// enough.
+    fn ensure_all(&mut self, tree: &[u8], answers: [Answer; 4]) -> Result<(), Failure> {
+        let [judged, carried, brought_back, read] = answers;
         let documents = vec![SOURCE.to_vec(), tree.to_vec()];
         self.ensure(Case { entry: Entry::JudgeTree, documents, output_length: 0 }, judged)?;
         let image = image(tree, &[]);
         self.ensure(setting().case(Entry::Carry, tree, image.len()), carried)?;
-        self.ensure(setting().case(Entry::BringBack, &image, tree.len()), brought_back)
+        self.ensure(setting().case(Entry::BringBack, &image, tree.len()), brought_back)?;
+        self.ensure(setting().case(Entry::ReadAlong, &image, tree.len()), read)
     }
 
-    /// Fails unless a tree conforms, is carried to its image and comes back.
+    /// Fails unless a tree conforms, is carried to its image, comes back and is
+    /// read from it.
     fn ensure_accepted(&mut self, tree: &[u8]) -> Result<(), Failure> {
-        let written = |output: Vec<u8>, filler| Answer::Ok { value: output.len() as u64, filler, output };
         let judged = Answer::Ok { value: ELEMENTS, filler: 0, output: Vec::new() };
-        self.ensure_all(tree, [judged, written(image(tree, &[]), 1), written(tree.to_vec(), 0)])
+        self.ensure_all(tree, [judged, written(&image(tree, &[]), 1), written(tree, 0), written(tree, 1)])
     }
 
     /// Fails unless a tree is refused by a number and a mark behind the opening
     /// of the root; in its image the filler stands before the mark.
     fn ensure_refused(&mut self, tree: &[u8], (number, mark): (u64, usize)) -> Result<(), Failure> {
         let refused = |mark| Answer::Refused(Refusal::new(number, TREE, mark));
-        self.ensure_all(tree, [refused(mark), refused(mark), refused(mark + FILLER_LENGTH)])
+        let in_image = refused(mark + FILLER_LENGTH);
+        self.ensure_all(tree, [refused(mark), refused(mark), in_image.clone(), in_image])
     }
 
     /// Prints the counts and gives them. Fails unless there were so many cases,
@@ -171,6 +174,12 @@ impl Run {
         ensure(right, format!("{title}: not {changed:?} altered or damaged trees and images"))?;
         Ok(histogram)
     }
+}
+
+/// The answer where a document is written, with so many elements of filler, or on
+/// no followed path.
+fn written(document: &[u8], filler: u64) -> Answer {
+    Answer::Ok { value: document.len() as u64, filler, output: document.to_vec() }
 }
 
 /// The setting of the three documents.
@@ -195,7 +204,7 @@ fn bytes_in_a_text() -> Result<(), Failure> {
     }
     // The characters: 2 and 95 of paper 01, 96 of paper 02. The other bytes are refused.
     let refused = 0x100 - 193;
-    let histogram = run.finish("bytes in a text", 4 * 3 * 0x100, [4 * 2 * refused, 4 * refused])?;
+    let histogram = run.finish("bytes in a text", 4 * 4 * 0x100, [4 * 2 * refused; 2])?;
     ensure(Entry::WITH_TREE.iter().all(|&entry| histogram.of(entry, 0) == 4 * 193), "not 193 characters")
 }
 
@@ -208,7 +217,7 @@ fn bytes_in_other_elements() -> Result<(), Failure> {
         let number = if is_allowed(byte) { 11 } else { 4 };
         run.ensure_refused(&put.tree(), (number, put.offset(place)))?;
     }
-    run.finish("bytes in other elements", 5 * 3 * 0x100, [5 * 2 * 0x100, 5 * 0x100]).map(drop)
+    run.finish("bytes in other elements", 5 * 4 * 0x100, [5 * 2 * 0x100; 2]).map(drop)
 }
 
 /// Something wrong: the place where it is put, its bytes, the number of its
@@ -244,7 +253,7 @@ fn bytes_beside_another_fault() -> Result<(), Failure> {
             run.ensure_refused(&put.tree(), if is_allowed(byte) { fault } else { fault.min(forbidden) })?;
         }
     }
-    run.finish("bytes beside another fault", 6 * 3 * 0x100, [6 * 2 * 0x100, 6 * 0x100]).map(drop)
+    run.finish("bytes beside another fault", 6 * 4 * 0x100, [6 * 2 * 0x100; 2]).map(drop)
 }
 
 /// No image has a character in its filler. The output is long enough for the
@@ -261,7 +270,24 @@ fn bytes_in_filler() -> Result<(), Failure> {
     run.finish("bytes in filler", 2 * 0x100, [0, 2 * 0x100]).map(drop)
 }
 
-/// How often each clause has to occur. With seed 1 the rarest occurs 15 times.
+/// Reading leaves a character in the filler out, if it is allowed.
+#[test]
+fn bytes_in_filler_are_left_out() -> Result<(), Failure> {
+    let mut run = Run::default();
+    let tree = Put::default().and(IN_TEXT, characters(&[0xE9])).tree();
+    for (byte, room) in (0..=0xFF).flat_map(|byte| [(byte, tree.len()), (byte, 0)]) {
+        let case = setting().case(Entry::ReadAlong, &image(&tree, &[byte]), room);
+        let expected = match (is_allowed(byte), room) {
+            (false, _) => Answer::Refused(Refusal::new(4, TREE, OPENING + FILLER[0].len())),
+            (true, 0) => Answer::Refused(Refusal::new(14, OUTPUT, 0)),
+            (true, _) => written(&tree, 1),
+        };
+        run.ensure(case, expected)?;
+    }
+    run.finish("bytes in filler, left out", 2 * 0x100, [0, 2 * 0x100 - 193]).map(drop)
+}
+
+/// How often each clause has to occur. With seed 1 the rarest occurs 25 times.
 const LEAST: usize = 5;
 
 /// Accents. A case is counted only where one stands in the tree.

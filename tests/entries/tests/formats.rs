@@ -99,8 +99,8 @@ fn examples_of_the_page_agree() -> Result<(), Failure> {
     let blocks = text.lines().filter(|line| line.trim_start().starts_with("```case")).count();
     let total = histogram.total() + explained.values().sum::<usize>() + documents;
     ensure(total == blocks, format!("{total} cases in {blocks} code blocks"))?;
-    ensure(blocks >= 143 && drawings >= 18 && spans >= 9, "fewer examples than the page had")?;
-    for number in 0..=15 {
+    ensure(blocks >= 173 && drawings >= 19 && spans >= 12, "fewer examples than the page had")?;
+    for number in (0..=15).chain([17]) {
         ensure(histogram.of_any(number) > 0, format!("no example of refusal {number} (0: accepted)"))?;
     }
     let missing = Reason::ALL.into_iter().find(|&reason| !explained.contains_key(&Explained::Clash(reason)));
@@ -112,7 +112,7 @@ fn examples_of_the_page_agree() -> Result<(), Failure> {
 }
 
 /// The files of examples, and the documents of the page that they hold.
-const FILES: [(&str, &str); 10] = [
+const FILES: [(&str, &str); 15] = [
     ("patch/s1", "patch.source"),
     ("patch/s2", "patch.target"),
     ("patch/em", "patch.embedding"),
@@ -123,6 +123,11 @@ const FILES: [(&str, &str); 10] = [
     ("module/em", "module.embedding"),
     ("module/tr", "module.tree"),
     ("module/present", "module-present.tree"),
+    ("rack/s1", "rack.source"),
+    ("rack/s2", "rack.target"),
+    ("rack/em", "rack.embedding"),
+    ("rack/tr", "rack.tree"),
+    ("rack/edited", "rack-edited.tree"),
 ];
 
 #[test]
@@ -272,6 +277,48 @@ fn ensure_noticed(page: &str, wrong: &[(&str, &str)]) -> Result<(), Failure> {
         .iter()
         .find(|(right, other)| !page.contains(right) || check_page(&page.replacen(right, other, 1)).is_ok());
     ensure(unnoticed.is_none(), format!("{unnoticed:?} is not noticed"))
+}
+
+/// A page with documents read along the paths, one of them refused.
+const READING: &str = "\
+```case
+name: first
+entry: read along
+source: 10 1F
+target: 14 01 10 1F
+embedding: 20 00 21 22 01 2F
+tree: 30 00 30 01 31 41 32 30 01 32 32 3F
+answer: read 6 1
+output: 30 00 31 41 32 3F
+```
+
+```case
+like: first
+entry: read along
+tree: 30 00 32 3F
+room: 0
+answer: refused 17 4 0
+```
+";
+
+#[test]
+fn readings_on_a_page_are_read() -> Result<(), Failure> {
+    let seen = check_page(READING)?;
+    let histogram = seen.cases.finish("a page with readings")?;
+    ensure([0, 17].map(|number| histogram.of(Entry::ReadAlong, number)) == [1, 1], "not two cases")?;
+    let tried = try_changes(READING)?;
+    ensure(tried == 3, format!("{tried} changes tried"))?;
+    let wrong = [
+        ("read 6 1", "read 6 0"),
+        ("read 6 1", "read 6"),
+        ("read 6 1", "brought 6"),
+        ("read 6 1", "carried 6 1"),
+        ("entry: read along", "entry: bring back"),
+        ("entry: read along", "entry: read"),
+        ("room: 0", "room: 0\noutput: 30 00 32 3F"),
+        ("refused 17 4 0", "refused 15 4 0"),
+    ];
+    ensure_noticed(READING, &wrong)
 }
 
 /// A page with operations on a table, accepted and refused.

@@ -65,7 +65,8 @@ impl Run {
         Ok(())
     }
 
-    /// Carries a tree. Fails unless its image, if it is not refused, comes back.
+    /// Carries a tree. Fails unless its image, if it is not refused, comes back,
+    /// and is read along with its filler counted.
     fn round_trip(&mut self, setting: &Setting, tree: &[u8]) -> Result<Result<Image, Refusal>, Failure> {
         let case = setting.case(Entry::Carry, tree, MOST_BYTES);
         let (value, filler, bytes) = match self.tally.compare(&case)? {
@@ -75,6 +76,9 @@ impl Run {
         let back = setting.written(&mut self.tally, Entry::BringBack, &bytes, MOST_BYTES)?;
         let right = value == bytes.len() as u64 && back.as_deref() == Ok(tree);
         ensure(right, format!("{case}: it does not come back"))?;
+        let read = self.tally.compare(&setting.case(Entry::ReadAlong, &bytes, tree.len()))?;
+        let source = Answer::Ok { value: tree.len() as u64, filler, output: tree.to_vec() };
+        ensure(read == source, format!("{case}: it is read otherwise, {read}"))?;
         Ok(Ok(Image { bytes, filler }))
     }
 

@@ -1,5 +1,5 @@
-//! The programs: `carry` and `bring` print the line of their answer, just as
-//! Rust formats it and by one write, and `cases` does so for each of its cases;
+//! The programs: `carry`, `bring` and `read` print the line of their answer, just
+//! as Rust formats it and by one write, and `cases` does so for each of its cases;
 //! `extend` prints a line for each operation on a table and for each type. They
 //! are looked for in the folder that LAFINDRY_PROGRAM_DIR names, else in
 //! `target/bin`; both are taken from the root of the repository unless absolute.
@@ -29,7 +29,7 @@ use writes::writes_of;
 /// How many cases of each answer are taken from a file of vectors.
 const MOST_OF_EACH: usize = 4;
 
-/// The cases of carrying and bringing back of a file of vectors with their
+/// The cases of a file of vectors whose entries have a program, with their
 /// answers, at most [`MOST_OF_EACH`] of an entry with the same refusal of the
 /// same document. No program explains clashes; rows of operations go to another
 /// one.
@@ -59,7 +59,7 @@ fn vector_files() -> Result<BTreeSet<PathBuf>, Failure> {
     files.map(|file| file.map(|file| file.path()).map_err(at(&folder))).collect()
 }
 
-/// The documents of each vector go to both programs. The answer of its own
+/// The documents of each vector go to all three programs. The answer of its own
 /// entry is the vector's, unless that output was too short; the programs lend
 /// one that never is.
 #[test]
@@ -80,9 +80,11 @@ fn lines_of_vectors() -> Result<(), Failure> {
     let histogram = run.finish("lines of vectors")?;
     let carried = (0..=13).map(|number| (Entry::Carry, number));
     let brought = (0..=11).chain([15]).map(|number| (Entry::BringBack, number));
-    let missing = carried.chain(brought).find(|&(entry, number)| histogram.of(entry, number) == 0);
+    let read = (0..=11).chain([17]).map(|number| (Entry::ReadAlong, number));
+    let missing =
+        carried.chain(brought).chain(read).find(|&(entry, number)| histogram.of(entry, number) == 0);
     ensure(missing.is_none(), format!("no line of {missing:?}"))?;
-    ensure(histogram.total() >= 800, "too few lines")
+    ensure(histogram.total() >= 1200, "too few lines")
 }
 
 /// Lengths and offsets where a number gets one digit more, and about the
@@ -125,6 +127,8 @@ fn lines_with_lengths() -> Result<(), Failure> {
     run.ensure_printed(&["carried 59999 0", "carried 60000 1", "refused 13 5 0", "brought 4", "brought 8"])?;
     run.ensure_printed(&["brought 10", "brought 98", "brought 100", "brought 998", "brought 1000"])?;
     run.ensure_printed(&["brought 9998", "brought 10000", "brought 59994", "brought 59996"])?;
+    run.ensure_printed(&["read 4 0", "read 4 1", "read 8 0", "read 10 0", "read 98 0", "read 100 0"])?;
+    run.ensure_printed(&["read 998 0", "read 1000 0", "read 10000 0", "read 59994 1", "read 59996 0"])?;
     run.finish("lines with lengths").map(drop)
 }
 
@@ -187,6 +191,7 @@ fn lines_with_filler() -> Result<(), Failure> {
         "carried 30004 10000",
     ])?;
     run.ensure_printed(&["carried 49972 16656", "refused 13 5 0", "brought 4"])?;
+    run.ensure_printed(&["read 4 1", "read 4 9", "read 4 10", "read 4 99", "read 4 100", "read 4 16656"])?;
     run.finish("lines with filler").map(drop)
 }
 
@@ -220,13 +225,15 @@ fn lines_without_some_files() -> Result<(), Failure> {
         return Err(Failure("the patch is not carried".to_string()));
     };
     let brought = case_of(Entry::BringBack, [&carried.documents[..3], &[image]].concat());
-    for (case, bits) in [carried, brought].iter().flat_map(|case| (0..16).map(move |bits| (case, bits))) {
+    let read = case_of(Entry::ReadAlong, brought.documents.clone());
+    for (case, bits) in [carried, brought, read].iter().flat_map(|case| (0..16).map(move |bits| (case, bits)))
+    {
         let mut case = case.clone();
         let left_out: Vec<usize> = (0..FILES.len()).filter(|at| bits >> at & 1 == 1).collect();
         left_out.iter().for_each(|&at| case.documents[at].clear());
         run.ensure_line_without(&left_out, &case, &answer_to(&case)?)?;
     }
-    run.ensure_printed(&["carried 21 1", "brought 15"])?;
+    run.ensure_printed(&["carried 21 1", "brought 15", "read 15 1"])?;
     run.ensure_printed(&["refused 2 1 0", "refused 2 2 0", "refused 2 3 0", "refused 2 4 0"])?;
     run.finish("lines without some files").map(drop)
 }

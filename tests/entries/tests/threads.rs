@@ -61,7 +61,8 @@ fn run_from<T>(lines: &[T], thread: usize, run: fn(&T) -> Result<(), Failure>) -
 
 #[test]
 fn threads_at_once_agree() -> Result<(), Failure> {
-    let cases = lines("base.txt", parse_line)?;
+    let mut cases = lines("base.txt", parse_line)?;
+    cases.extend(lines("n4.txt", parse_line)?);
     let questions = lines("n9.txt", explanations::parse_line)?;
     let rows = lines("n8.txt", operations::parse_line)?;
     let ended: Vec<Result<(), Failure>> = thread::scope(|scope| {
@@ -87,5 +88,5 @@ fn threads_at_once_agree() -> Result<(), Failure> {
     report(&format!(
         "{cases} cases, {questions} questions and {rows} rows in each of {count} threads at once"
     ));
-    ensure(count == THREADS && lines == [3851, 1013, 929], "too few threads or lines")
+    ensure(count == THREADS && lines == [3851 + 985, 1013, 929], "too few threads or lines")
 }

@@ -2,7 +2,7 @@
 //! [`lists`], which clause about lists on the paths of choices; in
 //! [`characters`], which clause about characters; in [`clashes`], what the
 //! explanation of a clash shows; in [`operations`], what an operation on a table
-//! shows.
+//! shows; in [`reading`], what reading along the paths shows.
 //!
 //! A refusal is given a clause where the other clauses of the same check hold
 //! at the place that it marks, so that the clause is seen apart.
@@ -14,6 +14,7 @@ mod images;
 pub mod lists;
 mod marked;
 pub mod operations;
+pub mod reading;
 mod repair;
 
 use crate::embedding;
@@ -133,7 +134,7 @@ fn accepted_table(document: &[u8]) -> Table {
 
 /// The table by which the tree of a case is judged, where it is accepted.
 fn judging_table(case: &Case) -> Table {
-    let judging = if case.entry == Entry::BringBack { 1 } else { 0 };
+    let judging = if case.entry.is_given_target() { 1 } else { 0 };
     accepted_table(&case.documents[judging])
 }
 
@@ -239,7 +240,7 @@ fn accepted_clauses(case: &Case, output: &[u8]) -> Vec<Clause> {
             });
             empty.then_some(Clause::ConformsEmpty).into_iter().collect()
         }
-        Entry::JudgeEmbedding => Vec::new(),
+        Entry::JudgeEmbedding | Entry::ReadAlong => Vec::new(),
         Entry::Carry => images::carried_clauses(&accepted_embedding(case), &documents[3]),
         Entry::BringBack => images::brought_back_clauses(&accepted_embedding(case), output),
     }

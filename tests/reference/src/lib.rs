@@ -1,8 +1,8 @@
 //! A reference for the five entries of paper 01, with the optional choices of
 //! paper 02 (N3), its lists on the paths of choices (N6) and its accents (N5),
-//! for its explanation of clashing paths (N9) and for its operations on a table
-//! (N8), written from these papers and the lists of readings alone, in plain
-//! Rust.
+//! for its reading along the paths (N4), its explanation of clashing paths (N9)
+//! and its operations on a table (N8), written from these papers and the lists of
+//! readings alone, in plain Rust.
 //!
 //! | Entry | Function |
 //! |---|---|
@@ -11,12 +11,14 @@
 //! | judge a tree | [`judge_tree`] |
 //! | carry | [`carry`] |
 //! | bring back | [`bring_back`] |
+//! | read along the paths | [`read_along`] |
 //! | explain a clash | [`explain_clash`] |
 //! | extend a table | [`extend_table`] |
 //!
 //! Every function answers on arbitrary bytes. A refusal changes no byte of the
 //! output; an answer changes none after those it writes.
 
+pub mod along;
 pub mod clauses;
 pub mod embedding;
 pub mod explanation;
@@ -81,6 +83,14 @@ pub struct Carried {
     pub filler: u64,
 }
 
+/// The answer of [`read_along`]: length of the source document, number of target
+/// elements, the root aside, on no followed path.
+#[derive(Debug, Clone, Copy, PartialEq, Eq)]
+pub struct ReadAlong {
+    pub length: u64,
+    pub aside: u64,
+}
+
 /// Judges a table and answers its number of types.
 pub fn judge_table(table: &[u8]) -> Result<u64, Refusal> {
     Ok(table::accept(table, SOURCE)?.types.len() as u64)
@@ -133,6 +143,22 @@ pub fn bring_back(
     let root = tree::build(tree);
     let mapping = Mapping::new(&source, &target, &embedding);
     inverse::bring_back(&mapping, &root, output)
+}
+
+/// Writes the source document that the paths of a target document lead to at the
+/// start of the output.
+pub fn read_along(
+    source: &[u8],
+    target: &[u8],
+    embedding: &[u8],
+    tree: &[u8],
+    output: &mut [u8],
+) -> Result<ReadAlong, Refusal> {
+    let source = table::accept(source, SOURCE)?;
+    let target = table::accept(target, TARGET)?;
+    let embedding = embedding::accept(&source, &target, embedding)?;
+    tree::judge(&target, tree)?;
+    along::read_along(&source, &target, &embedding, tree, output)
 }
 
 /// Refuses a document longer than 60,000 bytes.

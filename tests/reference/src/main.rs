@@ -13,6 +13,9 @@
 //! - `reference generate SEED COUNT operations` prints small rows of operations
 //!   on a table, spread over what the last one shows, and small documents of
 //!   operations, spread over the answers.
+//! - `reference generate SEED COUNT edited` prints small target documents read
+//!   along the paths, images edited in some way, spread over the answers and what
+//!   a reading shows.
 //! - `reference ENTRY FILE.. [OUTLEN]` runs one entry on documents in files.
 //! - `reference explain SOURCE TARGET EMBEDDING` says why paths clash, for
 //!   documents in files.
@@ -23,12 +26,14 @@ use lafindry_reference::clauses::characters::{self, CharacterClause};
 use lafindry_reference::clauses::clashes::{self, ClashClause};
 use lafindry_reference::clauses::lists::{self, ListClause};
 use lafindry_reference::clauses::operations::{self as operation_clauses, OperationClause};
+use lafindry_reference::clauses::reading::{self, ReadingClause};
 use lafindry_reference::clauses::{self, Clause};
 use lafindry_reference::explanation::Explanation;
 use lafindry_reference::extension::{Operation, Report, MOST_REPORT};
 use lafindry_reference::generate::{
-    random_case, random_small_accented_case, random_small_case, random_small_extension,
-    random_small_listed_case, random_small_optional_case, random_small_question, random_small_row, Rng,
+    random_case, random_small_accented_case, random_small_case, random_small_edited_case,
+    random_small_extension, random_small_listed_case, random_small_optional_case, random_small_question,
+    random_small_row, Rng,
 };
 use lafindry_reference::vectors::explanations::{self, is_question, Question, EXPLAIN};
 use lafindry_reference::vectors::operations::{self, is_extension, is_row, Extension, Row};
@@ -39,7 +44,7 @@ use std::io::Write;
 use std::process::ExitCode;
 
 const USAGE: &str = "usage: reference vectors FILE..
-       reference generate SEED COUNT [small|optional|lists|accents|clashes|operations]
+       reference generate SEED COUNT [small|optional|lists|accents|clashes|operations|edited]
        reference ENTRY FILE.. [OUTLEN]
        reference explain SOURCE TARGET EMBEDDING
        reference extend TABLE OPERATIONS";
@@ -56,6 +61,7 @@ fn main() -> ExitCode {
         ["generate", seed, count, "accents"] => generate_spread(seed, count, ACCENTS),
         ["generate", seed, count, "clashes"] => generate_spread(seed, count, CLASHES),
         ["generate", seed, count, "operations"] => generate_spread(seed, count, ON_TABLES),
+        ["generate", seed, count, "edited"] => generate_spread(seed, count, EDITED),
         [EXPLAIN, source, target, embedding] => explain([source, target, embedding]),
         ["extend", table, operations] => extend([table, operations]),
         [entry, ref files @ ..] => run_entry(entry, files),
@@ -278,6 +284,16 @@ const ON_TABLES: Spread<OperationClause> = Spread {
         false => drawn_extension(random_small_extension(rng)),
     },
     clauses: &OperationClause::ALL,
+};
+
+/// Those that read along the paths.
+const EDITED: Spread<ReadingClause> = Spread {
+    word: "edited",
+    text: "random target documents read along
+# the paths, most of them images edited in some way, spread over the answers and what a reading
+# shows; the answers are the reference's.",
+    draw: |rng| drawn(random_small_edited_case(rng), reading::shown),
+    clauses: &ReadingClause::ALL,
 };
 
 /// Cases by the kind of their answer and by a clause that they show.

@@ -1,6 +1,6 @@
-//! Where elements of a tree stand: those of a kind, and in an image its filler
-//! and the lists on the paths of choices. Each place is given by the numbers of
-//! the children that lead to it from the root.
+//! Where elements of a tree stand: those of a kind, and in an image its filler,
+//! the lists on the paths of choices, and what else the paths lead through. Each
+//! place is given by the numbers of the children that lead to it from the root.
 
 use crate::image::{alternative, Mapping, Place};
 use crate::table::{ContentModel, Table};
@@ -24,6 +24,21 @@ pub fn places_of(table: &Table, root: &Element, is_kind: fn(&ContentModel) -> bo
     found
 }
 
+/// What stands on a path and can be edited.
+#[derive(Debug, Clone, Copy, PartialEq, Eq, PartialOrd, Ord)]
+pub enum OnPath {
+    /// A list that stands for one item.
+    OneItem,
+    /// The list that takes a source list's items.
+    Items,
+    /// A choice of either kind that the path leaves.
+    Choice,
+    /// The optional choice that is empty where the source holds nothing.
+    Nothing,
+    /// The text element at the end of a character path.
+    Text,
+}
+
 /// Places in an image.
 #[derive(Debug, Default, Clone, PartialEq, Eq)]
 pub struct Places {
@@ -31,6 +46,8 @@ pub struct Places {
     pub filler: Vec<Vec<usize>>,
     /// The lists that a path of a choice of either kind leaves.
     pub lists: Vec<Vec<usize>>,
+    /// What stands on the paths of all source elements.
+    pub on_paths: Vec<(Vec<usize>, OnPath)>,
 }
 
 impl Places {
@@ -71,7 +88,8 @@ impl Search<'_> {
     /// Goes through what stands at a place below the image of an element.
     fn place(&mut self, place: &Place, parent: Parent) {
         match place {
-            Place::Characters | Place::Nothing => {}
+            Place::Characters => self.on_path(OnPath::Text),
+            Place::Nothing => self.on_path(OnPath::Nothing),
             Place::Child(edge) => self.content(&parent.children[*edge]),
             Place::Filler(types) => (0..types.len()).for_each(|number| self.filler(number)),
             Place::Sequence(members) => {
@@ -82,19 +100,29 @@ impl Search<'_> {
                     }
                 }
             }
-            Place::Choice(_, rest) => self.child(0, rest, parent),
+            Place::Choice(_, rest) => {
+                self.on_path(OnPath::Choice);
+                self.child(0, rest, parent);
+            }
             Place::Item(_, rest) => {
+                self.on_path(OnPath::OneItem);
                 if parent.is_choice {
                     self.found.lists.push(self.at.clone());
                 }
                 self.child(0, rest, parent);
             }
             Place::Items(_, rest) => {
+                self.on_path(OnPath::Items);
                 for (number, item) in parent.children.iter().enumerate() {
                     self.child(number, rest, Parent { children: std::slice::from_ref(item), ..parent });
                 }
             }
         }
+    }
+
+    /// Notes what stands here on a path.
+    fn on_path(&mut self, what: OnPath) {
+        self.found.on_paths.push((self.at.clone(), what));
     }
 
     /// Goes into a child that a path builds.

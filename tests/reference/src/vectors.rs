@@ -10,7 +10,7 @@
 //! [`explanations`] and [`operations`].
 //!
 //! The vectors of `tests/data`, `base.txt`, `n3.txt`, `n6.txt`, `n5.txt`,
-//! `n9.txt` and `n8.txt`, were computed by another program, written
+//! `n9.txt`, `n8.txt` and `n4.txt`, were computed by another program, written
 //! independently, from the papers alone. 10 of `base.txt` and 30 of `n3.txt`
 //! have the reference's answers since N6. The files `cases-*.txt` are worked
 //! cases, and cases that the reference made.
@@ -18,14 +18,15 @@
 pub mod explanations;
 pub mod operations;
 
-use crate::{bring_back, carry, judge_embedding, judge_table, judge_tree, Refusal};
+use crate::{bring_back, carry, judge_embedding, judge_table, judge_tree, read_along, Refusal};
 use std::fmt;
 
 /// The byte that lent outputs are filled with before a run. No document that an
 /// entry writes has it.
 pub const JUNK: u8 = 0x95;
 
-/// One of the five entries.
+/// One of the five entries of paper 01, or reading along the paths, which is
+/// called like bringing back.
 #[derive(Debug, Clone, Copy, PartialEq, Eq, PartialOrd, Ord)]
 pub enum Entry {
     JudgeTable,
@@ -33,15 +34,26 @@ pub enum Entry {
     JudgeTree,
     Carry,
     BringBack,
+    ReadAlong,
 }
 
 impl Entry {
-    /// All entries, in the order of paper 01.
-    pub const ALL: [Entry; 5] =
+    /// All entries: those of paper 01 in its order, then reading along.
+    pub const ALL: [Entry; 6] = [
+        Entry::JudgeTable,
+        Entry::JudgeEmbedding,
+        Entry::JudgeTree,
+        Entry::Carry,
+        Entry::BringBack,
+        Entry::ReadAlong,
+    ];
+
+    /// The entries of paper 01, in its order.
+    pub const FIVE: [Entry; 5] =
         [Entry::JudgeTable, Entry::JudgeEmbedding, Entry::JudgeTree, Entry::Carry, Entry::BringBack];
 
     /// The entries that are given a tree.
-    pub const WITH_TREE: [Entry; 3] = [Entry::JudgeTree, Entry::Carry, Entry::BringBack];
+    pub const WITH_TREE: [Entry; 4] = [Entry::JudgeTree, Entry::Carry, Entry::BringBack, Entry::ReadAlong];
 
     /// The name used in vector lines.
     pub fn name(self) -> &'static str {
@@ -51,6 +63,7 @@ impl Entry {
             Entry::JudgeTree => "judge_tree",
             Entry::Carry => "carry",
             Entry::BringBack => "bring_back",
+            Entry::ReadAlong => "read_along",
         }
     }
 
@@ -60,13 +73,24 @@ impl Entry {
             Entry::JudgeTable => 1,
             Entry::JudgeTree => 2,
             Entry::JudgeEmbedding => 3,
-            Entry::Carry | Entry::BringBack => 4,
+            Entry::Carry | Entry::BringBack | Entry::ReadAlong => 4,
         }
     }
 
     /// Whether it is lent an output.
     pub fn writes(self) -> bool {
-        matches!(self, Entry::Carry | Entry::BringBack)
+        matches!(self, Entry::Carry | Entry::BringBack | Entry::ReadAlong)
+    }
+
+    /// Whether its tree is judged by the target table.
+    pub fn is_given_target(self) -> bool {
+        matches!(self, Entry::BringBack | Entry::ReadAlong)
+    }
+
+    /// Whether it answers a number of elements beside what it writes: filler
+    /// elements, or those on no followed path.
+    pub fn counts_elements(self) -> bool {
+        matches!(self, Entry::Carry | Entry::ReadAlong)
     }
 }
 
@@ -116,6 +140,9 @@ impl Case {
                 carry(d[0], d[1], d[2], d[3], output).map(|carried| (carried.length, carried.filler))
             }
             Entry::BringBack => bring_back(d[0], d[1], d[2], d[3], output).map(|length| (length, 0)),
+            Entry::ReadAlong => {
+                read_along(d[0], d[1], d[2], d[3], output).map(|read| (read.length, read.aside))
+            }
         };
         match result {
             Ok((value, filler)) => {

@@ -17,7 +17,8 @@ fn read(name: &str) -> Vec<u8> {
     std::fs::read(&path).expect(&path)
 }
 
-/// The patch as a case of an entry; the tree to bring back is its image.
+/// The patch as a case of an entry; the tree to bring back or to read is its
+/// image.
 fn patch(entry: Entry) -> Case {
     let [source, target, embedding, tree] =
         ["s1", "s2", "em", "tr"].map(|name| read(&format!("examples/patch/{name}")));
@@ -26,7 +27,7 @@ fn patch(entry: Entry) -> Case {
         Entry::JudgeEmbedding => vec![source, target, embedding],
         Entry::JudgeTree => vec![source, tree],
         Entry::Carry => vec![source, target, embedding, tree],
-        Entry::BringBack => {
+        Entry::BringBack | Entry::ReadAlong => {
             let Ok(Answer::Ok { output, .. }) = patch(Entry::Carry).run() else {
                 panic!("the patch is carried")
             };
@@ -39,7 +40,7 @@ fn patch(entry: Entry) -> Case {
 /// The documents whose bytes change, in the order of the C tests: a name, the
 /// patch as a case, and the place of the document.
 fn places() -> Vec<(&'static str, Case, usize)> {
-    let names: [(Entry, &[&str]); 5] = [
+    let names: [(Entry, &[&str]); 6] = [
         (Entry::JudgeTable, &["table, source", "table, target"]),
         (Entry::JudgeEmbedding, &["embedding, source table", "embedding, target table", "embedding"]),
         (Entry::JudgeTree, &["tree, table", "tree"]),
@@ -51,6 +52,15 @@ fn places() -> Vec<(&'static str, Case, usize)> {
                 "bring back, target table",
                 "bring back, embedding",
                 "bring back, tree",
+            ],
+        ),
+        (
+            Entry::ReadAlong,
+            &[
+                "read along, source table",
+                "read along, target table",
+                "read along, embedding",
+                "read along, tree",
             ],
         ),
     ];

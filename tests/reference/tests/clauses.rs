@@ -412,6 +412,13 @@ fn accents_and_outputs() {
     brought("6", &format!("ok 6 0 {tree}"), &[BroughtBack]);
     brought("5", "refused 14 5 0", &[ShortForSource]);
     brought("4", "refused 14 5 0", &[]);
+    let read = |image: &str, answer: &str, clauses: &[CharacterClause]| {
+        assert_characters(&format!("read_along {BESIDE_FILLER} {image} {answer}"), clauses);
+    };
+    read(image, &format!("6 -> ok 6 1 {tree}"), &[Read]);
+    read(image, "5 -> refused 14 5 0", &[ShortForSource]);
+    // The accent stands in the filler.
+    read("3000300131a032300132323f", "4 -> ok 4 1 3000323f", &[LeftOut]);
     assert_judged("101f 300031a0323f", "ok 1 0 -", &[Conforms]);
     assert_judged("101f 3000317e323f", "ok 1 0 -", &[]);
 }

@@ -447,7 +447,7 @@ fn write_filler(fillers: &[lafindry_reference::image::Filler], t: u8, bytes: &mu
 fn any_bytes_get_an_answer() {
     let mut rng = Rng::new(10);
     for _ in 0..4000 {
-        let entry = Entry::ALL[rng.below(5)];
+        let entry = rng.pick(&Entry::ALL);
         let (length, mask) = (rng.pick(&[2, 5, 12, 40, 3000]), rng.pick(&[0xFF, 0x3F, 0x37]));
         let mut document = || -> Vec<u8> { (0..rng.below(length)).map(|_| rng.byte() & mask).collect() };
         let documents = (0..entry.documents()).map(|_| document()).collect();

@@ -2,7 +2,7 @@
 //! Where they come from is said at `lafindry_reference::vectors`.
 
 use lafindry_reference::generate::{
-    random_extension, random_row, random_small_case, random_small_question, Rng,
+    random_extension, random_row, random_small_case, random_small_edited_case, random_small_question, Rng,
 };
 use lafindry_reference::vectors::explanations::{self, is_question, Stated};
 use lafindry_reference::vectors::operations::{self, is_extension, is_row};
@@ -67,6 +67,27 @@ fn accent_vectors_agree() {
 #[test]
 fn accent_cases_agree() {
     run_file("cases-n5.txt");
+}
+
+#[test]
+fn reading_vectors_agree() {
+    assert_eq!(run_lines("n4.txt", |line| check_line(line).map(|_| ())), 985);
+}
+
+#[test]
+fn wrong_readings_are_errors() {
+    let line = "read_along 101f 1215011501101f 20002122012f 30003001323001314132323f 4 -> ok 4 1 3000323f";
+    assert!(check_line(line).is_ok(), "{line}");
+    let wrong = [
+        ("ok 4 1", "ok 4 0"),
+        ("ok 4 1", "ok 5 1"),
+        ("3000323f", "3000323e"),
+        (" 4 ->", " 3 ->"),
+        (" 4 ->", " ->"),
+    ];
+    for (right, other) in wrong {
+        assert!(check_line(&line.replace(right, other)).is_err(), "{other}");
+    }
 }
 
 #[test]
@@ -189,8 +210,9 @@ fn wrong_extensions_are_errors() {
 #[test]
 fn a_printed_line_is_read_back() {
     let mut rng = Rng::new(11);
-    for _ in 0..500 {
-        let case = random_small_case(&mut rng);
+    for number in 0..1000 {
+        let draw = if number % 2 == 0 { random_small_case } else { random_small_edited_case };
+        let case = draw(&mut rng);
         let answer = case.run().unwrap();
         let read = parse_line(&format!("{case} -> {answer}")).unwrap();
         assert_eq!(read, (case, answer));

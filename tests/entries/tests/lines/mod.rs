@@ -1,4 +1,4 @@
-//! The programs `carry` and `bring` and the lines that they print.
+//! The programs `carry`, `bring` and `read` and the lines that they print.
 
 use crate::writes::writes_of;
 use lafindry_entries::{ensure, refused_by, report, Failure, Histogram, Refused, Setting, Tally};
@@ -11,7 +11,16 @@ use std::process::Stdio;
 use std::{fs, io};
 
 /// The entries that have a program.
-pub const ENTRIES: [Entry; 2] = [Entry::Carry, Entry::BringBack];
+pub const ENTRIES: [Entry; 3] = [Entry::Carry, Entry::BringBack, Entry::ReadAlong];
+
+/// The name of an entry's program.
+fn name_of(entry: Entry) -> &'static str {
+    match entry {
+        Entry::Carry => "carry",
+        Entry::ReadAlong => "read",
+        _ => "bring",
+    }
+}
 
 /// The files that these programs read, in the order of the documents.
 pub const FILES: [&str; 4] = ["s1", "s2", "em", "tr"];
@@ -39,6 +48,7 @@ pub fn program(name: &str) -> Result<PathBuf, Failure> {
 fn line_of(entry: Entry, answer: &Answer) -> String {
     match answer {
         Answer::Ok { value, filler, .. } if entry == Entry::Carry => format!("carried {value} {filler}\n"),
+        Answer::Ok { value, filler, .. } if entry == Entry::ReadAlong => format!("read {value} {filler}\n"),
         Answer::Ok { value, .. } => format!("brought {value}\n"),
         Answer::Refused(refusal) => format!("{refusal}\n"),
     }
@@ -49,7 +59,9 @@ fn line_of(entry: Entry, answer: &Answer) -> String {
 fn printed_by(entry: Entry, line: &[u8]) -> Option<Refused> {
     let words: Vec<&str> = std::str::from_utf8(line).ok()?.split_whitespace().collect();
     match (entry, &words[..]) {
-        (Entry::Carry, ["carried", _, _]) | (Entry::BringBack, ["brought", _]) => Some((0, 0)),
+        (Entry::Carry, ["carried", _, _])
+        | (Entry::BringBack, ["brought", _])
+        | (Entry::ReadAlong, ["read", _, _]) => Some((0, 0)),
         (_, ["refused", number, document, _]) => Some((number.parse().ok()?, document.parse().ok()?)),
         _ => None,
     }
@@ -130,7 +142,7 @@ impl Run {
         answer: &Answer,
     ) -> Result<(), Failure> {
         self.folder.put(&FILES, &case.documents, left_out)?;
-        let name = if case.entry == Entry::Carry { "carry" } else { "bring" };
+        let name = name_of(case.entry);
         let line = line_of(case.entry, answer);
         let writes = writes_of(&program(name)?, self.folder.path(), Stdio::null())?;
         let printed = writes.first().and_then(|first| printed_by(case.entry, first));
@@ -160,7 +172,7 @@ impl Run {
     }
 
     /// The same where the tree is a source tree that was damaged: for bringing
-    /// back, another one than an image.
+    /// back and reading along, another one than an image.
     pub fn compare_damaged(&mut self, case: &Case) -> Result<(), Failure> {
         let made = if case.entry == Entry::Carry { Made::Damaged } else { Made::Other };
         self.tally.count_change(case.entry, case.documents.len() - 1, made);
@@ -168,11 +180,12 @@ impl Run {
     }
 
     /// Compares carrying a tree, whose answer it gives, and bringing its image
-    /// back, where it has one.
+    /// back and reading it, where it has one.
     pub fn round_trip(&mut self, setting: &Setting, tree: &[u8]) -> Result<Answer, Failure> {
         let answer = self.compare(&setting.case(Entry::Carry, tree, MOST_BYTES))?;
         if let Answer::Ok { output: image, .. } = &answer {
             self.compare(&setting.case(Entry::BringBack, image, MOST_BYTES))?;
+            self.compare(&setting.case(Entry::ReadAlong, image, MOST_BYTES))?;
         }
         Ok(answer)
     }

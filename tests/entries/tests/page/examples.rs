@@ -7,10 +7,10 @@
 //! |---|---|
 //! | `name` | the case's name; its documents are then `name.source` and so on |
 //! | `like` | an earlier case, which the documents not stated are taken from |
-//! | `entry` | `judge table`, `judge embedding`, `judge tree`, `carry`, `bring back`, `explain clash` or `extend table` |
+//! | `entry` | `judge table`, `judge embedding`, `judge tree`, `carry`, `bring back`, `read along`, `explain clash` or `extend table` |
 //! | `table`, `source`, `target`, `embedding`, `tree`, `operations` | a document, see [`terms`](super::terms) |
 //! | `room` | length of the lent output; 60,000 where it is not stated |
-//! | `answer` | `accepted N`, `carried LENGTH FILLER`, `brought LENGTH`, `extended LENGTH` or `refused NUMBER DOCUMENT MARK` |
+//! | `answer` | `accepted N`, `carried LENGTH FILLER`, `brought LENGTH`, `read LENGTH ASIDE`, `extended LENGTH` or `refused NUMBER DOCUMENT MARK` |
 //! | `output` | the document written; stated where one is written |
 //! | `report` | the report written; stated where one is written |
 //! | `heights` | heights of the target table's types, in order |
@@ -168,7 +168,9 @@ impl Called {
             Called::Entry(Entry::JudgeTable) => vec!["table"],
             Called::Entry(Entry::JudgeTree) => vec!["table", "tree"],
             Called::Entry(Entry::JudgeEmbedding) | Called::Explain => vec!["source", "target", "embedding"],
-            Called::Entry(Entry::Carry | Entry::BringBack) => vec!["source", "target", "embedding", "tree"],
+            Called::Entry(Entry::Carry | Entry::BringBack | Entry::ReadAlong) => {
+                vec!["source", "target", "embedding", "tree"]
+            }
             Called::Extend => vec!["table", "operations"],
         }
     }
@@ -320,7 +322,8 @@ impl<'a> Fields<'a> {
             (_, "refused", &[number, document, mark], None) => {
                 Ok(Answer::Refused(Refusal { number, document, mark }))
             }
-            (Called::Entry(Entry::Carry), "carried", &[value, filler], Some(output)) => {
+            (Called::Entry(Entry::Carry), "carried", &[value, filler], Some(output))
+            | (Called::Entry(Entry::ReadAlong), "read", &[value, filler], Some(output)) => {
                 Ok(Answer::Ok { value, filler, output: output? })
             }
             (Called::Entry(Entry::BringBack), "brought", &[value], Some(output))
@@ -331,8 +334,8 @@ impl<'a> Fields<'a> {
                 Ok(Answer::Ok { value, filler: 0, output: Vec::new() })
             }
             _ => Err(line.fault(format!(
-                "'{text}' is no answer of '{}'; an output stands with 'carried' and 'brought', a report with \
-                 'extended', and only there",
+                "'{text}' is no answer of '{}'; an output stands with 'carried', 'brought' and 'read', a report \
+                 with 'extended', and only there",
                 called.title()
             ))),
         }

@@ -35,11 +35,13 @@ pub enum CharacterClause {
     Conforms,
     Carried,
     BroughtBack,
+    Read,
+    LeftOut,
 }
 
 impl CharacterClause {
     /// All clauses, each with its text.
-    pub const ALL: [(CharacterClause, &'static str); 21] = [
+    pub const ALL: [(CharacterClause, &'static str); 23] = [
         (CharacterClause::FormFirst, "2, a form that breaks behind a forbidden character"),
         (CharacterClause::LevelsFirst, "3, a 129th level behind a forbidden character"),
         (CharacterClause::ForbiddenLow, "4, a character below 20 in a text"),
@@ -61,6 +63,8 @@ impl CharacterClause {
         (CharacterClause::Conforms, "a tree with an accent"),
         (CharacterClause::Carried, "an accent carried"),
         (CharacterClause::BroughtBack, "an accent brought back"),
+        (CharacterClause::Read, "an accent read along the paths"),
+        (CharacterClause::LeftOut, "accents that no path leads to"),
     ];
 }
 
@@ -105,9 +109,11 @@ pub fn shown(case: &Case, answer: &Answer) -> Vec<CharacterClause> {
     match answer {
         Answer::Refused(refusal) => refusal_clauses(case, tree, *refusal),
         Answer::Ok { .. } if !holds_accent(tree) => Vec::new(),
-        Answer::Ok { .. } => vec![match case.entry {
+        Answer::Ok { output, .. } => vec![match case.entry {
             Entry::Carry => CharacterClause::Carried,
             Entry::BringBack => CharacterClause::BroughtBack,
+            Entry::ReadAlong if holds_accent(output) => CharacterClause::Read,
+            Entry::ReadAlong => CharacterClause::LeftOut,
             _ => CharacterClause::Conforms,
         }],
     }

@@ -4,6 +4,7 @@ use super::damage::{
     alter, damage_bytes, damage_commands, damage_embedding, damage_table, damage_tree, make_too_long,
 };
 use super::detours::change_path;
+use super::edits::Edits;
 use super::embeddings::{random_embedded, Embedded};
 use super::tables::{random_table, TableSize};
 use super::trees::{pad, random_accent, random_tree, recursive_types, Shape};
@@ -219,20 +220,23 @@ impl World {
     }
 
     /// A case of an entry whose output has no bytes. Its documents are valid;
-    /// for bringing back there is an image or another tree that conforms to the
-    /// target table.
+    /// for bringing back and reading along there is an image or another tree that
+    /// conforms to the target table.
     pub fn draw_documents(&self, rng: &mut Rng, entry: Entry) -> Drawn {
         let all = self.all_documents();
         let documents = match entry {
             Entry::JudgeTable => vec![all[rng.below(2)].clone()],
             Entry::JudgeTree => vec![all[0].clone(), all[3].clone()],
             Entry::JudgeEmbedding => all[..3].to_vec(),
-            Entry::Carry | Entry::BringBack => all.to_vec(),
+            Entry::Carry | Entry::BringBack | Entry::ReadAlong => all.to_vec(),
         };
         let mut made = vec![Made::Whole; documents.len()];
         let mut case = Case { entry, documents, output_length: 0 };
-        if entry == Entry::BringBack {
-            (case.documents[3], made[3]) = self.draw_image(rng);
+        if entry.is_given_target() {
+            (case.documents[3], made[3]) = match entry {
+                Entry::BringBack => self.draw_image(rng),
+                _ => self.draw_edited(rng),
+            };
         }
         Drawn { case, made }
     }
@@ -250,14 +254,25 @@ impl World {
         (tree.to_bytes(), made)
     }
 
+    /// A tree to read along: the image, an edited image or a random tree.
+    fn draw_edited(&self, rng: &mut Rng) -> (Vec<u8>, Made) {
+        match Edits::of(self) {
+            Some(edits) if rng.chance(30) => (edits.image.to_bytes(), Made::Whole),
+            Some(edits) => (edits.draw(rng).to_bytes(), Made::Altered),
+            None => self.draw_image(rng),
+        }
+    }
+
     /// Whether a document in a place of an entry is the world's: for judging a
-    /// table either one, for bringing back the image.
+    /// table either one, for bringing back and reading along the image.
     fn is_own(&self, entry: Entry, at: usize, document: &[u8]) -> bool {
         let own = self.all_documents();
         match (entry, at) {
             (Entry::JudgeTable, _) => own[0] == document || own[1] == document,
             (Entry::JudgeTree, 1) => own[3] == document,
-            (Entry::BringBack, 3) => self.image().is_some_and(|image| image.to_bytes() == document),
+            (Entry::BringBack | Entry::ReadAlong, 3) => {
+                self.image().is_some_and(|image| image.to_bytes() == document)
+            }
             _ => own[at] == document,
         }
     }
@@ -399,7 +414,7 @@ fn damage(rng: &mut Rng, world: &World, case: &mut Case, made: Made, at: usize) 
         }
         _ => {
             *bytes = match at {
-                _ if is_tree && case.entry == Entry::BringBack => match world.image() {
+                _ if is_tree && case.entry.is_given_target() => match world.image() {
                     Some(image) => damage_tree(rng, target, &image),
                     None => return made,
                 },

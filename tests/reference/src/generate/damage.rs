@@ -412,13 +412,13 @@ pub fn alter(rng: &mut Rng, table: &Table, root: &Element) -> Element {
 }
 
 /// A small element of a type, if there is one.
-fn other_element(rng: &mut Rng, table: &Table, t: u8) -> Option<Element> {
+pub(super) fn other_element(rng: &mut Rng, table: &Table, t: u8) -> Option<Element> {
     let shape = Shape { levels: 20, bytes: 300, deep: rng.chance(20), wide: false };
     random_element(rng, table, t, shape)
 }
 
 /// Adds, drops or changes a character.
-fn alter_characters(rng: &mut Rng, characters: &mut Vec<u8>) {
+pub(super) fn alter_characters(rng: &mut Rng, characters: &mut Vec<u8>) {
     let at = rng.below(characters.len());
     match rng.below(3) {
         0 if !characters.is_empty() => {
