@@ -66,7 +66,7 @@ enum {
 };
 
 /* Refusals, by paper 01's numbers. For one document they are tried in this order; LAFINDRY_NO_IMAGE is tried before
-   the refusals of the output. LAFINDRY_NO_PATH and LAFINDRY_NO_CHOICE are paper 02's: the first is tried by
+   the refusals of the output. LAFINDRY_UNREADABLE and LAFINDRY_NO_CHOICE are paper 02's: the first is tried by
    lafindry_read_along where lafindry_bring_back tries LAFINDRY_NO_IMAGE, the other is answered to an operation, in a
    report, and is tried first there. */
 enum {
@@ -87,7 +87,7 @@ enum {
     LAFINDRY_IMAGE_TOO_LONG = 13,     /* the image to be written is longer than LAFINDRY_MOST_BYTES */
     LAFINDRY_OUTPUT_TOO_SHORT = 14,   /* the output is shorter than what would be written */
     LAFINDRY_NO_IMAGE = 15,           /* the tree to be brought back is the image of no conforming source document */
-    LAFINDRY_NO_PATH = 17,            /* the paths of a source element can't be followed: an item that a list must have
+    LAFINDRY_UNREADABLE = 17,         /* the paths of a source element can't be followed: an item that a list must have
                                          is missing, or no member's path is there */
     LAFINDRY_NO_CHOICE = 19           /* the type to extend doesn't exist or is no choice, optional or not */
 };
@@ -165,7 +165,7 @@ struct lafindry_answer lafindry_bring_back(const uint8_t *source_table, size_t s
  * as nothing exactly where the one that its paths agree on is there and empty. On an image this writes what
  * lafindry_bring_back writes and counts the filler elements that lafindry_carry counted.
  *
- * Refused with LAFINDRY_NO_PATH where the paths of a source element can't be followed; the mark is the offset of the
+ * Refused with LAFINDRY_UNREADABLE where the paths of a source element can't be followed; the mark is the offset of the
  * target element that stands for it, of several for the first in the source document, where an element comes before its
  * children. Every later byte of the output, and after a refusal every byte of it, is left as it was.
  */

@@ -64,7 +64,7 @@ static const struct {
     [LAFINDRY_IMAGE_TOO_LONG] = {NOTHING, "the image would be longer than 60,000 bytes"},
     [LAFINDRY_OUTPUT_TOO_SHORT] = {NOTHING, "too short for what would be written"},
     [LAFINDRY_NO_IMAGE] = {NOTHING, "not the image of any source tree"},
-    [LAFINDRY_NO_PATH] = {BYTES, "the paths of the source element that stands here can't be followed"},
+    [LAFINDRY_UNREADABLE] = {BYTES, "the paths of the source element that stands here can't be followed"},
 };
 
 /* The words for LAFINDRY_WRONG_STEPS where the path belongs to an optional choice, such as of modules that a patch may
@@ -148,7 +148,7 @@ static void print_refusal_of(struct lafindry_answer answer, const char *tree)
     printf(": %s (refusal %" PRIu64 ")\n", optional ? optional_steps : refusals[answer.refusal].words, answer.refusal);
     if (answer.refusal == LAFINDRY_PATH_CLASH)
         print_clash();
-    if (answer.refusal == LAFINDRY_NO_PATH)
+    if (answer.refusal == LAFINDRY_UNREADABLE)
         print_unread(answer.mark);
 }
 

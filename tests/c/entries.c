@@ -389,11 +389,11 @@ static void reading_cases(void)
                                7));
     /* The text lacks its item; the list lacks the rest of its path, also where only its second item does and the first
        one's text lacks its item: the list comes before the text. 17 comes before 14. */
-    EXPECT(refused(LAFINDRY_NO_PATH, LAFINDRY_TREE, 4),
+    EXPECT(refused(LAFINDRY_UNREADABLE, LAFINDRY_TREE, 4),
            read_nested(DOCUMENT(0x30, 0x00, 0x30, 0x01, 0x30, 0x02, 0x32, 0x32, 0x32, 0x3F), 9));
-    EXPECT(refused(LAFINDRY_NO_PATH, LAFINDRY_TREE, 0),
+    EXPECT(refused(LAFINDRY_UNREADABLE, LAFINDRY_TREE, 0),
            read_nested(DOCUMENT(0x30, 0x00, 0x30, 0x01, 0x32, 0x32, 0x3F), 9));
-    EXPECT(refused(LAFINDRY_NO_PATH, LAFINDRY_TREE, 0),
+    EXPECT(refused(LAFINDRY_UNREADABLE, LAFINDRY_TREE, 0),
            read_nested(DOCUMENT(0x30, 0x00, 0x30, 0x01, 0x30, 0x02, 0x32, 0x32, 0x30, 0x01, 0x32, 0x32, 0x3F), 0));
 
     /* Nothing where the second optional choice, on which the paths agree, is empty; the first one may hold what it
@@ -401,7 +401,7 @@ static void reading_cases(void)
     const struct document first = DOCUMENT(0x30, 0x00, 0x30, 0x03, 0x30, 0x01, 0x31, 0x41, 0x32, 0x32, 0x30, 0x03, 0x32,
                                            0x32, 0x3F);
     EXPECT_WRITTEN(EMPTY_TREE, 2, read_along(OPTIONAL_ROOT, TWO_OPTIONAL, INTO_SECOND, first, 4));
-    EXPECT(refused(LAFINDRY_NO_PATH, LAFINDRY_TREE, 0),
+    EXPECT(refused(LAFINDRY_UNREADABLE, LAFINDRY_TREE, 0),
            read_along(DOCUMENT(0x13, 0x15, 0x01, 0x15, 0x02, 0x10, 0x11, 0x1F), TWO_OPTIONAL, INTO_SECOND, first, 4));
     end_group();
 }
@@ -450,7 +450,7 @@ enum { KEPT_LAST = 16 };
 /* Answers counted by refusal (0: accepted) and document, the sums of their other fields, and of the bytes written, each
    byte multiplied by its place from 1; clashes counted by reason. */
 struct tally {
-    uint64_t count[LAFINDRY_NO_PATH + 1][LAFINDRY_OPERATIONS + 1], marks, values, fillers, bytes;
+    uint64_t count[LAFINDRY_UNREADABLE + 1][LAFINDRY_OPERATIONS + 1], marks, values, fillers, bytes;
     uint64_t reasons[LAFINDRY_PARTS_AT_SEQUENCE + 1];
 };
 
@@ -660,7 +660,7 @@ static int is_well_formed(enum entry entry, const struct result *result)
     if (answer.refusal == LAFINDRY_ACCEPTED)
         return answer.document == 0 && answer.mark == 0 && answer.value > 0 &&
                (answer.filler == 0 || entry == CARRY || entry == READ_ALONG);
-    return answer.refusal <= LAFINDRY_NO_PATH && is_document(entry, answer.document) && answer.value == 0 &&
+    return answer.refusal <= LAFINDRY_UNREADABLE && is_document(entry, answer.document) && answer.value == 0 &&
            answer.filler == 0;
 }
 
@@ -708,7 +708,7 @@ static struct tally tally_changes(const struct place *place)
 static void compare_tallies(const struct place *place, const struct tally *reference, const struct tally *library)
 {
     printf("\n  %s:", place->name);
-    for (int refusal = 0; refusal <= LAFINDRY_NO_PATH; refusal++) {
+    for (int refusal = 0; refusal <= LAFINDRY_UNREADABLE; refusal++) {
         for (int document = 0; document <= LAFINDRY_OPERATIONS; document++) {
             const unsigned long long expected = reference->count[refusal][document];
             const unsigned long long counted = library->count[refusal][document];

@@ -407,7 +407,7 @@ static void deepest_reading(void)
     expect(read.answer.refusal == LAFINDRY_ACCEPTED && read.answer.filler == 0 && read.answer.value == 3 * 64 + 1,
            "the deepest lists are read");
     measure(&refused);
-    expect(refused.answer.refusal == LAFINDRY_NO_PATH && refused.answer.document == LAFINDRY_TREE &&
+    expect(refused.answer.refusal == LAFINDRY_UNREADABLE && refused.answer.document == LAFINDRY_TREE &&
                refused.answer.mark == 2 * (LEVELS - 2),
            "the deepest list lacks its item");
 }

@@ -11,7 +11,7 @@ use borrow.Author.Tests.{le-leb, lt-leb}
 use Rattle.model.specs.Definitions.Content.{Content, contentOf, document}
 use Rattle.model.specs.Definitions.Image.{Setting, image}
 use Rattle.model.specs.Definitions.Inverse.{readBack, bringBackContent}
-use Rattle.model.specs.Definitions.Entries.{accepted, Outcome, untouched, written, bringWithin, bringContent}
+use Rattle.model.specs.Definitions.Entries.{accepted, Outcome, untouched, written, readWithin, bringContent}
 use Rattle.model.specs.Theorems.Facts.{Valid}
 use Rattle.model.specs.Theorems.Documents.{document-injective}
 use Rattle.model.specs.Theorems.NeverLonger.{document-never-longer}
@@ -45,12 +45,12 @@ module _ (X : Setting) (tr old : List ℕ) where
   module _ (k : Content) (found : bringBackContent X (contentOf tr) ≡ some k) where
     -- there is no room for it
     no-room : length old < length (document 0 k) → Brings X tr old old Brought.NoRoom
-    unfolding bringContent bringWithin untouched
+    unfolding bringContent readWithin untouched
     no-room less = outcome old Brought.NoRoom (rw (found, lt-leb _ _ less) refl) refl refl
 
     -- it is written
     brings : (new : List ℕ) (n : ℕ) → length (document 0 k) ≤ length old → Writes old new 0 (document 0 k) n → Brings X tr old new (Brought.Written n)
-    unfolding bringContent bringWithin written
+    unfolding bringContent readWithin written
     brings new n room done = outcome new (Brought.Written n) {o = written old (document 0 k) 0} (rw (found, le-leb _ _ room) refl) (ap (λ (m : ℕ). accepted m 0) (done .after ∙ zero-add _)) (done .written)
 
 -- ---- from what was read

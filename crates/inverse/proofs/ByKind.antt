@@ -9,7 +9,7 @@ use Rattle.model.specs.Definitions.Table.{Kind, kindOf}
 use Rattle.model.specs.Definitions.Embedding.{targetOf, pathsOf}
 use Rattle.model.specs.Definitions.Image.{Setting}
 use Rattle.model.specs.Definitions.Inverse.{Located, openedAt, followAt, childParts, contentRead, readKind, readTo}
-use Rattle.model.specs.Theorems.Readings.{heldAt, plainParts, children-read, characters-read, by-children}
+use Rattle.model.specs.Theorems.ReadsPlain.{heldAt, plainParts, children-read, characters-read, by-children}
 use Rattle.loaded_table.specs.Loaded.{typesIn, kindsOf}
 use Rattle.loaded_embedding.specs.Loaded.{targetsOf}
 use Rattle.loaded_setting.specs.Ready.{settingIn, Ready}

@@ -9,7 +9,7 @@ use Rattle.model.specs.Definitions.Basics.{andThen}
 use Rattle.model.specs.Definitions.Content.{Content, end, elem, bytes}
 use Rattle.model.specs.Definitions.Inverse.{Located}
 use Rattle.model.specs.Theorems.Tools.{some-none}
-use Rattle.model.specs.Theorems.Readings.{heldAt}
+use Rattle.model.specs.Theorems.ReadsPlain.{heldAt}
 use Rattle.scanning.specs.Scanning.{ContentAt}
 use Rattle.scanning.specs.Finding.{FoundContent}
 use Rattle.scanning.specs.Laws.{content-within, content-part}

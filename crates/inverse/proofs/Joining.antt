@@ -9,7 +9,7 @@ use lib.Seq.{sets}
 use Rattle.model.specs.Definitions.Basics.{andThen}
 use Rattle.model.specs.Definitions.Content.{Content, end, elem, bytes}
 use Rattle.model.specs.Theorems.Tools.{some-none}
-use Rattle.model.specs.Theorems.Readings.{plainThen}
+use Rattle.model.specs.Theorems.ReadsPlain.{plainThen}
 use Rattle.writing.specs.Writing.{Writes}
 use Rattle.writing.specs.Laws.{writes-left}
 use Rattle.inverse.specs.Reading.{elementOf, ReadsTo}

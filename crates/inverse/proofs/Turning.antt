@@ -8,7 +8,7 @@ use lib.ListN.{length, getD}
 use Rattle.model.specs.Definitions.Content.{Content, bytes}
 use Rattle.model.specs.Definitions.Image.{Setting}
 use Rattle.model.specs.Definitions.Inverse.{Located, located, Parts, done, broken, childParts}
-use Rattle.model.specs.Theorems.Readings.{plainThen, plainParts}
+use Rattle.model.specs.Theorems.ReadsPlain.{plainThen, plainParts}
 use Rattle.loaded_table.specs.Loaded.{typesIn, kindsOf}
 use Rattle.loaded_setting.specs.Ready.{settingIn, Ready}
 use Rattle.scanning.specs.Scanning.{ContentAt}

@@ -26,7 +26,7 @@ ghost use Rattle.inverse.specs.Reading.{readAs, elementOf, ReadsInto, Br
 ghost use Rattle.model.specs.Definitions.Content.{Content, document};
 ghost use Rattle.model.specs.Definitions.Inverse as model;
 ghost use Rattle.model.specs.Definitions.Inverse.{located};
-ghost use Rattle.model.specs.Theorems.Readings.{heldAt};
+ghost use Rattle.model.specs.Theorems.ReadsPlain.{heldAt};
 ghost use Rattle.scanning.specs.Scanning.{ContentAt};
 ghost use Rattle.scanning.specs.Spanning.{Spans};
 ghost use Rattle.loaded_setting.specs.Ready.{settingIn, Ready};

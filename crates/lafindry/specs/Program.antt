@@ -35,7 +35,7 @@ use Rattle.model.specs.Definitions.Extending.{Performed, performed, unread, rep
 use Rattle.model.specs.Definitions.Explanation.{Clash, explained, unexplained, reasonNumber, explanationNumbers, Explains}
 use Rattle.model.specs.Definitions.Decimal.{DecimalText, DecimalWritten, with-room, without-room}
 use Rattle.model.specs.Definitions.Entries as model
-use Rattle.model.specs.Definitions.Entries.{Result, refused, accepted, Outcome, answerOf, unlessFaulty, judgeTable, judgeEmbedding, judgeTree, untouched, written, carryWithin, carryContent, carry, bringWithin, bringContent, bringBack, settingOf, readWithin, readContent, readAlong}
+use Rattle.model.specs.Definitions.Entries.{Result, refused, accepted, Outcome, answerOf, unlessFaulty, judgeTable, judgeEmbedding, judgeTree, untouched, written, carryWithin, carryContent, carry, bringContent, bringBack, settingOf, readWithin, readContent, readAlong}
 use Rattle.model.specs.Theorems.Terms.{AcceptedEmbedding, AcceptedTree, imageOf, fillerOf, levelsIn, NoSource}
 use Rattle.model.specs.Theorems.EntryLaws.{judges-accept, judge-accepts, judges-are-all, table-is-accepted, tree-judged, tree-is-accepted}
 use Rattle.model.specs.Statements.{DemandThree, demand-three, refused-15-exactly, decimal-text-unique, tables-exactly, embeddings-exactly, trees-exactly, explained-exactly, explains-exactly, answer-is-inside, numbers-begin-as-judged, refused-17-exactly}
@@ -265,29 +265,24 @@ keeps-carry : (s t e tr before : List ℕ) → Keeps before (carry s t e tr befo
 unfolding carry carryContent
 keeps-carry s t e tr before = keeps-judged before _ _ _ (keeps-judged before _ _ _ (keeps-judged before _ _ _ (keeps-judged before _ _ _ (keeps-within before _ _ _ _ _))))
 
-keeps-room : (before doc : List ℕ) (room : Bool) → Keeps before (bringWithin before doc room)
-unfolding bringWithin written answerOf
-keeps-room before doc false = keeps-untouched before output-too-short
-keeps-room before doc true = inl refl
+keeps-room : (before doc : List ℕ) (count : ℕ) (room : Bool) → Keeps before (readWithin before doc count room)
+unfolding readWithin written answerOf
+keeps-room before doc count false = keeps-untouched before output-too-short
+keeps-room before doc count true = inl refl
 
 keeps-found : (before : List ℕ) (o : Option Content) → Keeps before (bringContent before o)
 unfolding bringContent
 keeps-found before none = keeps-untouched before no-image
-keeps-found before (some k) = keeps-room before _ _
+keeps-found before (some k) = keeps-room before _ _ _
 
 keeps-bring-back : (s t e tr before : List ℕ) → Keeps before (bringBack s t e tr before)
 unfolding bringBack
 keeps-bring-back s t e tr before = keeps-judged before _ _ _ (keeps-judged before _ _ _ (keeps-judged before _ _ _ (keeps-judged before _ _ _ (keeps-found before _))))
 
-keeps-read-room : (before doc : List ℕ) (count : ℕ) (room : Bool) → Keeps before (readWithin before doc count room)
-unfolding readWithin written answerOf
-keeps-read-room before doc count false = keeps-untouched before output-too-short
-keeps-read-room before doc count true = inl refl
-
 keeps-read : (before : List ℕ) (X : Setting) (k : Content) (r : Reading) → Keeps before (readContent before X k r)
 unfolding readContent
 keeps-read before X k (missing at) = keeps-untouched before (unreadable at)
-keeps-read before X k (yields j) = keeps-read-room before _ _ _
+keeps-read before X k (yields j) = keeps-room before _ _ _
 
 keeps-read-along : (s t e tr before : List ℕ) → Keeps before (readAlong s t e tr before)
 unfolding readAlong

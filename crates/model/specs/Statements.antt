@@ -51,7 +51,7 @@ use Rattle.model.specs.Theorems.HeightLaws.{Solves, heights-solve, heigh
 use Rattle.model.specs.Theorems.FillerLaws.{filler-conforms, filler-levels, has-instance, instance-of}
 use Rattle.model.specs.Theorems.JudgedTables.{table-sound, table-well-formed}
 use Rattle.model.specs.Theorems.ReadBack.{first-item}
-use Rattle.model.specs.Theorems.Readings.{yields-held, held-yields}
+use Rattle.model.specs.Theorems.ReadsPlain.{yields-held, held-yields}
 use Rattle.model.specs.Theorems.ReadConforms.{nothing-exactly}
 use Rattle.model.specs.Theorems.Measures.{image-levels, image-length, marked, unmarked, countFiller, marked-is-image, marked-filler}
 use Rattle.model.specs.Theorems.Templates.{filler-written, write-image, writes-again}

@@ -30,7 +30,7 @@ pub mod Explanations
 pub mod ByElements
 pub mod ImageConforms
 pub mod PlainReading
-pub mod Readings
+pub mod ReadsPlain
 pub mod ReadBack
 pub mod ReadConforms
 pub mod SingleItems

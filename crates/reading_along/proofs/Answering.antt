@@ -15,7 +15,7 @@ use Rattle.model.specs.Definitions.LeftOut.{leftOut}
 use Rattle.model.specs.Definitions.Entries.{accepted, Outcome, untouched, written, readWithin, readContent}
 use Rattle.model.specs.Theorems.Facts.{Valid}
 use Rattle.model.specs.Theorems.Measures.{size, size-elem, document-length}
-use Rattle.model.specs.Theorems.Readings.{read-content}
+use Rattle.model.specs.Theorems.ReadsPlain.{read-content}
 use Rattle.model.specs.Theorems.WithoutFiller.{builtOf}
 use Rattle.model.specs.Theorems.ReadingAlong.{read-counts, read-no-longer}
 use Rattle.writing.specs.Writing.{Writes}

@@ -13,7 +13,7 @@ use Rattle.model.specs.Definitions.Embedding.{targetOf, pathsOf, firstPath}
 use Rattle.model.specs.Definitions.Image.{Setting}
 use Rattle.model.specs.Definitions.Inverse.{Located, openedAt, followAt, Parts, done, broken, part, unbroken, kindParts, childParts, Reading, yields, missing, withRest, withElement, readParts, readUnbroken, readCharacters, readChildren, readKind, readTo}
 use Rattle.model.specs.Theorems.Tools.{true-false}
-use Rattle.model.specs.Theorems.Readings.{by-children}
+use Rattle.model.specs.Theorems.ReadsPlain.{by-children}
 use Rattle.loaded_table.specs.Loaded.{typesIn, kindsOf}
 use Rattle.loaded_embedding.specs.Loaded.{targetsOf}
 use Rattle.loaded_setting.specs.Ready.{settingIn, Ready}

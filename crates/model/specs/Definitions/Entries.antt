@@ -149,10 +149,13 @@ carry source target em tr out =
     unlessFaulty (untouched out) tree (judgedTree (tableOf source) tr) λ u.
     carryContent out (settingOf source target em) (contentOf tr)
 
--- the source document that holds k: 14, or written
-unfoldable pub bringWithin : List ℕ → List ℕ → Bool → Outcome
-bringWithin out doc false = untouched out output-too-short
-bringWithin out doc true = written out doc 0
+-- a source document, with a number beside its length: 14, or written
+unfoldable pub readWithin : List ℕ → List ℕ → ℕ → Bool → Outcome
+readWithin out doc count false = untouched out output-too-short
+readWithin out doc count true = written out doc count
+
+abbrev pub bringWithin : List ℕ → List ℕ → Bool → Outcome
+bringWithin out doc room = readWithin out doc 0 room
 
 unfoldable pub bringContent : List ℕ → Option Content → Outcome
 bringContent out none = untouched out no-image
@@ -170,10 +173,6 @@ bringBack source target em tr out =
 -- ---- reading along the paths (02, N4)
 
 -- what was read of a document whose root holds k: 17, 14, or written, with the number of elements on no followed path
-unfoldable pub readWithin : List ℕ → List ℕ → ℕ → Bool → Outcome
-readWithin out doc count false = untouched out output-too-short
-readWithin out doc count true = written out doc count
-
 unfoldable pub readContent : List ℕ → Setting → Content → Reading → Outcome
 readContent out X k (missing at) = untouched out (unreadable at)
 readContent out X k (yields j) = readWithin out (document 0 j) (leftOut X j k) (leb (length (document 0 j)) (length out))

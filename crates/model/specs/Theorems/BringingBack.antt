@@ -21,7 +21,7 @@ use Rattle.model.specs.Theorems.Conforms.{holds-conforms, conforms-holds
 use Rattle.model.specs.Theorems.FillerLaws.{filler-conforms}
 use Rattle.model.specs.Theorems.ImageConforms.{image-holds}
 use Rattle.model.specs.Theorems.PlainReading.{plainTo}
-use Rattle.model.specs.Theorems.Readings.{back-plain}
+use Rattle.model.specs.Theorems.ReadsPlain.{back-plain}
 use Rattle.model.specs.Theorems.ReadBack.{read-back}
 use Rattle.model.specs.Theorems.ReadConforms.{read-holds}
 use Rattle.model.specs.Theorems.Measures.{size, size-elem, document-length}

@@ -12,7 +12,7 @@ use Rattle.model.specs.Definitions.Conformance.{Holds}
 use Rattle.model.specs.Definitions.TreeChecks.{treeLevels, maxLevels}
 use Rattle.model.specs.Definitions.Image.{Setting, image, imageFiller}
 use Rattle.model.specs.Definitions.Refusals.{sound, has, Fault, too-long, over-limit, faulty, tree, output-too-short, image-too-deep, image-too-long, faultAt, faultUnless, fits, maxLength}
-use Rattle.model.specs.Definitions.Entries.{judgedTree, refused, accepted, unlessFaulty, untouched, written, settingOf, carry, bringWithin, bringContent, bringBack}
+use Rattle.model.specs.Definitions.Entries.{judgedTree, refused, accepted, unlessFaulty, untouched, written, settingOf, carry, readWithin, bringContent, bringBack}
 use Rattle.model.specs.Theorems.Facts.{Valid}
 use Rattle.model.specs.Theorems.Documents.{form-accepts}
 use Rattle.model.specs.Theorems.NeverLonger.{levels-never-more, document-never-longer}
@@ -49,13 +49,13 @@ module _ (s t e : List ℕ) (j : Judges s t e) (k : Content) (h : Holds (tableOf
 
     pub brings : (out : List ℕ) → length (document 0 k) ≤ length out
         → bringBack s t e carriedBytes out ≡ record { result = accepted (length (document 0 k)) 0; output = document 0 k ++ drop (length (document 0 k)) out }
-    unfolding bringContent bringWithin written
+    unfolding bringContent readWithin written
     brings out room =
         bring-content s t e out (image X k) j image-accepted
         ∙ rw (brought-image X valid k h, le-leb _ _ room, written-start out (document 0 k) room)
 
     pub brings-not : (out : List ℕ) → length out < length (document 0 k) → bringBack s t e carriedBytes out ≡ record { result = refused output-too-short; output = out }
-    unfolding bringContent bringWithin untouched
+    unfolding bringContent readWithin untouched
     brings-not out less = bring-content s t e out (image X k) j image-accepted ∙ rw (brought-image X valid k h, lt-leb _ _ less)
 
   -- ---- beyond the limits

@@ -17,7 +17,7 @@ use Rattle.model.specs.Definitions.Image.{Setting, image}
 use Rattle.model.specs.Definitions.Inverse.{readBack, bringBackContent}
 use Rattle.model.specs.Definitions.SingleItems.{singleItems}
 use Rattle.model.specs.Definitions.Refusals.{Judged, sound, has, Fault, Document, Refusal, source-table, target-table, embedding, tree, too-long, over-limit, faulty, no-image, image-too-deep, image-too-long, output-too-short, maxLength}
-use Rattle.model.specs.Definitions.Entries.{judgedTable, judgedEmbedding, judgedTree, Outcome, accepted, refused, untouched, written, unlessFaulty, settingOf, carry, bringWithin, bringContent, bringBack}
+use Rattle.model.specs.Definitions.Entries.{judgedTable, judgedEmbedding, judgedTree, Outcome, accepted, refused, untouched, written, unlessFaulty, settingOf, carry, bringWithin, readWithin, bringContent, bringBack}
 use Rattle.model.specs.Theorems.Facts.{Valid}
 use Rattle.model.specs.Theorems.Tools.{some-none}
 use Rattle.model.specs.Theorems.Terms.{AcceptedEmbedding, AcceptedTree, imageOf, fillerOf, levelsIn, NoSource}
@@ -49,7 +49,7 @@ accepted-tree t d a =
 
 -- what bring back answers about a content
 none-answer : (out : List ℕ) (o : Option Content) → (bringContent out o .result ≡ refused no-image) ↔ (o ≡ none)
-unfolding bringContent bringWithin untouched written
+unfolding bringContent readWithin untouched written
 none-answer out none = (λ e. refl, λ e. refl)
 none-answer out (some k) = (λ e. absurd (go (leb (length (document 0 k)) (length out)) e), λ e. some-none refl e)
   where

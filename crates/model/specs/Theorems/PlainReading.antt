@@ -1,5 +1,5 @@
 -- Reading without offsets: what is read, if it can be. The theorems on images and on conforming documents go by it; that it is what
--- `Definitions.Inverse` reads, is proved in `Readings`.
+-- `Definitions.Inverse` reads, is proved in `ReadsPlain`.
 use mathlib.Core.List.{List, [], _∷_}
 use mathlib.Core.Option.{Option, none, some}
 use Prim.Native.Nat.{ℕ, zero, suc}

@@ -13,7 +13,7 @@ use Rattle.model.specs.Definitions.Image.{Setting, image, imageBy, image
 use Rattle.model.specs.Definitions.Inverse.{located, yields, reading, readBack}
 use Rattle.model.specs.Definitions.LeftOut.{onPaths, leftOut}
 use Rattle.model.specs.Theorems.Facts.{Valid}
-use Rattle.model.specs.Theorems.Readings.{yields-held, read-content}
+use Rattle.model.specs.Theorems.ReadsPlain.{yields-held, read-content}
 use Rattle.model.specs.Theorems.Measures.{Hom, image-hom, document-length, Marked, marked-end, marked-char, marked-elem, marked, unmarked, countFiller, marked-is-image, marked-filler}
 use Rattle.model.specs.Theorems.WithoutFiller.{bareImage, builtOf}
 use Rattle.model.specs.Theorems.Taken.{left-elements, left-levels, left-bytes}

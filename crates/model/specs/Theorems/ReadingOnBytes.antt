@@ -45,7 +45,7 @@ written-answer out doc count n c false e = accepted-refused e refl
 
 -- the output is that of bringing back
 same-output : (out doc : List ℕ) (count : ℕ) (b : Bool) → readWithin out doc count b .output ≡ bringWithin out doc b .output
-unfolding readWithin bringWithin untouched written
+unfolding readWithin untouched written
 same-output out doc count true = refl
 same-output out doc count false = refl
 

@@ -24,7 +24,7 @@ use Rattle.model.specs.Theorems.Facts.{Walks, GoodPath, MemberPath, Alon
 use Rattle.model.specs.Theorems.Tools.{true-false, some-none, and-left, pick-true, pick-false}
 use Rattle.model.specs.Theorems.Placing.{entry-nil, list-step, item-next, leaves-only, walks-step, walks-rest, GoodParts, divide-good, AtList, divide-at-list}
 use Rattle.model.specs.Theorems.ImageConforms.{list-left}
-use Rattle.model.specs.Theorems.Readings.{heldAt, follow-held, by-children}
+use Rattle.model.specs.Theorems.ReadsPlain.{heldAt, follow-held, by-children}
 use Rattle.model.specs.Theorems.ReadBack.{follow-some, first-item}
 use Rattle.model.specs.Theorems.ReadConforms.{and-then, enter-holds, follow-holds}
 use Rattle.model.specs.Theorems.NeverLonger.{sequence-needs-step, choice-needs-step}
