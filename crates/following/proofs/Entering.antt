@@ -18,19 +18,12 @@ enter-nothing zero p τ at k count row low = refl
 enter-nothing (suc zero) p τ at k count row low = refl
 enter-nothing (suc (suc code)) p τ at k count row low = absurd (omega arith)
 
--- a list's first item is its first child
-first-child : (k : Content) → firstItem k ≡ childAt k 1
-unfolding firstItem childAt
-first-child end = refl
-first-child (char c r) = refl
-first-child (elem t k r) = refl
-
--- nothing stands before it
-before-first : (k : Content) → bytesBefore k 1 ≡ 0
-unfolding bytesBefore
-before-first end = refl
-before-first (char c r) = refl
-before-first (elem t k r) = refl
+-- a list's first item is its first child, and nothing stands before it
+first-found : (at : ℕ) (k : Content) → foundAt (at + 2) (firstItem k) ≡ foundAt (at + bytesBefore k 1 + 2) (childAt k 1)
+unfolding foundAt firstItem childAt bytesBefore
+first-found at end = refl
+first-found at (char c r) = refl
+first-found at (elem t k r) = rw (add-zero at)
 
 module _ (code p τ at : ℕ) (k : Content) (count : ℕ) (row : List ℕ) where
   pub enter-sequence : code ≡ 2 → enterAt (kindFrom code count row) p τ (located at k) ≡ foundAt (at + bytesBefore k p + 2) (childAt k p)
@@ -43,4 +36,4 @@ module _ (code p τ at : ℕ) (k : Content) (count : ℕ) (row : List ℕ) where
 
   pub enter-list : 5 ≤ code → enterAt (kindFrom code count row) p τ (located at k) ≡ foundAt (at + bytesBefore k 1 + 2) (childAt k 1)
   unfolding enterAt enter bytesAside
-  enter-list high = rw (list-code code count row high, before-first k, first-child k)
+  enter-list high = rw (list-code code count row high, add-zero at) (first-found at k)

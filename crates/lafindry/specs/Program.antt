@@ -38,7 +38,7 @@ use Rattle.model.specs.Definitions.Entries as model
 use Rattle.model.specs.Definitions.Entries.{Result, refused, accepted, Outcome, answerOf, unlessFaulty, judgeTable, judgeEmbedding, judgeTree, untouched, written, carryWithin, carryContent, carry, bringContent, bringBack, settingOf, readWithin, readContent, readAlong}
 use Rattle.model.specs.Theorems.Terms.{AcceptedEmbedding, AcceptedTree, imageOf, fillerOf, levelsIn, NoSource}
 use Rattle.model.specs.Theorems.EntryLaws.{judges-accept, judge-accepts, judges-are-all, table-is-accepted, tree-judged, tree-is-accepted}
-use Rattle.model.specs.Statements.{DemandThree, demand-three, refused-15-exactly, decimal-text-unique, tables-exactly, embeddings-exactly, trees-exactly, explained-exactly, explains-exactly, answer-is-inside, numbers-begin-as-judged, refused-17-exactly}
+use Rattle.model.specs.Statements.{DemandThree, demand-three, refused-15-exactly, decimal-text-unique, tables-exactly, embeddings-exactly, trees-exactly, explained-exactly, explains-exactly, answer-is-inside, numbers-begin-as-judged, refused-17-exactly, WentAcross, carried-across}
 
 -- ---- answers
 
@@ -413,6 +413,22 @@ answers-17-exactly s t e tr before after a call =
     let same : a .refusal ≡ answerOf (readAlong s t e tr before .result) .refusal = refusal-is a _ (call .same-answer) in
     let mark : answerOf (readAlong s t e tr before .result) .mark ≡ a .mark = sym (ap (λ (n : model.Answer). n .mark) (call .same-answer)) in
     (λ h. exactly .0 (seventeen _ (sym same ∙ h) ∙ ap (λ (at : ℕ). refused (unreadable at)) mark), λ first. same ∙ is-seventeen _ (a .mark) (exactly .1 first))
+
+-- ---- everything went across, counted (02, N14)
+
+-- Of a call of lafindry_carry that is not refused, for any bytes: each source element stands at an element of what was written, no two
+-- at the same, by address and by offset; each character occurs there as often as in the source; and the elements there are the filler
+-- elements answered, the path elements and the root.
+pub carry-goes-across : (s t e d before after : List ℕ) (a : Answer) → CarryCall s t e d before after a → a .refusal ≡ 0 → WentAcross s t e d (take (a .value) after) (a .filler)
+carry-goes-across s t e d before after a call not-refused =
+    let it = call-accepts a (carry s t e d before .result) (call .same-answer) not-refused in
+    went (it .0) (it .1) (it .2) (call .same-answer ∙ ap answerOf (it .2)) (call .same-output)
+  where
+    went : (n f : ℕ) → carry s t e d before .result ≡ accepted n f → numbers a ≡ answerOf (accepted n f) → after ≡ carry s t e d before .output
+        → WentAcross s t e d (take (a .value) after) (a .filler)
+    went n f is same out =
+        unfold answerOf in
+        rw (out, ap (λ (m : model.Answer). m .value) same, ap (λ (m : model.Answer). m .filler) same) (carried-across s t e d before n f is)
 
 -- ---- numbers in decimal (02, N2)
 

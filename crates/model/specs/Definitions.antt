@@ -21,6 +21,8 @@ pub mod Templates
 pub mod Inverse
 pub mod LeftOut
 pub mod Unreadable
+pub mod Standing
+pub mod Counting
 pub mod SingleItems
 pub mod Refusals
 pub mod Valid

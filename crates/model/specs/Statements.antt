@@ -5,11 +5,11 @@
 -- used: accepted by an entry, the image of a document given by its bytes, its levels.
 use mathlib.Core.Path.{_≡_, refl, sym, _∙_}
 use mathlib.Core.Bool.{Bool, true, false, _&&_, _||_}
-use mathlib.Core.List.{List, [], _∷_, _++_}
+use mathlib.Core.List.{List, [], _∷_, _++_, List·Memᴰ}
 use mathlib.Core.Logic.{_↔_, _⊎_}
 use mathlib.Core.Option.{none, some}
 use Prim.Native.Nat.{ℕ, suc, _+_, _*_, _≤_, _<_, max}
-use lib.ListN.{length, drop}
+use lib.ListN.{length, take, drop}
 use lib.Dec.{leb}
 use Rattle.model.specs.Definitions.Basics.{passes, fails, some-of}
 use Rattle.model.specs.Definitions.Commands.{Need, needed, optional}
@@ -32,6 +32,8 @@ use Rattle.model.specs.Definitions.Valid.{WrittenBy, ValidTree}
 use Rattle.model.specs.Definitions.Inverse.{follow, Located, located, yields, readTo, reading, readBack}
 use Rattle.model.specs.Definitions.LeftOut.{onPaths, leftOut}
 use Rattle.model.specs.Definitions.Unreadable.{PathMissing, Opens, FirstUnreadable}
+use Rattle.model.specs.Definitions.Standing.{Element, elementOf, elementAt, addresses, standsAt, OpensAs, standings}
+use Rattle.model.specs.Definitions.Counting.{pathElements, occurrences}
 use Rattle.model.specs.Definitions.SingleItems.{singleItems}
 use Rattle.model.specs.Definitions.Refusals.{Fault, bad-form, wrong-steps, path-clash, too-long, over-limit, source-table, embedding, tree, Refusal, faulty, output-too-short, no-image, unreadable, image-too-deep, image-too-long, no-choice, numbersOf, has, maxLength}
 use Rattle.model.specs.Definitions.Decimal.{DecimalForm, DecimalText}
@@ -78,6 +80,10 @@ use Rattle.model.specs.Theorems.Taken.{LeftOf}
 use Rattle.model.specs.Theorems.Kept.{kept-left}
 use Rattle.model.specs.Theorems.ReadingOnBytes.{read-of-image, read-like-brought, read-conforming, left-is-bare-image, told-by-what-is-left, refused-17, read-only}
 use Rattle.model.specs.Theorems.Offsets.{mark-17-opens}
+use Rattle.model.specs.Theorems.Facts.{All, Pairs}
+use Rattle.model.specs.Theorems.Standing.{none-share}
+use Rattle.model.specs.Theorems.StandingOffsets.{listed-exactly, standings-count, standings-in-order, standings-in-image, standings-apart}
+use Rattle.model.specs.Theorems.WentAcross.{stands-in-image, opens-in-source, occurs-in-image, counted-in-image, Carried, carried-image}
 
 -- ---- 1. conforming and bytes
 
@@ -623,3 +629,80 @@ pub reads-only : (s t e : List ℕ) → AcceptedEmbedding s t e → (tr : List �
     × (readAlong s t e tr out ≡ readWithin out (document 0 k) (leftOut (settingOf s t e) k (contentOf tr)) true)
     × (n ≡ length (document 0 k)) × (c ≡ leftOut (settingOf s t e) k (contentOf tr))
 reads-only = read-only
+
+-- ---- 21. everything went across, counted (02, N14)
+
+-- Of a document and its image: each element of the document, by its address, stands at an element of the image, of the type that its own
+-- is mapped to, and no two stand at the same. Where an element stands is found from the paths alone (`standsAt`).
+pub record ElementsStand (s t e d written : List ℕ) : Type 0 where
+  pub at-an-element : (a : List ℕ) (x : Element) → elementAt 0 (contentOf d) a ≡ some x
+      → (l : Content) × (elementAt 0 (contentOf written) (standsAt (settingOf s t e) 0 (contentOf d) a) ≡ some (elementOf (targetOf (embeddingOf e) (x .type)) l))
+  pub none-shared : (a b : List ℕ) (x y : Element) → elementAt 0 (contentOf d) a ≡ some x → elementAt 0 (contentOf d) b ≡ some y
+      → standsAt (settingOf s t e) 0 (contentOf d) a ≡ standsAt (settingOf s t e) 0 (contentOf d) b → a ≡ b
+
+pub elements-stand : (s t e : List ℕ) → AcceptedEmbedding s t e → (d : List ℕ) → Conforming (tableOf s) d → ElementsStand s t e d (imageOf s t e d)
+elements-stand s t e a d c =
+    record {
+      at-an-element = stands-in-image s t e a d c;
+      none-shared = λ b f x y. none-share (settingOf s t e) (judges-valid s t e (judges-accept s t e (a .1))) (contentOf d) (conforming-content c .1) b f;
+    }
+
+-- The same by offsets in the bytes of the two documents. `standings` has a row for each element of the document, with its type, its
+-- offset and the offset at which it stands in the image. As many rows as elements, in the order of the document, so that each element
+-- has one; at each offset an element opens, in the image of the type that the row's is mapped to; and no two rows have the same
+-- offset in the image.
+pub record OffsetsStand (s t e d written : List ℕ) : Type 0 where
+  pub each-listed : length (standings (settingOf s t e) (contentOf d)) ≡ 1 + elements (contentOf d)
+  pub in-order : Pairs (λ p q. p .offset < q .offset) (standings (settingOf s t e) (contentOf d))
+  pub in-source : All (λ p. OpensAs d (p .offset) (p .type)) (standings (settingOf s t e) (contentOf d))
+  pub in-image : All (λ p. OpensAs written (p .image-offset) (targetOf (embeddingOf e) (p .type))) (standings (settingOf s t e) (contentOf d))
+  pub none-shared : Pairs (λ p q. p .image-offset ≡ q .image-offset → ⊥) (standings (settingOf s t e) (contentOf d))
+
+pub offsets-stand : (s t e : List ℕ) → AcceptedEmbedding s t e → (d : List ℕ) → Conforming (tableOf s) d → OffsetsStand s t e d (imageOf s t e d)
+offsets-stand s t e a d c =
+    let X = settingOf s t e in
+    let k = contentOf d in
+    let valid = judges-valid s t e (judges-accept s t e (a .1)) in
+    let held = conforming-content c .1 in
+    record {
+      each-listed = standings-count X valid k held;
+      in-order = standings-in-order X valid k held;
+      in-source = opens-in-source s t e a d c;
+      in-image = standings-in-image X valid k held;
+      none-shared = standings-apart X valid k held;
+    }
+
+-- The rows are those of `addresses`, which lists exactly the addresses of elements.
+pub addresses-exactly : (k : Content) (a : List ℕ) → List·Memᴰ a (addresses k) ↔ ((x : Element) × (elementAt 0 k a ≡ some x))
+addresses-exactly = listed-exactly
+
+-- Each character occurs as often in the image as in the document, whatever its value.
+pub characters-as-often : (s t e : List ℕ) → AcceptedEmbedding s t e → (d : List ℕ) → Conforming (tableOf s) d
+    → (c : ℕ) → occurrences c (contentOf (imageOf s t e d)) ≡ occurrences c (contentOf d)
+characters-as-often = occurs-in-image
+
+-- The elements of the image, the root among them, are the filler elements, the path elements and 1. The path elements are summed over the
+-- elements of the document, kind by kind, from tables, embedding and document alone (`pathElements`).
+pub elements-add-up : (s t e : List ℕ) → AcceptedEmbedding s t e → (d : List ℕ) → Conforming (tableOf s) d
+    → 1 + elements (contentOf (imageOf s t e d)) ≡ fillerOf s t e d + pathElements (settingOf s t e) (contentOf d) + 1
+elements-add-up = counted-in-image
+
+-- All of this holds, for any bytes, of what a call of carry that isn't refused has written and answered.
+pub record WentAcross (s t e d written : List ℕ) (filler : ℕ) : Type 0 where
+  pub by-address : ElementsStand s t e d written
+  pub by-offset : OffsetsStand s t e d written
+  pub characters : (c : ℕ) → occurrences c (contentOf written) ≡ occurrences c (contentOf d)
+  pub adds-up : 1 + elements (contentOf written) ≡ filler + pathElements (settingOf s t e) (contentOf d) + 1
+
+pub carried-across : (s t e d out : List ℕ) (n f : ℕ) → carry s t e d out .result ≡ accepted n f → WentAcross s t e d (take n (carry s t e d out .output)) f
+carried-across s t e d out n f h =
+    let it : Carried s t e d out n f = carried-image s t e d out n f h in
+    let embedded = it .embedding-accepted in
+    let conforming = it .source-conforms in
+    rw (it .image-written, it .filler-answered)
+    (record {
+      by-address = elements-stand s t e embedded d conforming;
+      by-offset = offsets-stand s t e embedded d conforming;
+      characters = characters-as-often s t e embedded d conforming;
+      adds-up = elements-add-up s t e embedded d conforming;
+    })

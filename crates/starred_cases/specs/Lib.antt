@@ -4,3 +4,4 @@ pub mod Written
 pub mod Clashes
 pub mod Operations
 pub mod Reading
+pub mod Counted

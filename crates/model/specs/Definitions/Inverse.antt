@@ -68,10 +68,10 @@ located at k = record { at = at; holds = k }
 unfoldable pub openedAt : Located → ℕ
 openedAt l = l .at - 2
 
--- the bytes of the elements before the one at a position counted from 1
+-- the bytes of what stands before the element at a position counted from 1
 unfoldable pub bytesBefore : Content → ℕ → ℕ
 bytesBefore end p = 0
-bytesBefore (char c r) p = 0
+bytesBefore (char c r) p = 2 + bytesBefore r p
 bytesBefore (elem t k r) zero = 0
 bytesBefore (elem t k r) (suc zero) = 0
 bytesBefore (elem t k r) (suc (suc p)) = 3 + length (bytes k) + bytesBefore r (suc p)

@@ -57,7 +57,7 @@ same-equal (elem t k r) (elem u l s) e =
 
 -- ---- levels and bytes
 
-size-char : (c : ℕ) (r : Content) → size (char c r) ≡ 2 + size r
+pub size-char : (c : ℕ) (r : Content) → size (char c r) ≡ 2 + size r
 unfolding bytes
 size-char c r = omega arith
 

@@ -42,10 +42,10 @@ sumBuilt X s (elem t k r) =
 
 built-adds : Adds builtOf
 unfolding builtOf
-built-adds = record { letter-cost = 0; cost = λ built. pick built 1 0; no-cost = refl; of-letter = λ c r. sym (zero-add r); element-cost = λ built t k r. refl }
+built-adds = record { letter-cost = λ c. 0; cost = λ built. pick built 1 0; no-cost = refl; of-letter = λ c r. sym (zero-add r); element-cost = λ built t k r. refl }
 
 -- no path builds anything in filler
-filler-not-built : (T : Table) (t : ℕ) → known builtOf (fillers builtOf T) t ≡ 0
+pub filler-not-built : (T : Table) (t : ℕ) → known builtOf (fillers builtOf T) t ≡ 0
 unfolding builtOf pick
 filler-not-built T t = all-filler builtOf (λ n. n ≡ 0) refl (λ m k r hk hr. omega (arith, hk, hr)) T t
 
@@ -60,7 +60,7 @@ built-rows T =
       of-hole = λ h row. refl;
     }
 
-built-sum : (X : Setting) (s : ℕ) (k : Content) → sumBuilt X s k ≡ sumOf X 0 (ownBuilt X) (itemBuilt X) s k
+built-sum : (X : Setting) (s : ℕ) (k : Content) → sumBuilt X s k ≡ sumOf X (λ c. 0) (ownBuilt X) (itemBuilt X) s k
 unfolding sumBuilt sumOf
 built-sum X s end = refl
 built-sum X s (char c r) = built-sum X s r ∙ sym (zero-add _)

@@ -29,9 +29,9 @@ opened-before l at behind = omega arith
 
 module _ (doc : List ℕ) where
   -- the bytes of the content k begin at an offset, and the 32 that closes the element stands after them
-  record Begins (at : ℕ) (k : Content) : Type 0 where
-    rest : List ℕ
-    follows : drop at doc ≡ bytes k ++ 0x32 ∷ rest
+  pub record Begins (at : ℕ) (k : Content) : Type 0 where
+    pub rest : List ℕ
+    pub follows : drop at doc ≡ bytes k ++ 0x32 ∷ rest
 
   -- the element that l stands for opens in the document
   record Stands (l : Located) : Type 0 where
@@ -44,7 +44,7 @@ module _ (doc : List ℕ) where
   stands-opened {l} a = rw (opened-before l (a .start) (a .behind)) (a .opens)
 
   -- and what it holds begins where l says
-  begins-inside : {at : ℕ} {k : Content} → Opens doc at k → Begins (at + 2) k
+  pub begins-inside : {at : ℕ} {k : Content} → Opens doc at k → Begins (at + 2) k
   begins-inside {at} o = record { rest = o .rest; follows = sym (drop-drop 2 at doc) ∙ ap (drop 2) (o .stands) }
 
   begins-held : {l : Located} → Stands l → Begins (l .at) (l .holds)
@@ -52,7 +52,7 @@ module _ (doc : List ℕ) where
 
   -- ---- content that begins with an element
 
-  element-stands : {at t : ℕ} {k r : Content} (b : Begins at (elem t k r)) → drop at doc ≡ 0x30 ∷ t ∷ (bytes k ++ 0x32 ∷ (bytes r ++ 0x32 ∷ b .rest))
+  pub element-stands : {at t : ℕ} {k r : Content} (b : Begins at (elem t k r)) → drop at doc ≡ 0x30 ∷ t ∷ (bytes k ++ 0x32 ∷ (bytes r ++ 0x32 ∷ b .rest))
   unfolding bytes
   element-stands {t = t} {k} {r} b = b .follows ∙ ap (λ (bs : List ℕ). 0x30 ∷ t ∷ bs) (append-assoc (bytes k) (0x32 ∷ bytes r) (0x32 ∷ b .rest))
 
@@ -67,7 +67,7 @@ module _ (doc : List ℕ) where
       let closed : drop (at + 2 + length inside) doc ≡ 0x32 ∷ more = sym (drop-drop (length inside) (at + 2) doc) ∙ ap (drop (length inside)) held ∙ drop-append-seam inside (0x32 ∷ more) in
       sym (drop-drop 1 (at + 2 + length inside) doc) ∙ ap (drop 1) closed
 
-  next-begins : {at t : ℕ} {k r : Content} → Begins at (elem t k r) → Begins (at + 2 + length (bytes k) + 1) r
+  pub next-begins : {at t : ℕ} {k r : Content} → Begins at (elem t k r) → Begins (at + 2 + length (bytes k) + 1) r
   next-begins {at} {k = k} b = record { rest = b .rest; follows = behind-element at (bytes k) (element-stands b) }
 
   -- ---- one step
@@ -217,9 +217,12 @@ module _ (doc : List ℕ) where
 -- ---- documents
 
 -- the root of a document opens at offset 0
-root-stands : (k : Content) → Stands (document 0 k) (located 2 k)
+pub root-opens : (k : Content) → (o : Opens (document 0 k) 0 k) × (o .type ≡ 0)
 unfolding document bytes
-root-stands k = record { start = 0; behind = refl; opens = record { type = 0; rest = 0x3F ∷ []; stands = ap (λ (bs : List ℕ). 0x30 ∷ 0 ∷ bs) (append-assoc (bytes k) (0x32 ∷ []) (0x3F ∷ [])) } }
+root-opens k = (record { type = 0; rest = 0x3F ∷ []; stands = ap (λ (bs : List ℕ). 0x30 ∷ 0 ∷ bs) (append-assoc (bytes k) (0x32 ∷ []) (0x3F ∷ [])) }, refl)
+
+root-stands : (k : Content) → Stands (document 0 k) (located 2 k)
+root-stands k = record { start = 0; behind = refl; opens = root-opens k .0 }
 
 pub unreadable-opens : (X : Setting) (k : Content) (address : List ℕ) (at : ℕ) → Unreadable X 0 (located 2 k) address at → UnreadableAt (document 0 k) X at
 unreadable-opens X k address at h = missing-stands (document 0 k) X (root-stands k) h

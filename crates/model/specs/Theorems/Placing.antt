@@ -256,7 +256,7 @@ apart-diverge T τ (p ∷ ps) (q ∷ qs) κ e = go (eqb p q) refl (apart-diverge
     go true f rec = later (eqb-true p q f) (rec (sym (behind-shared T τ p q ps qs f) ∙ e))
     go false f rec = at-once f
 
-sequence-diverge : (T : Table) (τ : ℕ) (ms ps qs : List ℕ) → clash T (sequence ms) τ ps qs ≡ false → Diverge ps qs
+pub sequence-diverge : (T : Table) (τ : ℕ) (ms ps qs : List ℕ) → clash T (sequence ms) τ ps qs ≡ false → Diverge ps qs
 unfolding clash clashReason whereOneEnds isThere
 sequence-diverge T τ ms ps qs e = go (parting T τ ps qs .behind) refl
   where

@@ -63,7 +63,7 @@ unfolding firstItem
 item-holds T m no-item f = some-none f refl
 item-holds T m {j = j} (one-item {k = k} hk hr) f = let j-is : k ≡ j = cc in subst (λ (i : Content). Holds T (kindOf T m) i) j-is hk
 
-only-item : (q n m : ℕ) → entry q (n ∷ []) ≡ some m → n ≡ m
+pub only-item : (q n m : ℕ) → entry q (n ∷ []) ≡ some m → n ≡ m
 unfolding entry
 only-item zero n m e = some-none e refl
 only-item (suc zero) n m e = cc

@@ -31,10 +31,10 @@ use Rattle.model.specs.Theorems.ByElements.{Each, each-end, each-elem, b
 
 -- a number for each character and each element
 pub record Adds (B : Builder ℕ) : Type 0 where
-  pub letter-cost : ℕ
+  pub letter-cost : ℕ → ℕ
   pub cost : Bool → ℕ
   pub no-cost : B .none ≡ 0
-  pub of-letter : (c r : ℕ) → B .letter c r ≡ letter-cost + r
+  pub of-letter : (c r : ℕ) → B .letter c r ≡ letter-cost c + r
   pub element-cost : (built : Bool) (t k r : ℕ) → B .element built t k r ≡ (cost built + k) + r
 
 adds-join : {B : Builder ℕ} → Adds B → Joins B
@@ -83,7 +83,7 @@ module _ {T : Table} (B : Builder ℕ) (M : Adds B) (μ : List Symbol → ℕ) (
 
 length-adds : Adds lengthOf
 unfolding lengthOf
-length-adds = record { letter-cost = 2; cost = λ built. 3; no-cost = refl; of-letter = λ c r. refl; element-cost = λ built t k r. refl }
+length-adds = record { letter-cost = λ c. 2; cost = λ built. 3; no-cost = refl; of-letter = λ c r. refl; element-cost = λ built t k r. refl }
 
 length-rows : (T : Table) → RowAdds T lengthOf length-adds (rowLength (fillerLength T))
 unfolding rowLength fillerLength length-adds
@@ -96,7 +96,7 @@ fillBytesOf = record { none = 0; letter = λ c r. r; element = λ built t k r. p
 
 fill-bytes-add : Adds fillBytesOf
 unfolding fillBytesOf
-fill-bytes-add = record { letter-cost = 0; cost = λ built. pick built 0 3; no-cost = refl; of-letter = λ c r. sym (zero-add r); element-cost = λ built t k r. refl }
+fill-bytes-add = record { letter-cost = λ c. 0; cost = λ built. pick built 0 3; no-cost = refl; of-letter = λ c r. sym (zero-add r); element-cost = λ built t k r. refl }
 
 thrice-element : (built : Bool) (k r : ℕ) → 3 * (pick built 0 1 + k + r) ≡ pick built 0 3 + 3 * k + 3 * r
 unfolding pick
@@ -148,19 +148,19 @@ filler-rows T =
 
 -- ---- sums over a source document
 
--- what the content of an element of type s adds, given a row's and an item's row's own part
-unfoldable pub sumOf : Setting → ℕ → (ℕ → Option ℕ → ℕ) → (ℕ → ℕ) → ℕ → Content → ℕ
-sumOf X c own item s end = 0
-sumOf X c own item s (char x r) = c + sumOf X c own item s r
-sumOf X c own item s (elem t k r) = around (kindOf (X .source) s) (item s) + (own t (firstIn k) + sumOf X c own item t k) + sumOf X c own item s r
+-- what the content of an element of type s adds, given a character's cost and a row's and an item's row's own part
+unfoldable pub sumOf : Setting → (ℕ → ℕ) → (ℕ → Option ℕ → ℕ) → (ℕ → ℕ) → ℕ → Content → ℕ
+sumOf X cost own item s end = 0
+sumOf X cost own item s (char c r) = cost c + sumOf X cost own item s r
+sumOf X cost own item s (elem t k r) = around (kindOf (X .source) s) (item s) + (own t (firstIn k) + sumOf X cost own item t k) + sumOf X cost own item s r
 
-length-sum : (X : Setting) (s : ℕ) (k : Content) → sumLength X s k ≡ sumOf X 2 (ownLength X) (itemLength X) s k
+length-sum : (X : Setting) (s : ℕ) (k : Content) → sumLength X s k ≡ sumOf X (λ c. 2) (ownLength X) (itemLength X) s k
 unfolding sumLength sumOf
 length-sum X s end = refl
 length-sum X s (char c r) = rw (length-sum X s r)
 length-sum X s (elem t k r) = rw (length-sum X t k, length-sum X s r)
 
-filler-sum : (X : Setting) (s : ℕ) (k : Content) → sumFiller X s k ≡ sumOf X 0 (ownFiller X) (itemFiller X) s k
+filler-sum : (X : Setting) (s : ℕ) (k : Content) → sumFiller X s k ≡ sumOf X (λ c. 0) (ownFiller X) (itemFiller X) s k
 unfolding sumFiller sumOf
 filler-sum X s end = refl
 filler-sum X s (char c r) = filler-sum X s r ∙ sym (zero-add _)
@@ -224,7 +224,7 @@ module _ (B : Builder ℕ) (M : Adds B) (X : Setting) (valid : Valid X) (μ : Li
   letters-sum : (s : ℕ) {k : Content} → Holds (X .source) text k → lettersOf B (children B X fill k) ≡ adds s k
   unfolding lettersOf children sumOf
   letters-sum s no-character = M .no-cost
-  letters-sum s (one-character {c} {r} ok later) = M .of-letter c (lettersOf B (children B X fill r)) ∙ ap (λ (n : ℕ). M .letter-cost + n) (letters-sum s later)
+  letters-sum s (one-character {c} {r} ok later) = M .of-letter c (lettersOf B (children B X fill r)) ∙ ap (λ (n : ℕ). M .letter-cost c + n) (letters-sum s later)
 
   -- the members of a sequence
   members-sum : {P : ℕ → List ℕ → Type 0} {ms : List ℕ} {pss : List (List ℕ)} {k : Content} (s : ℕ) → around (kindOf (X .source) s) (item s) ≡ 0
@@ -393,7 +393,7 @@ divided-at p ps d (sequence ms) κs left later = omega (arith, later left)
 divided-at p ps d (choice need ms) κs left later = omega (arith, later left)
 divided-at p ps d (list m) κs left later = omega arith
 
-divided-length : (T : Table) (τ : ℕ) (ps : List ℕ) → some-of isList (leaves T τ ps) ≡ true
+pub divided-length : (T : Table) (τ : ℕ) (ps : List ℕ) → some-of isList (leaves T τ ps) ≡ true
     → length (divide T τ ps .before) + suc (length (divide T τ ps .rest)) ≡ length ps
 unfolding divide leaves
 divided-length T τ [] left = true-false left (unfold some-of in refl)
