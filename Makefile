@@ -38,3 +38,5 @@ check-definitions: reference
 	@tools/check-definitions --most 900 --longest 300 tests/data/n8.txt target/generated-operations.txt
 	@target/cargo/release/reference generate 1 600 edited > target/generated-edited.txt
 	@tools/check-definitions --most 900 --longest 300 tests/data/n4.txt target/generated-edited.txt
+	@target/cargo/release/reference generate 1 600 counted > target/generated-counted.txt
+	@tools/check-definitions --most 900 --longest 300 tests/data/n14.txt target/generated-counted.txt

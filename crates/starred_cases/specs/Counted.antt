@@ -4,7 +4,7 @@ use mathlib.Core.List.{List, [], _∷_}
 use Prim.Native.Nat.{ℕ, suc}
 use Rattle.model.specs.Definitions.Content.{contentOf, elements}
 use Rattle.model.specs.Definitions.Image.{Setting, image, imageFiller}
-use Rattle.model.specs.Definitions.Standing.{addresses, standsAt, Standing, standings}
+use Rattle.model.specs.Definitions.Standing.{addresses, standsAt, standings}
 use Rattle.model.specs.Definitions.Counting.{pathElements, occurrences}
 use Rattle.model.specs.Definitions.Entries.{settingOf}
 use Rattle.model.specs.Computing.{definitions}

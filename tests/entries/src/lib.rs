@@ -3,9 +3,11 @@
 //!
 //! A [`Tally`] runs cases through both, compares, and counts the answers of each;
 //! every test of an entry is built on it. [`Explanations`] does the same for the
-//! explanations of clashes, and [`Extensions`] for operations on tables.
-//! [`decimal`] is no entry: it writes a number.
+//! explanations of clashes, [`Extensions`] for operations on tables, and
+//! [`Crossings`] counts what went across. [`decimal`] is no entry: it writes a
+//! number.
 
+mod crossing;
 mod decimal;
 mod explanation;
 mod extension;
@@ -13,6 +15,7 @@ mod setting;
 mod sides;
 mod tally;
 
+pub use crossing::{Across, Crossings, Scan};
 pub use decimal::{decimal, MOST_DIGITS};
 pub use explanation::{call_explain, explain, read_explanation, CExplanation, Explained, Explanations};
 pub use extension::{call_extend, read_extension, Extended, Extensions};

@@ -1,9 +1,9 @@
 //! The vector files agree with the C entries. Where they come from, a program
 //! written independently for most, is said at `lafindry_reference::vectors`.
 
-use lafindry_entries::{ensure, Explained, Explanations, Extended, Extensions, Failure, Tally};
+use lafindry_entries::{ensure, Crossings, Explained, Explanations, Extended, Extensions, Failure, Tally};
 use lafindry_reference::explanation::Reason;
-use lafindry_reference::vectors::{explanations, is_skipped, operations, parse_line, Entry};
+use lafindry_reference::vectors::{crossings, explanations, is_skipped, operations, parse_line, Entry};
 
 /// The entries of paper 01 that are given a tree.
 const FIVE_WITH_TREE: [Entry; 3] = [Entry::JudgeTree, Entry::Carry, Entry::BringBack];
@@ -78,6 +78,18 @@ fn accent_cases_agree() -> Result<(), Failure> {
 #[test]
 fn reading_vectors_agree() -> Result<(), Failure> {
     run_file("n4.txt", 985, &WRITING)
+}
+
+#[test]
+fn counted_vectors_agree() -> Result<(), Failure> {
+    let mut across = Crossings::default();
+    run_lines("n14.txt", |line| {
+        let (crossing, stated) = crossings::parse_line(line).map_err(Failure)?;
+        across.compare_with(&crossing, &stated)
+    })?;
+    let histogram = across.finish("n14.txt", 0)?;
+    let counts = [histogram.total_of(Entry::Carry), histogram.of(Entry::Carry, 0)];
+    ensure(counts == [638, 617], format!("n14.txt: {counts:?} lines and images"))
 }
 
 #[test]

@@ -8,7 +8,7 @@
 
 use crate::embedding::{left, Embedding, TypeMap};
 use crate::table::{ContentModel, Table};
-use crate::tree::{commands, Command, Element};
+use crate::tree::{nodes, Element, Node};
 use crate::{ReadAlong, Refusal, OUTPUT, TREE};
 
 /// Writes the source document at the start of the output and answers its length
@@ -21,7 +21,7 @@ pub fn read_along(
     document: &[u8],
     output: &mut [u8],
 ) -> Result<ReadAlong, Refusal> {
-    let nodes = nodes_of(document);
+    let nodes = nodes(document);
     let followed = vec![false; nodes.len()];
     let mut reading = Reading { source, target, maps: &embedding.maps, nodes: &nodes, followed };
     let root = reading.element(ROOT, 0)?;
@@ -36,43 +36,6 @@ pub fn read_along(
 
 /// The number of the root element.
 const ROOT: usize = 0;
-
-/// An element of the target document: where it is opened, its type, the numbers
-/// of its children, and its characters. Elements are numbered in document order.
-struct Node {
-    offset: usize,
-    element_type: u8,
-    children: Vec<usize>,
-    characters: Vec<u8>,
-}
-
-/// The elements of a tree of right form.
-fn nodes_of(document: &[u8]) -> Vec<Node> {
-    let mut nodes: Vec<Node> = Vec::new();
-    let mut open: Vec<usize> = Vec::new();
-    for (offset, command) in commands(document) {
-        match command {
-            Command::Open(element_type) => {
-                let number = nodes.len();
-                if let Some(&parent) = open.last() {
-                    nodes[parent].children.push(number);
-                }
-                open.push(number);
-                nodes.push(Node { offset, element_type, children: Vec::new(), characters: Vec::new() });
-            }
-            Command::Character(character) => {
-                if let Some(&text) = open.last() {
-                    nodes[text].characters.push(character);
-                }
-            }
-            Command::Close => {
-                open.pop();
-            }
-            Command::End => {}
-        }
-    }
-    nodes
-}
 
 /// What the paths of one source element lead to.
 #[derive(Default)]

@@ -2,13 +2,15 @@
 //! [`lists`], which clause about lists on the paths of choices; in
 //! [`characters`], which clause about characters; in [`clashes`], what the
 //! explanation of a clash shows; in [`operations`], what an operation on a table
-//! shows; in [`reading`], what reading along the paths shows.
+//! shows; in [`reading`], what reading along the paths shows; in [`crossings`],
+//! what a count of what went across shows.
 //!
 //! A refusal is given a clause where the other clauses of the same check hold
 //! at the place that it marks, so that the clause is seen apart.
 
 pub mod characters;
 pub mod clashes;
+pub mod crossings;
 mod embeddings;
 mod images;
 pub mod lists;

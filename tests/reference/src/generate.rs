@@ -20,12 +20,14 @@
 //! | [`bunches`] | paths of one source type with what they go through, some clashing |
 //! | [`clashes`] | clashing embeddings, and questions why they clash |
 //! | [`cases`] | an entry with all its documents |
+//! | [`crossings`] | documents that go across, to be counted |
 //! | [`edits`] | images in which something is changed, to be read along the paths |
 //! | [`operations`] | rows of operations on a table, and such rows as documents |
 
 pub mod bunches;
 pub mod cases;
 pub mod clashes;
+pub mod crossings;
 pub mod damage;
 pub mod detours;
 pub mod edits;
@@ -39,6 +41,7 @@ pub use cases::{
     random_small_optional_case, World,
 };
 pub use clashes::{random_question, random_small_question};
+pub use crossings::{crossing_of, damaged_crossing, random_small_crossing};
 pub use edits::{edited_case, random_small_edited_case, Edits};
 pub use embeddings::{random_embedded, Embedded};
 pub use operations::{random_extension, random_row, random_small_extension, random_small_row};

@@ -1,8 +1,8 @@
 //! A reference for the five entries of paper 01, with the optional choices of
 //! paper 02 (N3), its lists on the paths of choices (N6) and its accents (N5),
-//! for its reading along the paths (N4), its explanation of clashing paths (N9)
-//! and its operations on a table (N8), written from these papers and the lists of
-//! readings alone, in plain Rust.
+//! for its reading along the paths (N4), its count of what went across (N14), its
+//! explanation of clashing paths (N9) and its operations on a table (N8), written
+//! from these papers and the lists of readings alone, in plain Rust.
 //!
 //! | Entry | Function |
 //! |---|---|
@@ -12,6 +12,7 @@
 //! | carry | [`carry`] |
 //! | bring back | [`bring_back`] |
 //! | read along the paths | [`read_along`] |
+//! | count what went across | [`count_across`] |
 //! | explain a clash | [`explain_clash`] |
 //! | extend a table | [`extend_table`] |
 //!
@@ -20,6 +21,7 @@
 
 pub mod along;
 pub mod clauses;
+pub mod counted;
 pub mod embedding;
 pub mod explanation;
 pub mod extension;
@@ -32,6 +34,7 @@ pub mod table;
 pub mod tree;
 pub mod vectors;
 
+pub use counted::count_across;
 pub use explanation::explain_clash;
 pub use extension::extend_table;
 

@@ -16,7 +16,11 @@
 //! - `reference generate SEED COUNT edited` prints small target documents read
 //!   along the paths, images edited in some way, spread over the answers and what
 //!   a reading shows.
+//! - `reference generate SEED COUNT counted` prints small documents that go across,
+//!   counted, spread over what the counts show.
 //! - `reference ENTRY FILE.. [OUTLEN]` runs one entry on documents in files.
+//! - `reference counted SOURCE TARGET EMBEDDING TREE` counts what goes across, for
+//!   documents in files.
 //! - `reference explain SOURCE TARGET EMBEDDING` says why paths clash, for
 //!   documents in files.
 //! - `reference extend TABLE OPERATIONS` carries out operations on a table, for
@@ -24,16 +28,21 @@
 
 use lafindry_reference::clauses::characters::{self, CharacterClause};
 use lafindry_reference::clauses::clashes::{self, ClashClause};
+use lafindry_reference::clauses::crossings::{self, CrossingClause};
 use lafindry_reference::clauses::lists::{self, ListClause};
 use lafindry_reference::clauses::operations::{self as operation_clauses, OperationClause};
 use lafindry_reference::clauses::reading::{self, ReadingClause};
 use lafindry_reference::clauses::{self, Clause};
+use lafindry_reference::counted::Counted;
 use lafindry_reference::explanation::Explanation;
 use lafindry_reference::extension::{Operation, Report, MOST_REPORT};
 use lafindry_reference::generate::{
-    random_case, random_small_accented_case, random_small_case, random_small_edited_case,
-    random_small_extension, random_small_listed_case, random_small_optional_case, random_small_question,
-    random_small_row, Rng,
+    random_case, random_small_accented_case, random_small_case, random_small_crossing,
+    random_small_edited_case, random_small_extension, random_small_listed_case, random_small_optional_case,
+    random_small_question, random_small_row, Rng,
+};
+use lafindry_reference::vectors::crossings::{
+    self as crossing_lines, is_crossing, Crossing, Stated, COUNTED,
 };
 use lafindry_reference::vectors::explanations::{self, is_question, Question, EXPLAIN};
 use lafindry_reference::vectors::operations::{self, is_extension, is_row, Extension, Row};
@@ -44,8 +53,9 @@ use std::io::Write;
 use std::process::ExitCode;
 
 const USAGE: &str = "usage: reference vectors FILE..
-       reference generate SEED COUNT [small|optional|lists|accents|clashes|operations|edited]
+       reference generate SEED COUNT [small|optional|lists|accents|clashes|operations|edited|counted]
        reference ENTRY FILE.. [OUTLEN]
+       reference counted SOURCE TARGET EMBEDDING TREE
        reference explain SOURCE TARGET EMBEDDING
        reference extend TABLE OPERATIONS";
 
@@ -62,6 +72,8 @@ fn main() -> ExitCode {
         ["generate", seed, count, "clashes"] => generate_spread(seed, count, CLASHES),
         ["generate", seed, count, "operations"] => generate_spread(seed, count, ON_TABLES),
         ["generate", seed, count, "edited"] => generate_spread(seed, count, EDITED),
+        ["generate", seed, count, "counted"] => generate_spread(seed, count, ACROSS),
+        [COUNTED, source, target, embedding, tree] => count([source, target, embedding, tree]),
         [EXPLAIN, source, target, embedding] => explain([source, target, embedding]),
         ["extend", table, operations] => extend([table, operations]),
         [entry, ref files @ ..] => run_entry(entry, files),
@@ -114,6 +126,8 @@ fn run_vectors(files: &[&str]) -> Result<bool, String> {
 fn kind_of_line(line: &str) -> Result<Kind, String> {
     if is_question(line) {
         explanations::check_line(line).map(|(_, explanation)| explained_kind(&explanation))
+    } else if is_crossing(line) {
+        crossing_lines::check_line(line).map(|(_, counted)| counted_kind(&counted))
     } else if is_row(line) {
         operations::check_line(line).map(|(row, report)| row_kind(&row, &report))
     } else if is_extension(line) {
@@ -156,6 +170,16 @@ fn extended_kind(answer: &Answer) -> Kind {
         Answer::Ok { .. } => (400, 0, "extended".to_string()),
         Answer::Refused(Refusal { number, document, .. }) => {
             (400 + number, *document, format!("not extended: refused {number} {document}"))
+        }
+    }
+}
+
+/// The kind of what is counted, after all others.
+fn counted_kind(counted: &Result<Counted, Refusal>) -> Kind {
+    match counted {
+        Ok(_) => (500, 0, "counted".to_string()),
+        Err(Refusal { number, document, .. }) => {
+            (500 + number, *document, format!("not counted: refused {number} {document}"))
         }
     }
 }
@@ -233,6 +257,18 @@ fn drawn_extension(extension: Extension) -> Result<Drawn<OperationClause>, Strin
     Ok(Drawn { line: format!("{extension} -> {answer}"), kind: extended_kind(&answer), clause: None })
 }
 
+/// Documents that go across, grouped by what the count shows. All refusals are in
+/// one group, as they are those of carrying.
+fn drawn_crossing(crossing: Crossing) -> Drawn<CrossingClause> {
+    let counted = crossing.run();
+    let clause = crossings::shown(&crossing, &counted).last().copied();
+    let kind = match counted {
+        Ok(_) => counted_kind(&counted),
+        Err(_) => (501, 0, "not counted".to_string()),
+    };
+    Drawn { line: format!("{crossing} -> {}", Stated::of(&counted)), kind, clause }
+}
+
 /// Those with an optional choice.
 const OPTIONAL: Spread<Clause> = Spread {
     word: "optional",
@@ -296,6 +332,15 @@ const EDITED: Spread<ReadingClause> = Spread {
     clauses: &ReadingClause::ALL,
 };
 
+/// Those that are counted.
+const ACROSS: Spread<CrossingClause> = Spread {
+    word: "counted",
+    text: "random documents that go across,
+# counted, spread over what the counts show; the answers are the reference's.",
+    draw: |rng| Ok(drawn_crossing(random_small_crossing(rng))),
+    clauses: &CrossingClause::ALL,
+};
+
 /// Cases by the kind of their answer and by a clause that they show.
 type Groups<C> = BTreeMap<(Kind, Option<C>), Vec<String>>;
 
@@ -340,6 +385,14 @@ fn run_entry(name: &str, words: &[&str]) -> Result<bool, String> {
     let documents = files.iter().map(|file| read(file)).collect::<Result<_, _>>()?;
     let case = Case { entry, documents, output_length: length.parse().map_err(|_| USAGE)? };
     println!("{}", case.run()?);
+    Ok(true)
+}
+
+/// Counts what goes across, for documents in files.
+fn count(files: [&str; 4]) -> Result<bool, String> {
+    let [source, target, embedding, tree] = files.map(read);
+    let crossing = Crossing { documents: [source?, target?, embedding?, tree?] };
+    println!("{}", Stated::of(&crossing.run()));
     Ok(true)
 }
 

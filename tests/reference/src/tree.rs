@@ -242,3 +242,41 @@ pub fn build(bytes: &[u8]) -> Element {
     }
     open.swap_remove(0).children.swap_remove(0)
 }
+
+/// An element by its number, in document order from 0: where it is opened, its
+/// type, the numbers of its children, and its characters.
+#[derive(Debug, Clone, PartialEq, Eq)]
+pub struct Node {
+    pub offset: usize,
+    pub element_type: u8,
+    pub children: Vec<usize>,
+    pub characters: Vec<u8>,
+}
+
+/// The elements of a tree of right form.
+pub fn nodes(bytes: &[u8]) -> Vec<Node> {
+    let mut nodes: Vec<Node> = Vec::new();
+    let mut open: Vec<usize> = Vec::new();
+    for (offset, command) in commands(bytes) {
+        match command {
+            Command::Open(element_type) => {
+                let number = nodes.len();
+                if let Some(&parent) = open.last() {
+                    nodes[parent].children.push(number);
+                }
+                open.push(number);
+                nodes.push(Node { offset, element_type, children: Vec::new(), characters: Vec::new() });
+            }
+            Command::Character(character) => {
+                if let Some(&text) = open.last() {
+                    nodes[text].characters.push(character);
+                }
+            }
+            Command::Close => {
+                open.pop();
+            }
+            Command::End => {}
+        }
+    }
+    nodes
+}

@@ -5,16 +5,17 @@
 //! entry DOC.. [OUTLEN] -> refused NUMBER DOCUMENT MARK
 //! ```
 //!
-//! Documents and OUTPUT are in hexadecimal, `-` for no bytes. Lines that ask why
-//! paths clash, and lines of operations on a table, have forms of their own, in
-//! [`explanations`] and [`operations`].
+//! Documents and OUTPUT are in hexadecimal, `-` for no bytes. Lines that count what
+//! went across, lines that ask why paths clash, and lines of operations on a table
+//! have forms of their own, in [`crossings`], [`explanations`] and [`operations`].
 //!
 //! The vectors of `tests/data`, `base.txt`, `n3.txt`, `n6.txt`, `n5.txt`,
-//! `n9.txt`, `n8.txt` and `n4.txt`, were computed by another program, written
-//! independently, from the papers alone. 10 of `base.txt` and 30 of `n3.txt`
-//! have the reference's answers since N6. The files `cases-*.txt` are worked
-//! cases, and cases that the reference made.
+//! `n9.txt`, `n8.txt`, `n4.txt` and `n14.txt`, were computed by another program,
+//! written independently, from the papers alone. 10 of `base.txt` and 30 of
+//! `n3.txt` have the reference's answers since N6. The files `cases-*.txt` are
+//! worked cases, and cases that the reference made.
 
+pub mod crossings;
 pub mod explanations;
 pub mod operations;
 
@@ -286,6 +287,6 @@ pub fn check_line(line: &str) -> Result<(Case, Answer), String> {
 }
 
 /// The text of an answer, cut after 200 characters.
-fn shorten(answer: &Answer) -> String {
+fn shorten(answer: &impl fmt::Display) -> String {
     answer.to_string().chars().take(200).collect()
 }

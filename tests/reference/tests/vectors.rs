@@ -2,8 +2,10 @@
 //! Where they come from is said at `lafindry_reference::vectors`.
 
 use lafindry_reference::generate::{
-    random_extension, random_row, random_small_case, random_small_edited_case, random_small_question, Rng,
+    random_extension, random_row, random_small_case, random_small_crossing, random_small_edited_case,
+    random_small_question, Rng,
 };
+use lafindry_reference::vectors::crossings::{self, is_crossing};
 use lafindry_reference::vectors::explanations::{self, is_question, Stated};
 use lafindry_reference::vectors::operations::{self, is_extension, is_row};
 use lafindry_reference::vectors::{check_line, from_hex, is_skipped, parse_line, to_hex};
@@ -87,6 +89,65 @@ fn wrong_readings_are_errors() {
     ];
     for (right, other) in wrong {
         assert!(check_line(&line.replace(right, other)).is_err(), "{other}");
+    }
+}
+
+#[test]
+fn counted_vectors_agree() {
+    let lines = run_lines("n14.txt", |line| {
+        assert!(is_crossing(line));
+        crossings::check_line(line).map(|_| ())
+    });
+    assert_eq!(lines, 638);
+}
+
+#[test]
+fn a_printed_count_is_read_back() {
+    let mut rng = Rng::new(14);
+    for _ in 0..500 {
+        let crossing = random_small_crossing(&mut rng);
+        let stated = crossings::Stated::of(&crossing.run());
+        let line = format!("{crossing} -> {stated}");
+        assert!(is_crossing(&line));
+        assert_eq!(crossings::parse_line(&line), Ok((crossing, stated)));
+    }
+}
+
+#[test]
+fn wrong_counts_are_errors() {
+    let line = "counted 1401101f 140114021403101f 2000212201220120022122012f 3000300132300132323f \
+                -> ok 7 0 6 0@0,1@4,1@13";
+    assert!(crossings::check_line(line).is_ok(), "{line}");
+    let wrong = [
+        ("ok 7", "ok 8"),
+        ("7 0 6", "7 1 6"),
+        ("0 6 ", "0 5 "),
+        ("1@4", "1@6"),
+        ("1@4", "2@4"),
+        ("1@4,1@13", "1@13,1@4"),
+        (",1@13", ""),
+        ("1@13", "1@13,1@13"),
+        ("32323f ->", "3232 ->"),
+    ];
+    for (right, other) in wrong {
+        let line = line.replace(right, other);
+        assert!(crossings::parse_line(&line).is_ok() && crossings::check_line(&line).is_err(), "{line}");
+    }
+    let unread = [
+        ("counted", "carry"),
+        ("counted 1401101f", "counted"),
+        (" ->", " 60000 ->"),
+        ("->", ""),
+        ("ok", ""),
+        ("0@0,1@4,1@13", ""),
+        ("1@4", "1"),
+        ("1@4", "256@4"),
+        ("1@4", "1@"),
+        ("1@4", ""),
+    ];
+    for (right, other) in unread {
+        let line = line.replace(right, other);
+        assert!(crossings::parse_line(&line).is_err(), "{line}");
     }
 }
 

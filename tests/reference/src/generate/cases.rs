@@ -214,7 +214,7 @@ impl World {
     }
 
     /// The tables, the embedding and the source tree.
-    fn all_documents(&self) -> [Vec<u8>; 4] {
+    pub(super) fn all_documents(&self) -> [Vec<u8>; 4] {
         let Embedded { source, target, embedding } = &self.embedded;
         [source.to_bytes(), target.to_bytes(), embedding.to_bytes(), self.tree.to_bytes()]
     }
