@@ -21,7 +21,7 @@ pub mod Templates
 pub mod Inverse
 pub mod LeftOut
 pub mod Unreadable
-pub mod Standing
+pub mod Correspondence
 pub mod Counting
 pub mod SingleItems
 pub mod Refusals

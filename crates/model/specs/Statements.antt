@@ -32,7 +32,7 @@ use Rattle.model.specs.Definitions.Valid.{WrittenBy, ValidTree}
 use Rattle.model.specs.Definitions.Inverse.{follow, Located, located, yields, readTo, reading, readBack}
 use Rattle.model.specs.Definitions.LeftOut.{onPaths, leftOut}
 use Rattle.model.specs.Definitions.Unreadable.{PathMissing, Opens, FirstUnreadable}
-use Rattle.model.specs.Definitions.Standing.{Element, elementOf, elementAt, addresses, standsAt, OpensAs, standings}
+use Rattle.model.specs.Definitions.Correspondence.{Element, elementWith, elementAt, addresses, standsAt, OpensAs, correspondences}
 use Rattle.model.specs.Definitions.Counting.{pathElements, occurrences}
 use Rattle.model.specs.Definitions.SingleItems.{singleItems}
 use Rattle.model.specs.Definitions.Refusals.{Fault, bad-form, wrong-steps, path-clash, too-long, over-limit, source-table, embedding, tree, Refusal, faulty, output-too-short, no-image, unreadable, image-too-deep, image-too-long, no-choice, numbersOf, has, maxLength}
@@ -81,8 +81,8 @@ use Rattle.model.specs.Theorems.Kept.{kept-left}
 use Rattle.model.specs.Theorems.ReadingOnBytes.{read-of-image, read-like-brought, read-conforming, left-is-bare-image, told-by-what-is-left, refused-17, read-only}
 use Rattle.model.specs.Theorems.Offsets.{mark-17-opens}
 use Rattle.model.specs.Theorems.Facts.{All, Pairs}
-use Rattle.model.specs.Theorems.Standing.{none-share}
-use Rattle.model.specs.Theorems.StandingOffsets.{listed-exactly, standings-count, standings-in-order, standings-in-image, standings-apart}
+use Rattle.model.specs.Theorems.Correspondence.{none-share}
+use Rattle.model.specs.Theorems.CorrespondenceOffsets.{listed-exactly, correspondences-count, correspondences-in-order, correspondences-in-image, correspondences-apart}
 use Rattle.model.specs.Theorems.WentAcross.{stands-in-image, opens-in-source, occurs-in-image, counted-in-image, Carried, carried-image}
 
 -- ---- 1. conforming and bytes
@@ -636,7 +636,7 @@ reads-only = read-only
 -- is mapped to, and no two stand at the same. Where an element stands is found from the paths alone (`standsAt`).
 pub record ElementsStand (s t e d written : List ℕ) : Type 0 where
   pub at-an-element : (a : List ℕ) (x : Element) → elementAt 0 (contentOf d) a ≡ some x
-      → (l : Content) × (elementAt 0 (contentOf written) (standsAt (settingOf s t e) 0 (contentOf d) a) ≡ some (elementOf (targetOf (embeddingOf e) (x .type)) l))
+      → (l : Content) × (elementAt 0 (contentOf written) (standsAt (settingOf s t e) 0 (contentOf d) a) ≡ some (elementWith (targetOf (embeddingOf e) (x .type)) l))
   pub none-shared : (a b : List ℕ) (x y : Element) → elementAt 0 (contentOf d) a ≡ some x → elementAt 0 (contentOf d) b ≡ some y
       → standsAt (settingOf s t e) 0 (contentOf d) a ≡ standsAt (settingOf s t e) 0 (contentOf d) b → a ≡ b
 
@@ -647,16 +647,16 @@ elements-stand s t e a d c =
       none-shared = λ b f x y. none-share (settingOf s t e) (judges-valid s t e (judges-accept s t e (a .1))) (contentOf d) (conforming-content c .1) b f;
     }
 
--- The same by offsets in the bytes of the two documents. `standings` has a row for each element of the document, with its type, its
+-- The same by offsets in the bytes of the two documents. `correspondences` has a row for each element of the document, with its type, its
 -- offset and the offset at which it stands in the image. As many rows as elements, in the order of the document, so that each element
 -- has one; at each offset an element opens, in the image of the type that the row's is mapped to; and no two rows have the same
 -- offset in the image.
 pub record OffsetsStand (s t e d written : List ℕ) : Type 0 where
-  pub each-listed : length (standings (settingOf s t e) (contentOf d)) ≡ 1 + elements (contentOf d)
-  pub in-order : Pairs (λ p q. p .offset < q .offset) (standings (settingOf s t e) (contentOf d))
-  pub in-source : All (λ p. OpensAs d (p .offset) (p .type)) (standings (settingOf s t e) (contentOf d))
-  pub in-image : All (λ p. OpensAs written (p .image-offset) (targetOf (embeddingOf e) (p .type))) (standings (settingOf s t e) (contentOf d))
-  pub none-shared : Pairs (λ p q. p .image-offset ≡ q .image-offset → ⊥) (standings (settingOf s t e) (contentOf d))
+  pub each-listed : length (correspondences (settingOf s t e) (contentOf d)) ≡ 1 + elements (contentOf d)
+  pub in-order : Pairs (λ p q. p .offset < q .offset) (correspondences (settingOf s t e) (contentOf d))
+  pub in-source : All (λ p. OpensAs d (p .offset) (p .type)) (correspondences (settingOf s t e) (contentOf d))
+  pub in-image : All (λ p. OpensAs written (p .image-offset) (targetOf (embeddingOf e) (p .type))) (correspondences (settingOf s t e) (contentOf d))
+  pub none-shared : Pairs (λ p q. p .image-offset ≡ q .image-offset → ⊥) (correspondences (settingOf s t e) (contentOf d))
 
 pub offsets-stand : (s t e : List ℕ) → AcceptedEmbedding s t e → (d : List ℕ) → Conforming (tableOf s) d → OffsetsStand s t e d (imageOf s t e d)
 offsets-stand s t e a d c =
@@ -665,11 +665,11 @@ offsets-stand s t e a d c =
     let valid = judges-valid s t e (judges-accept s t e (a .1)) in
     let held = conforming-content c .1 in
     record {
-      each-listed = standings-count X valid k held;
-      in-order = standings-in-order X valid k held;
+      each-listed = correspondences-count X valid k held;
+      in-order = correspondences-in-order X valid k held;
       in-source = opens-in-source s t e a d c;
-      in-image = standings-in-image X valid k held;
-      none-shared = standings-apart X valid k held;
+      in-image = correspondences-in-image X valid k held;
+      none-shared = correspondences-apart X valid k held;
     }
 
 -- The rows are those of `addresses`, which lists exactly the addresses of elements.

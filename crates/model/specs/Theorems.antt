@@ -61,8 +61,8 @@ pub mod Unreadable
 pub mod ReadingAlong
 pub mod ReadingOnBytes
 pub mod Offsets
-pub mod Standing
-pub mod StandingOffsets
+pub mod Correspondence
+pub mod CorrespondenceOffsets
 pub mod PathElements
 pub mod Occurrences
 pub mod WentAcross

@@ -4,7 +4,7 @@ use mathlib.Core.List.{List, [], _∷_}
 use Prim.Native.Nat.{ℕ, suc}
 use Rattle.model.specs.Definitions.Content.{contentOf, elements}
 use Rattle.model.specs.Definitions.Image.{Setting, image, imageFiller}
-use Rattle.model.specs.Definitions.Standing.{addresses, standsAt, standings}
+use Rattle.model.specs.Definitions.Correspondence.{addresses, standsAt, correspondences}
 use Rattle.model.specs.Definitions.Counting.{pathElements, occurrences}
 use Rattle.model.specs.Definitions.Entries.{settingOf}
 use Rattle.model.specs.Computing.{definitions}
@@ -45,7 +45,7 @@ pub record CountedCases : Type 0 where
   pub patch-addresses : addresses (contentOf tree) ≡ [] ∷ (0 ∷ []) ∷ (1 ∷ []) ∷ (1 ∷ 0 ∷ []) ∷ []
   pub text-stands : standsAt patch 0 (contentOf tree) (0 ∷ []) ≡ 0 ∷ 0 ∷ []
   pub member-stands : standsAt patch 0 (contentOf tree) (1 ∷ 0 ∷ []) ≡ 1 ∷ 0 ∷ []
-  pub patch-standings : standings patch (contentOf tree)
+  pub patch-correspondences : correspondences patch (contentOf tree)
       ≡ record { type = 0; offset = 0; image-offset = 0 } ∷ record { type = 1; offset = 2; image-offset = 4 } ∷ record { type = 2; offset = 7; image-offset = 13 }
       ∷ record { type = 3; offset = 9; image-offset = 15 } ∷ []
   -- its one character
@@ -70,7 +70,7 @@ counted-cases =
       patch-addresses = refl;
       text-stands = refl;
       member-stands = refl;
-      patch-standings = refl;
+      patch-correspondences = refl;
       patch-character = refl;
       other-character = refl;
       shared-once = refl;

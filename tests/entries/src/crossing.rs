@@ -10,7 +10,7 @@ use crate::sides::{Side, Sides};
 use crate::tally::{Histogram, Tally};
 use crate::{ensure, Failure};
 use lafindry_reference::clauses::crossings::{shown, CrossingClause};
-use lafindry_reference::counted::{Counted, Counting, Standing};
+use lafindry_reference::counted::{Correspondence, Counted, Counting};
 use lafindry_reference::tree;
 use lafindry_reference::vectors::crossings::{Crossing, Stated};
 use lafindry_reference::vectors::{Answer, Case, Entry};
@@ -72,7 +72,7 @@ impl Across {
         };
         let path = counting.path_elements(&tree::build(tree));
         let standing = counting.standing(tree, &self.image).ok_or("a path is not there")?;
-        let at = |one: &Standing| (one.image, counting.mapped(one.element_type));
+        let at = |one: &Correspondence| (one.image, counting.mapped(one.element_type));
         let sources: Vec<(usize, u8)> = standing.iter().map(|one| (one.source, one.element_type)).collect();
         let distinct: BTreeSet<usize> = standing.iter().map(|one| one.image).collect();
         let tests = [

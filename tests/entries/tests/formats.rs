@@ -4,9 +4,12 @@
 
 mod page;
 
-use lafindry_entries::{ensure, report, Explained, Explanations, Extended, Extensions, Failure, Tally};
+use lafindry_entries::{
+    ensure, report, Crossings, Explained, Explanations, Extended, Extensions, Failure, Tally,
+};
 use lafindry_reference::explanation::Reason;
 use lafindry_reference::table::accept;
+use lafindry_reference::vectors::crossings::{self, Crossing};
 use lafindry_reference::vectors::{Answer, Case, Entry};
 use lafindry_reference::{MOST_BYTES, SOURCE, TARGET};
 use page::examples::{Asked, Example, Examples};
@@ -24,13 +27,15 @@ fn page_text() -> Result<String, Failure> {
     String::from_utf8(content(PAGE)?).map_err(|error| Failure(format!("{PAGE}: {error}")))
 }
 
-/// What a page has: its cases, the images among their answers brought back,
-/// explanations of clashes, operations on tables, drawings, and rows of bytes
-/// elsewhere.
+/// What a page has: its cases, the images among their answers brought back and
+/// those that it counts, explanations of clashes, operations on tables, drawings,
+/// and rows of bytes elsewhere.
 #[derive(Default)]
 struct Seen {
     cases: Tally,
     returns: Tally,
+    crossings: Crossings,
+    counted: usize,
     explanations: Explanations,
     extensions: Extensions,
     drawings: usize,
@@ -53,14 +58,17 @@ fn check_page(text: &str) -> Result<Seen, Failure> {
 /// Compares the page's answer with the reference's and with the library's. A
 /// document that was carried has to come back.
 fn check_example(example: &Example, seen: &mut Seen) -> Result<(), Failure> {
-    let (case, answer, heights) = match &example.asked {
-        Asked::Entry { case, answer, heights } => (case, answer, heights),
+    let (case, answer, heights, counted) = match &example.asked {
+        Asked::Entry { case, answer, heights, counted } => (case, answer, heights, counted),
         Asked::Explanation { question, stated } => return seen.explanations.compare_with(question, stated),
         Asked::Extension { extension, answer } => return seen.extensions.compare_with(extension, answer),
     };
     seen.cases.compare_with(case, answer)?;
     if let Some(heights) = heights {
         check_heights(case, heights)?;
+    }
+    if let Some(stated) = counted {
+        check_counted(case, stated, seen)?;
     }
     match (case.entry, answer) {
         (Entry::Carry, Answer::Ok { output, .. }) => comes_back(case, output, &mut seen.returns),
@@ -76,6 +84,13 @@ fn check_heights(case: &Case, heights: &[u64]) -> Result<(), Failure> {
     ensure(given == heights, format!("the page has heights {heights:?}, the reference gives {given:?}"))
 }
 
+/// Fails unless what went across is counted so.
+fn check_counted(case: &Case, stated: &crossings::Stated, seen: &mut Seen) -> Result<(), Failure> {
+    let documents = case.documents.clone().try_into().map_err(|_| Failure("not four documents".into()))?;
+    seen.counted += 1;
+    seen.crossings.compare_with(&Crossing { documents }, stated)
+}
+
 /// Fails unless an image gives the tree that was carried.
 fn comes_back(case: &Case, image: &[u8], tally: &mut Tally) -> Result<(), Failure> {
     let mut documents = case.documents.clone();
@@ -89,9 +104,12 @@ fn comes_back(case: &Case, image: &[u8], tally: &mut Tally) -> Result<(), Failur
 #[test]
 fn examples_of_the_page_agree() -> Result<(), Failure> {
     let text = page_text()?;
-    let Seen { cases, returns, explanations, extensions, drawings, spans } = check_page(&text)?;
+    let Seen { cases, returns, crossings, counted, explanations, extensions, drawings, spans } =
+        check_page(&text)?;
     let histogram = cases.finish(PAGE)?;
     returns.finish(&format!("{PAGE}, images brought back"))?;
+    crossings.finish(&format!("{PAGE}, images counted"), 0)?;
+    ensure(counted >= 9, format!("only {counted} images counted"))?;
     let explained = explanations.finish(&format!("{PAGE}, explanations"))?;
     let documents = extensions.total();
     let extended = extensions.finish(&format!("{PAGE}, operations"))?;
@@ -178,7 +196,7 @@ fn changed(line: &str, inside: Option<&str>) -> Vec<String> {
         Some("case") if line.starts_with("answer: ") => {
             return other_number(line).into_iter().chain(other_reason(line)).collect();
         }
-        Some("case") if line.starts_with("heights: ") => other_number(line),
+        Some("case") if line.starts_with("heights: ") || line.starts_with("counted: ") => other_number(line),
         Some("case") if line.starts_with("output: ") || line.starts_with("report: ") => {
             other_byte(line, "output: ".len(), 1)
         }
@@ -319,6 +337,41 @@ fn readings_on_a_page_are_read() -> Result<(), Failure> {
         ("refused 17 4 0", "refused 15 4 0"),
     ];
     ensure_noticed(READING, &wrong)
+}
+
+/// A page with an image that is counted: a list of two texts, one step before the
+/// list.
+const COUNTING: &str = "\
+```case
+entry: carry
+source: 14 01 10 1F
+target: 12 15 01 14 02 10 1F
+embedding: 20 00 21 22 01 22 01 20 02 21 2F
+tree: 30 00 30 01 32 30 01 32 32 3F
+answer: carried 13 0
+output: 30 00 30 01 30 02 32 30 02 32 32 32 3F
+counted: 4 0 3 0@0,1@4,1@7
+```
+";
+
+#[test]
+fn counts_on_a_page_are_read() -> Result<(), Failure> {
+    let seen = check_page(COUNTING)?;
+    ensure(seen.counted == 1, format!("{} images counted", seen.counted))?;
+    seen.crossings.finish("a page with a count", 0)?;
+    let tried = try_changes(COUNTING)?;
+    ensure(tried == 3, format!("{tried} changes tried"))?;
+    let wrong = [
+        ("counted: 4 0 3 ", "counted: 5 0 4 "),
+        ("counted: 4 0 3 ", "counted: 4 1 2 "),
+        ("counted: 4 0 3 ", "counted: 4 0 "),
+        ("0@0,1@4,1@7", "0@0,1@4"),
+        ("0@0,1@4,1@7", "0@0,1@7,1@4"),
+        ("0@0,1@4,1@7", "0@0,2@4,2@7"),
+        ("entry: carry", "entry: bring back"),
+        ("carried 13 0", "refused 13 5 0"),
+    ];
+    ensure_noticed(COUNTING, &wrong)
 }
 
 /// A page with operations on a table, accepted and refused.

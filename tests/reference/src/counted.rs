@@ -14,7 +14,7 @@ use std::collections::BTreeSet;
 /// A source element: its type, its offset in the source document, and the offset
 /// in the image of the element that it stands at.
 #[derive(Debug, Clone, Copy, PartialEq, Eq, PartialOrd, Ord)]
-pub struct Standing {
+pub struct Correspondence {
     pub element_type: u8,
     pub source: usize,
     pub image: usize,
@@ -27,7 +27,7 @@ pub struct Counted {
     pub elements: u64,
     pub filler: u64,
     pub path: u64,
-    pub standing: Vec<Standing>,
+    pub standing: Vec<Correspondence>,
 }
 
 /// Carries a tree with as much output as there may be, and counts its image.
@@ -112,7 +112,7 @@ impl Counting {
 
     /// Where each source element of a tree stands in its image, in document order;
     /// none where the image lacks what a path should lead through.
-    pub fn standing(&self, tree: &[u8], image: &[u8]) -> Option<Vec<Standing>> {
+    pub fn standing(&self, tree: &[u8], image: &[u8]) -> Option<Vec<Correspondence>> {
         let (elements, image) = (tree::nodes(tree), tree::nodes(image));
         let walk = Walk { counting: self, image: &image };
         // The root stands at the root. An element comes before its children.
@@ -125,7 +125,7 @@ impl Counting {
         }
         let standing = elements.iter().zip(at).map(|(element, at)| {
             let (element_type, source) = (element.element_type, element.offset);
-            Standing { element_type, source, image: image[at].offset }
+            Correspondence { element_type, source, image: image[at].offset }
         });
         Some(standing.collect())
     }

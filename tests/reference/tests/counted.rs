@@ -3,7 +3,7 @@
 
 use lafindry_reference::clauses::crossings::{shown, CrossingClause};
 use lafindry_reference::clauses::reading::Survey;
-use lafindry_reference::counted::{occurrences, Counted, Counting, Standing};
+use lafindry_reference::counted::{occurrences, Correspondence, Counted, Counting};
 use lafindry_reference::generate::{crossing_of, damaged_crossing, random_small_crossing, Rng, World};
 use lafindry_reference::image::{alternative, Mapping, Place};
 use lafindry_reference::places::{element_at, Places};
@@ -33,7 +33,8 @@ fn the_patch() {
     let documents: Vec<Vec<u8>> = PATCH.split_whitespace().chain([tree]).map(hex).collect();
     let counted = Crossing { documents: documents.try_into().expect("four documents") }.run();
     let standing = [(0, 0, 0), (1, 2, 4), (2, 7, 13), (3, 9, 15)];
-    let standing = standing.map(|(element_type, source, image)| Standing { element_type, source, image });
+    let standing =
+        standing.map(|(element_type, source, image)| Correspondence { element_type, source, image });
     assert_eq!(counted, Ok(Counted { elements: 6, filler: 1, path: 4, standing: standing.to_vec() }));
 }
 

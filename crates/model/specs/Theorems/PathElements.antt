@@ -316,8 +316,8 @@ module _ (X : Setting) where
   fill = fillers builtOf (X .target)
 
   -- what paths build in the image of an element is what is counted of it and of the elements below it
-  Counted : ℕ → Content → Type 0
-  Counted s k = imageOfElement builtOf X fill s (children builtOf X fill k) ≡ ownElements X s k + elementsBelow X k
+  BuiltAsCounted : ℕ → Content → Type 0
+  BuiltAsCounted s k = imageOfElement builtOf X fill s (children builtOf X fill k) ≡ ownElements X s k + elementsBelow X k
 
   no-elements-in-text : {k : Content} → Holds (X .source) text k → elementsBelow X k ≡ 0
   unfolding elementsBelow
@@ -332,16 +332,16 @@ module _ (X : Setting) where
   member-paths-in (along-both {b = path} h al) (one-member held later) = ap (λ (l : List (List ℕ)). path ∷ l) (member-paths-in al later)
 
   -- and with them what is counted of each
-  members-counted : {P : ℕ → List ℕ → Type 0} {ms : List ℕ} {pss : List (List ℕ)} {k : Content} → Along P ms pss → Holds (X .source) (sequence ms) k → Each Counted k
+  members-counted : {P : ℕ → List ℕ → Type 0} {ms : List ℕ} {pss : List (List ℕ)} {k : Content} → Along P ms pss → Holds (X .source) (sequence ms) k → Each BuiltAsCounted k
       → sumIn (alongPaths pss (children builtOf X fill k)) ≡ elementsBelow X k
-  unfolding sumIn alongPaths children elementsBelow Counted
+  unfolding sumIn alongPaths children elementsBelow BuiltAsCounted
   members-counted along-none no-member each-end = refl
   members-counted (along-both h al) (one-member held later) (each-elem e es) = ap₂ _+_ e (members-counted al later es)
 
   -- a choice of either kind: its member, or nothing
-  choice-counted : (shared : List ℕ) {need : Need} {ms : List ℕ} (pss : List (List ℕ)) {k : Content} → Holds (X .source) (choice need ms) k → Each Counted k
+  choice-counted : (shared : List ℕ) {need : Need} {ms : List ℕ} (pss : List (List ℕ)) {k : Content} → Holds (X .source) (choice need ms) k → Each BuiltAsCounted k
       → tally (alongChoice builtOf shared ms pss (children builtOf X fill k)) ≡ choiceSteps shared ms pss (firstIn k) + elementsBelow X k
-  unfolding alongChoice children firstIn choiceSteps elementsBelow Counted builtOf
+  unfolding alongChoice children firstIn choiceSteps elementsBelow BuiltAsCounted builtOf
   choice-counted shared pss (chosen {m = m} {ms = ms} {k = k} mem held) (each-elem e each-end) =
       omega (arith, path-built (pathOfMember m ms pss) (imageOfElement builtOf X fill m (children builtOf X fill k)), e)
   choice-counted shared pss left-out each-end = omega (arith, path-built shared 0)
@@ -349,16 +349,16 @@ module _ (X : Setting) where
   -- the items of a list, each with the rest of the path under it
   items-counted : (inside : List (Placement ℕ) → ℕ) (path : List ℕ) (d : Divided) {m : ℕ} {k : Content}
       → ((a : ℕ) → inside (placed (d .rest) a ∷ []) ≡ length (d .rest) + a) → length (d .before) + suc (length (d .rest)) ≡ length path
-      → Holds (X .source) (list m) k → Each Counted k
+      → Holds (X .source) (list m) k → Each BuiltAsCounted k
       → length (d .before) + itemsOf builtOf inside d (children builtOf X fill k) ≡ listSteps path (d .before) (childCount k) + elementsBelow X k
-  unfolding itemsOf children childCount elementsBelow Counted builtOf pick
+  unfolding itemsOf children childCount elementsBelow BuiltAsCounted builtOf pick
   items-counted inside path d under-item whole no-item each-end = omega (arith, list-steps-none path (d .before))
   items-counted inside path d under-item whole (one-item {m} {k} {r} held later) (each-elem e es) =
       omega
       (arith, under-item (imageOfElement builtOf X fill m (children builtOf X fill k)), e, list-steps-more path (d .before) (d .rest) (childCount r) whole, items-counted inside path d under-item whole later es)
 
   -- a list: the steps before it, and below it the items
-  list-counted : (τ m : ℕ) (path : List ℕ) {k : Content} → GoodPath X τ (list m) path → Holds (X .source) (list m) k → Each Counted k
+  list-counted : (τ m : ℕ) (path : List ℕ) {k : Content} → GoodPath X τ (list m) path → Holds (X .source) (list m) k → Each BuiltAsCounted k
       → tally (alongList builtOf (X .target) fill (divide (X .target) τ path) (children builtOf X fill k))
       ≡ listSteps path (divide (X .target) τ path .before) (childCount k) + elementsBelow X k
   unfolding alongList place
@@ -370,7 +370,7 @@ module _ (X : Setting) where
       (divided-length (X .target) τ path (list-left good)) held each
 
   -- what is to grow below the image of an element
-  placed-counted : (τ : ℕ) {κ : Kind} {pss : List (List ℕ)} {k : Content} → ValidEdges X τ κ pss → Holds (X .source) κ k → Each Counted k
+  placed-counted : (τ : ℕ) {κ : Kind} {pss : List (List ℕ)} {k : Content} → ValidEdges X τ κ pss → Holds (X .source) κ k → Each BuiltAsCounted k
       → tally (placements builtOf (X .target) fill κ τ pss (children builtOf X fill k)) ≡ kindElements (X .target) κ τ pss k + elementsBelow X k
   unfolding placements kindElements firstPath
   placed-counted τ {k = k} (text-edge {ps = path} good ends) held each =
@@ -382,14 +382,14 @@ module _ (X : Setting) where
   placed-counted τ (choice-edges al apart shared) held each = choice-counted _ _ held each
   placed-counted τ (list-edge {m = m} {ps = path} h) held each = list-counted τ m path (h .good) held each
 
-  element-counted : Valid X → (s : ℕ) (k : Content) → s < length (X .source) → Holds (X .source) (kindOf (X .source) s) k → Each Counted k → Counted s k
-  unfolding Counted imageOfElement place ownElements
+  element-counted : Valid X → (s : ℕ) (k : Content) → s < length (X .source) → Holds (X .source) (kindOf (X .source) s) k → Each BuiltAsCounted k → BuiltAsCounted s k
+  unfolding BuiltAsCounted imageOfElement place ownElements
   element-counted valid s k exists held each =
       grow-built (X .target) (placements-fit builtOf X fill _ _ _ (children builtOf X fill k) (valid .edges s exists))
       ∙ placed-counted (targetOf (X .embedding) s) (valid .edges s exists) held each
 
 -- The elements that paths build in the image are those counted over the source document's elements.
 pub image-path-elements : (X : Setting) → Valid X → (k : Content) → Holds (X .source) (kindOf (X .source) 0) k → imageBy builtOf X k ≡ pathElements X k
-unfolding imageBy pathElements Counted
+unfolding imageBy pathElements BuiltAsCounted
 image-path-elements X valid k held =
-    by-elements (X .source) (valid .source-sound .well-formed) (Counted X) (element-counted X valid) 0 k (valid .source-sound .well-formed .has-root) held
+    by-elements (X .source) (valid .source-sound .well-formed) (BuiltAsCounted X) (element-counted X valid) 0 k (valid .source-sound .well-formed .has-root) held

@@ -14,7 +14,7 @@ use Rattle.model.specs.Definitions.Content.{Content, document, contentOf
 use Rattle.model.specs.Definitions.Conformance.{Conforming}
 use Rattle.model.specs.Definitions.Embedding.{embeddingOf, targetOf}
 use Rattle.model.specs.Definitions.Image.{Setting, image, imageLength, imageFiller}
-use Rattle.model.specs.Definitions.Standing.{Element, elementOf, elementAt, standsAt, OpensAs, standings}
+use Rattle.model.specs.Definitions.Correspondence.{Element, elementWith, elementAt, standsAt, OpensAs, correspondences}
 use Rattle.model.specs.Definitions.Counting.{pathElements, occurrences}
 use Rattle.model.specs.Definitions.Refusals.{Judged, sound, has, Document, source-table, target-table, embedding, tree}
 use Rattle.model.specs.Definitions.Entries.{judgedTable, judgedEmbedding, judgedTree, accepted, Outcome, unlessFaulty, untouched, written, settingOf, carryWithin, carryContent, carry}
@@ -25,8 +25,8 @@ use Rattle.model.specs.Theorems.Measures.{image-length}
 use Rattle.model.specs.Theorems.EntryLaws.{accepted-refused, judges-are-all, tree-is-accepted, written-start}
 use Rattle.model.specs.Theorems.OnBytes.{conforming-content, content-conforming, accepted-tree, valid}
 use Rattle.model.specs.Theorems.ReadingAlong.{image-elements}
-use Rattle.model.specs.Theorems.Standing.{each-stands}
-use Rattle.model.specs.Theorems.StandingOffsets.{standings-in-source}
+use Rattle.model.specs.Theorems.Correspondence.{each-stands}
+use Rattle.model.specs.Theorems.CorrespondenceOffsets.{correspondences-in-source}
 use Rattle.model.specs.Theorems.PathElements.{image-path-elements}
 use Rattle.model.specs.Theorems.Occurrences.{occurs-as-often}
 
@@ -37,13 +37,13 @@ module _ (s t e : List ℕ) (a : AcceptedEmbedding s t e) (d : List ℕ) (c : Co
   X = settingOf s t e
 
   pub stands-in-image : (b : List ℕ) (x : Element) → elementAt 0 (contentOf d) b ≡ some x
-      → (l : Content) × (elementAt 0 (contentOf (imageOf s t e d)) (standsAt X 0 (contentOf d) b) ≡ some (elementOf (targetOf (embeddingOf e) (x .type)) l))
+      → (l : Content) × (elementAt 0 (contentOf (imageOf s t e d)) (standsAt X 0 (contentOf d) b) ≡ some (elementWith (targetOf (embeddingOf e) (x .type)) l))
   stands-in-image b x h = rw (content-of-document 0 (image X (contentOf d))) (each-stands X (valid s t e a) (contentOf d) (conforming-content c .1) b h)
 
-  pub opens-in-source : All (λ p. OpensAs d (p .offset) (p .type)) (standings X (contentOf d))
+  pub opens-in-source : All (λ p. OpensAs d (p .offset) (p .type)) (correspondences X (contentOf d))
   opens-in-source =
-      subst (λ (doc : List ℕ). All (λ p. OpensAs doc (p .offset) (p .type)) (standings X (contentOf d))) (sym (conforming-content c .0))
-      (standings-in-source X (valid s t e a) (contentOf d) (conforming-content c .1))
+      subst (λ (doc : List ℕ). All (λ p. OpensAs doc (p .offset) (p .type)) (correspondences X (contentOf d))) (sym (conforming-content c .0))
+      (correspondences-in-source X (valid s t e a) (contentOf d) (conforming-content c .1))
 
   pub occurs-in-image : (b : ℕ) → occurrences b (contentOf (imageOf s t e d)) ≡ occurrences b (contentOf d)
   occurs-in-image b = rw (content-of-document 0 (image X (contentOf d))) (occurs-as-often b X (valid s t e a) (contentOf d) (conforming-content c .1))

@@ -14,6 +14,7 @@
 //! | `output` | the document written; stated where one is written |
 //! | `report` | the report written; stated where one is written |
 //! | `heights` | heights of the target table's types, in order |
+//! | `counted` | of `carry`: the image's elements, filler and path elements, and where the source elements stand, as vector lines have it |
 //!
 //! The answer of `explain clash` is `clash TYPE EARLIER LATER SHARED REASON`, with
 //! a reason as vector lines have it, `none accepted N` or `none refused NUMBER
@@ -22,6 +23,7 @@
 use super::terms::{bytes_of, Named};
 use super::{Block, Line, Page};
 use lafindry_entries::Failure;
+use lafindry_reference::vectors::crossings;
 use lafindry_reference::vectors::explanations::{parse_stated, Question, Stated};
 use lafindry_reference::vectors::operations::Extension;
 use lafindry_reference::vectors::{Answer, Case, Entry};
@@ -31,7 +33,8 @@ use std::collections::BTreeMap;
 /// The keys that name documents which an entry is given.
 const DOCUMENTS: [&str; 6] = ["table", "source", "target", "embedding", "tree", "operations"];
 /// The other keys.
-const OTHERS: [&str; 8] = ["name", "like", "entry", "room", "answer", "output", "report", "heights"];
+const OTHERS: [&str; 9] =
+    ["name", "like", "entry", "room", "answer", "output", "report", "heights", "counted"];
 /// Those of them whose values are bytes.
 const WRITTEN: [&str; 2] = ["output", "report"];
 
@@ -45,7 +48,7 @@ pub struct Example<'a> {
 
 /// What a case asks, and what the page answers.
 pub enum Asked {
-    Entry { case: Case, answer: Answer, heights: Option<Vec<u64>> },
+    Entry { case: Case, answer: Answer, heights: Option<Vec<u64>>, counted: Option<crossings::Stated> },
     Explanation { question: Question, stated: Stated },
     Extension { extension: Extension, answer: Answer },
 }
@@ -246,6 +249,7 @@ impl<'a> Fields<'a> {
             "room" => called.written().is_none(),
             "output" | "report" => called.written() != Some(key),
             "heights" => !keys.contains(&"target") || called == Called::Explain,
+            "counted" => called != Called::Entry(Entry::Carry),
             _ => DOCUMENTS.contains(&key) && !keys.contains(&key),
         };
         match self.values.iter().find(|(key, _)| unused(key)) {
@@ -258,8 +262,8 @@ impl<'a> Fields<'a> {
     fn of_entry(&self, entry: Entry, documents: Vec<Vec<u8>>, named: &Named) -> Result<Asked, Failure> {
         let output_length = if entry.writes() { self.room()? } else { 0 };
         let answer = self.answer(Called::Entry(entry), named)?;
-        let heights = self.heights()?;
-        Ok(Asked::Entry { case: Case { entry, documents, output_length }, answer, heights })
+        let (heights, counted) = (self.heights()?, self.counted()?);
+        Ok(Asked::Entry { case: Case { entry, documents, output_length }, answer, heights, counted })
     }
 
     /// Operations on a table, with their answer.
@@ -345,5 +349,12 @@ impl<'a> Fields<'a> {
     fn heights(&self) -> Result<Option<Vec<u64>>, Failure> {
         let Some((line, text)) = self.get("heights") else { return Ok(None) };
         text.split(' ').map(|word| number(line, word)).collect::<Result<_, _>>().map(Some)
+    }
+
+    /// What is stated of what went across, if anything is.
+    fn counted(&self) -> Result<Option<crossings::Stated>, Failure> {
+        let Some((line, text)) = self.get("counted") else { return Ok(None) };
+        let stated = crossings::parse_stated(&format!("ok {text}"));
+        stated.map(Some).map_err(|message| line.fault(format!("'{text}': {message}")))
     }
 }

@@ -104,7 +104,7 @@ fn parse_crossing(text: &str) -> Result<Crossing, String> {
 }
 
 /// Reads the part of a line after the arrow.
-fn parse_stated(text: &str) -> Result<Stated, String> {
+pub fn parse_stated(text: &str) -> Result<Stated, String> {
     match text.split_whitespace().collect::<Vec<&str>>()[..] {
         ["ok", elements, filler, path, standing] => Ok(Stated::Counted {
             elements: parse_number(elements)?,

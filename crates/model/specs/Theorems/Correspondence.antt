@@ -23,7 +23,7 @@ use Rattle.model.specs.Definitions.Filler.{content, fillers}
 use Rattle.model.specs.Definitions.Image.{Setting, Placement, placed, place, pathOfMember, alongPaths, alongChoice, itemsOf, alongList, placements, imageOfElement, children, image, imageBy}
 use Rattle.model.specs.Definitions.Templates.{atChild}
 use Rattle.model.specs.Definitions.Inverse.{childAt, childOfType, firstItem, enter, follow}
-use Rattle.model.specs.Definitions.Standing.{Element, elementOf, elementAt, childNumber, childNumbers, itemNumbers, towardsChild, standsAt}
+use Rattle.model.specs.Definitions.Correspondence.{Element, elementWith, elementAt, childNumber, childNumbers, itemNumbers, towardsChild, standsAt}
 use Rattle.model.specs.Theorems.Facts.{Walks, GoodPath, MemberPath, Along, along-none, along-both, All, all-none, all-more, Pairs, pairs-none, pairs-more, Fits, ValidEdges, text-edge, no-edge, sequence-edges, choice-edges, list-edge, Valid}
 use Rattle.model.specs.Theorems.Tools.{true-false, some-none, pick-true, pick-false, and-left, entry-at}
 use Rattle.model.specs.Theorems.Placing.{list-step, walks-step, walks-rest, leaves-only, Diverge, at-once, later, sequence-diverge, single-fits, placements-fit, path-of-member, GoodParts, divide-good, AtList, divide-at-list}
@@ -80,10 +80,10 @@ unfolding elementAt
 from-child u a c = at-child none (λ t l. elementAt t l a) c
 
 -- an address that goes on behind another one
-further : (a b : List ℕ) (t : ℕ) (k : Content) {u : ℕ} {l : Content} → elementAt t k a ≡ some (elementOf u l) → elementAt t k (a ++ b) ≡ elementAt u l b
+further : (a b : List ℕ) (t : ℕ) (k : Content) {u : ℕ} {l : Content} → elementAt t k a ≡ some (elementWith u l) → elementAt t k (a ++ b) ≡ elementAt u l b
 unfolding elementAt
 further [] b t k {u} {l} e =
-    let same : elementOf t k ≡ elementOf u l = cc in
+    let same : elementWith t k ≡ elementWith u l = cc in
     ap (λ (y : Element). elementAt (y .type) (y .holds) b) same
 further (i ∷ a) b t k e =
     let it = child-found (λ u l. elementAt u l a) k i e in
@@ -93,7 +93,7 @@ further (i ∷ a) b t k e =
 element-conforms : {T : Table} (a : List ℕ) (τ : ℕ) (k : Content) {x : Element} → Holds T (kindOf T τ) k → elementAt τ k a ≡ some x → Holds T (kindOf T (x .type)) (x .holds)
 unfolding elementAt
 element-conforms {T} [] τ k {x} h e =
-    let same : elementOf τ k ≡ x = cc in
+    let same : elementWith τ k ≡ x = cc in
     subst (λ (y : Element). Holds T (kindOf T (y .type)) (y .holds)) same h
 element-conforms (i ∷ a) τ k h e =
     let it = child-found (λ u l. elementAt u l a) k i e in
@@ -147,11 +147,11 @@ step-child T p m (list n) {k} {j} h e f = subst (λ (t : ℕ). ChildIs k 0 t j) 
 
 -- What a path leads to is the element at the path's child numbers, and it has the type at which the path ends.
 followed-element : (T : Table) (τ : ℕ) (path : List ℕ) (k j : Content) → Walks T τ path → Holds T (kindOf T τ) k → follow T τ path k ≡ some j
-    → elementAt τ k (childNumbers T τ path) ≡ some (elementOf (endOf T τ path) j)
+    → elementAt τ k (childNumbers T τ path) ≡ some (elementWith (endOf T τ path) j)
 unfolding follow endOf childNumbers elementAt
 followed-element T τ [] k j w h f =
     let j-is : k ≡ j = cc in
-    ap (λ (l : Content). some (elementOf τ l)) j-is
+    ap (λ (l : Content). some (elementWith τ l)) j-is
 followed-element T τ (p ∷ path) k j w h f =
     let found = and-then (enter (kindOf T τ) p (next T τ p) k) (λ inside. follow T (next T τ p) path inside) f in
     from-child τ (childNumbers T (next T τ p) path) (step-child T p (next T τ p) (kindOf T τ) h (walks-step w) (found .1))
@@ -196,7 +196,7 @@ numbers-part T τ v w plain (later {p = p} {q = q} {ps = ps} {qs = qs} e h) =
 -- ---- the children of one source element
 
 -- The way to item number i goes on from that item.
-from-item : (T : Table) (τ : ℕ) (d : Divided) (k : Content) {u i : ℕ} {items inner : Content} → elementAt τ k (childNumbers T τ (d .before)) ≡ some (elementOf u items)
+from-item : (T : Table) (τ : ℕ) (d : Divided) (k : Content) {u i : ℕ} {items inner : Content} → elementAt τ k (childNumbers T τ (d .before)) ≡ some (elementWith u items)
     → ChildIs items i (d .item) inner → elementAt τ k (itemNumbers T τ d i) ≡ elementAt (d .item) inner (childNumbers T (d .item) (d .rest))
 unfolding itemNumbers
 from-item T τ d k {u} there item = further (childNumbers T τ (d .before)) _ τ k there ∙ from-child u (childNumbers T (d .item) (d .rest)) item
@@ -242,7 +242,7 @@ module _ (X : Setting) (fs : List Content) where
   -- what is placed below an element stands at the child numbers of its path
   placed-element : (τ : ℕ) (path : List ℕ) (a : Content) (ps : List (Placement Content)) → Fits (X .target) (suc maxSteps) τ ps → List·Memᴰ (placed path a) ps
       → Walks (X .target) τ path → Holds (X .target) (kindOf (X .target) τ) (place content (X .target) fs τ ps)
-      → elementAt τ (place content (X .target) fs τ ps) (childNumbers (X .target) τ path) ≡ some (elementOf (endOf (X .target) τ path) a)
+      → elementAt τ (place content (X .target) fs τ ps) (childNumbers (X .target) τ path) ≡ some (elementWith (endOf (X .target) τ path) a)
   unfolding place
   placed-element τ path a ps fits mem w h = followed-element (X .target) τ path _ a w h (follow-placed (X .target) fs (suc maxSteps) τ path a ps fits mem)
 
@@ -256,7 +256,7 @@ module _ (X : Setting) (fs : List Content) where
       → Holds (X .target) (kindOf (X .target) τ) (place content (X .target) fs τ (alongList content (X .target) fs (divide (X .target) τ ps) (children content X fs k)))
       → ChildIs k i t l
       → elementAt τ (place content (X .target) fs τ (alongList content (X .target) fs (divide (X .target) τ ps) (children content X fs k)))
-      (itemNumbers (X .target) τ (divide (X .target) τ ps) i) ≡ some (elementOf (targetOf (X .embedding) t) (inImage t l))
+      (itemNumbers (X .target) τ (divide (X .target) τ ps) i) ≡ some (elementWith (targetOf (X .embedding) t) (inImage t l))
   unfolding alongList
   list-stands τ m ps {k} {l} {i} {t} g hk h c =
       let d : Divided = divide (X .target) τ ps in
@@ -268,19 +268,19 @@ module _ (X : Setting) (fs : List Content) where
       let ends : endOf (X .target) (d .item) (d .rest) ≡ targetOf (X .embedding) t = at .same-end ∙ g .ends ∙ ap (targetOf (X .embedding)) (sym (item-type hk c)) in
       from-item (X .target) τ d _ items item
       ∙ placed-element (d .item) (d .rest) (inImage t l) _ (single-fits (X .target) maxSteps _ (parts .rest-walks) (parts .rest-short)) (List·Memᴰ·head refl) (parts .rest-walks) held
-      ∙ ap (λ (u : ℕ). some (elementOf u (inImage t l))) ends
+      ∙ ap (λ (u : ℕ). some (elementWith u (inImage t l))) ends
 
   -- the member of a choice of either kind
   choice-stands : (τ : ℕ) (κ : Kind) (shared : List ℕ) {need : Need} {ms : List ℕ} {pss : List (List ℕ)} {k l : Content} {i t : ℕ} → Along (MemberPath X τ κ) ms pss
       → Holds (X .source) (choice need ms) k
       → Holds (X .target) (kindOf (X .target) τ) (place content (X .target) fs τ (alongChoice content shared ms pss (children content X fs k))) → ChildIs k i t l
       → elementAt τ (place content (X .target) fs τ (alongChoice content shared ms pss (children content X fs k))) (childNumbers (X .target) τ (pathOfMember t ms pss))
-      ≡ some (elementOf (targetOf (X .embedding) t) (inImage t l))
+      ≡ some (elementWith (targetOf (X .embedding) t) (inImage t l))
   unfolding alongChoice children
   choice-stands τ κ shared {ms = ms} {pss} al (chosen {m = m} {k = k} mem hk) h first-child =
       let good = path-of-member m mem al in
       placed-element τ (pathOfMember m ms pss) (inImage m k) _ (single-fits (X .target) maxSteps _ (good .walks) (good .short)) (List·Memᴰ·head refl) (good .walks) h
-      ∙ ap (λ (u : ℕ). some (elementOf u (inImage m k))) (member-ends X τ m κ al mem)
+      ∙ ap (λ (u : ℕ). some (elementWith u (inImage m k))) (member-ends X τ m κ al mem)
   choice-stands τ κ shared al (chosen mem hk) h (later-child c) = elim c [ ]
   choice-stands τ κ shared al left-out h c = elim c [ ]
 
@@ -289,14 +289,14 @@ module _ (X : Setting) (fs : List Content) where
       → Holds (X .target) (kindOf (X .target) τ) (place content (X .target) fs τ (placements content (X .target) fs κ τ pss (children content X fs k)))
       → ChildIs k i t l
       → elementAt τ (place content (X .target) fs τ (placements content (X .target) fs κ τ pss (children content X fs k))) (towardsChild (X .target) κ τ pss i t)
-      ≡ some (elementOf (targetOf (X .embedding) t) (inImage t l))
+      ≡ some (elementWith (targetOf (X .embedding) t) (inImage t l))
   unfolding placements towardsChild firstPath membersOf
   kind-stands τ (text-edge g e) hk h c = absurd (List·Memᴰ·not-nil (child-conforms hk c .0))
   kind-stands τ no-edge nothing h c = elim c [ ]
   kind-stands τ {k = k} {l} {i} {t} (sequence-edges {ms = ms} {pss = pss} al pr) hk h c =
       let it = member-placed al hk c in
       placed-element τ (getD pss i []) (inImage t l) _ (placements-fit content X fs τ (sequence ms) pss (children content X fs k) (sequence-edges al pr)) (it .1) (it .0 .good .walks) h
-      ∙ ap (λ (u : ℕ). some (elementOf u (inImage t l))) (it .0 .ends)
+      ∙ ap (λ (u : ℕ). some (elementWith u (inImage t l))) (it .0 .ends)
   kind-stands τ (choice-edges {need = need} {ms = ms} al pr sh) hk h c = choice-stands τ (choice need ms) _ al hk h c
   kind-stands τ {k = k} (list-edge {m = m} {ps = ps} g) hk h c = list-stands τ m ps g hk h c
 
@@ -378,18 +378,18 @@ module _ (X : Setting) (v : Valid X) where
   -- where a child of a source element stands
   child-stands : (s : ℕ) (k : Content) {l : Content} {i t : ℕ} → s < length (X .source) → Holds (X .source) (kindOf (X .source) s) k → ChildIs k i t l
       → elementAt (targetOf (X .embedding) s) (inImage X fill s k) (towards s i t)
-      ≡ some (elementOf (targetOf (X .embedding) t) (inImage X fill t l))
+      ≡ some (elementWith (targetOf (X .embedding) t) (inImage X fill t l))
   unfolding imageOfElement
   child-stands s k exists h c =
       kind-stands X fill (targetOf (X .embedding) s) (v .edges s exists) h (image-holds X v fill (filler-conforms (X .target) (v .target-sound)) s k exists h) c
 
   -- Each source element stands at an element of the image, which holds its image and is of the type that its own is mapped to.
   stands-below : (a : List ℕ) (s : ℕ) (k : Content) {x : Element} → s < length (X .source) → Holds (X .source) (kindOf (X .source) s) k → elementAt s k a ≡ some x
-      → elementAt (targetOf (X .embedding) s) (inImage X fill s k) (standsAt X s k a) ≡ some (elementOf (targetOf (X .embedding) (x .type)) (inImage X fill (x .type) (x .holds)))
+      → elementAt (targetOf (X .embedding) s) (inImage X fill s k) (standsAt X s k a) ≡ some (elementWith (targetOf (X .embedding) (x .type)) (inImage X fill (x .type) (x .holds)))
   unfolding elementAt standsAt
   stands-below [] s k {x} exists h e =
-      let same : elementOf s k ≡ x = cc in
-      ap (λ (y : Element). some (elementOf (targetOf (X .embedding) (y .type)) (inImage X fill (y .type) (y .holds)))) same
+      let same : elementWith s k ≡ x = cc in
+      ap (λ (y : Element). some (elementWith (targetOf (X .embedding) (y .type)) (inImage X fill (y .type) (y .holds)))) same
   stands-below (i ∷ a) s k exists h e =
       let it = child-found (λ u l. elementAt u l a) k i e in
       rw (at-child [] (λ t l. towards s i t ++ standsAt X t l a) (it .2))
@@ -449,11 +449,11 @@ module _ (X : Setting) (v : Valid X) where
 
   -- Each element of a conforming source document stands at an element of its image, of the type that its own is mapped to,
   pub each-stands : (k : Content) → Holds (X .source) (kindOf (X .source) 0) k → (a : List ℕ) {x : Element} → elementAt 0 k a ≡ some x
-      → (l : Content) × (elementAt 0 (image X k) (standsAt X 0 k a) ≡ some (elementOf (targetOf (X .embedding) (x .type)) l))
+      → (l : Content) × (elementAt 0 (image X k) (standsAt X 0 k a) ≡ some (elementWith (targetOf (X .embedding) (x .type)) l))
   unfolding image imageBy
   each-stands k h a {x} e = (
     inImage X fill (x .type) (x .holds),
-    subst (λ (τ : ℕ). elementAt τ (image X k) (standsAt X 0 k a) ≡ some (elementOf (targetOf (X .embedding) (x .type)) (inImage X fill (x .type) (x .holds)))) (v .root-to-root)
+    subst (λ (τ : ℕ). elementAt τ (image X k) (standsAt X 0 k a) ≡ some (elementWith (targetOf (X .embedding) (x .type)) (inImage X fill (x .type) (x .holds)))) (v .root-to-root)
         (stands-below a 0 k (v .source-sound .well-formed .has-root) h e),
   )
 

@@ -20,13 +20,13 @@ pub record Element : Type 0 where
   pub type : ℕ
   pub holds : Content
 
-abbrev pub elementOf : ℕ → Content → Element
-elementOf t k = record { type = t; holds = k }
+abbrev pub elementWith : ℕ → Content → Element
+elementWith t k = record { type = t; holds = k }
 
 -- An address is a row of child numbers, counted from 0. Here it leads on from an element of type t that holds k, whose own address has
 -- no numbers, to the element that stands there, if there is one.
 unfoldable pub elementAt : ℕ → Content → List ℕ → Option Element
-elementAt t k [] = some (elementOf t k)
+elementAt t k [] = some (elementWith t k)
 elementAt t k (i ∷ address) = atChild none (λ u l. elementAt u l address) k i
 
 -- an address that begins among the children behind the first
@@ -97,14 +97,14 @@ abbrev pub OpensAs : List ℕ → ℕ → ℕ → Type 0
 OpensAs doc at t = (k : Content) × (o : Opens doc at k) × (o .type ≡ t)
 
 -- a source element: its type, its offset in the source document, and in the image the offset of the element that it stands at
-pub record Standing : Type 0 where
+pub record Correspondence : Type 0 where
   pub type : ℕ
   pub offset : ℕ
   pub image-offset : ℕ
 
-unfoldable pub standing : Setting → Content → List ℕ → Standing
-standing X k a = record { type = typeAt 0 k a; offset = offsetAt k a; image-offset = offsetAt (image X k) (standsAt X 0 k a) }
+unfoldable pub correspondence : Setting → Content → List ℕ → Correspondence
+correspondence X k a = record { type = typeAt 0 k a; offset = offsetAt k a; image-offset = offsetAt (image X k) (standsAt X 0 k a) }
 
 -- all source elements of a document whose root holds k, in document order
-unfoldable pub standings : Setting → Content → List Standing
-standings X k = map (standing X k) (addresses k)
+unfoldable pub correspondences : Setting → Content → List Correspondence
+correspondences X k = map (correspondence X k) (addresses k)

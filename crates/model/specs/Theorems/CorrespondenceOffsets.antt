@@ -16,13 +16,14 @@ use Rattle.model.specs.Definitions.Image.{Setting, image}
 use Rattle.model.specs.Definitions.Templates.{atChild}
 use Rattle.model.specs.Definitions.Inverse.{bytesBefore}
 use Rattle.model.specs.Definitions.Unreadable.{Opens}
-use Rattle.model.specs.Definitions.Standing.{Element, elementOf, elementAt, behindFirst, addressesIn, addresses, standsAt, offsetAt, typeAt, OpensAs, standing, standings}
+use Rattle.model.specs.Definitions.Correspondence.{Element, elementWith, elementAt, behindFirst, addressesIn, addresses, standsAt, offsetAt, typeAt, OpensAs, correspondence, correspondences}
 use Rattle.model.specs.Theorems.Facts.{All, all-none, all-more, Pairs, pairs-none, pairs-more, Valid}
 use Rattle.model.specs.Theorems.Measures.{size, size-elem}
+use Rattle.model.specs.Theorems.Templates.{all-append}
 use Rattle.model.specs.Theorems.ReadBack.{all-member}
 use Rattle.model.specs.Theorems.BringingBack.{size-char}
 use Rattle.model.specs.Theorems.Offsets.{Begins, begins-inside, element-stands, next-begins, root-opens}
-use Rattle.model.specs.Theorems.Standing.{ChildIs, first-child, later-child, behind-character, at-child, child-found, each-stands, none-share}
+use Rattle.model.specs.Theorems.Correspondence.{ChildIs, first-child, later-child, behind-character, at-child, child-found, each-stands, none-share}
 
 -- ---- an element opens at its offset
 
@@ -52,7 +53,7 @@ module _ (doc : List ℕ) where
   element-opens : (a : List ℕ) {at t : ℕ} {k : Content} {x : Element} → TypedAt at t k → elementAt t k a ≡ some x → TypedAt (at + offsetAt k a) (x .type) (x .holds)
   unfolding elementAt offsetAt
   element-opens [] {at} {t} {k} {x} o e =
-      let same : elementOf t k ≡ x = cc in
+      let same : elementWith t k ≡ x = cc in
       let here : at + 0 ≡ at = omega arith in
       rw here (subst (λ (y : Element). TypedAt at (y .type) (y .holds)) same o)
   element-opens (i ∷ a) {at} {t} {k} {x} o e =
@@ -79,10 +80,6 @@ offset-within (i ∷ a) t k e =
 -- ---- rows
 
 module _ {A : Type 0} where
-  all-append : {P : A → Type 0} {xs ys : List A} → All P xs → All P ys → All P (xs ++ ys)
-  all-append all-none b = b
-  all-append (all-more p a) b = all-more p (all-append a b)
-
   pairs-append : {R : A → A → Type 0} {xs ys : List A} → Pairs R xs → Pairs R ys → All (λ x. All (R x) ys) xs → Pairs R (xs ++ ys)
   pairs-append pairs-none b all-none = b
   pairs-append (pairs-more h a) b (all-more c d) = pairs-more (all-append h c) (pairs-append a b d)
@@ -131,7 +128,7 @@ module _ (t : ℕ) (k r : Content) where
   -- the first element, those below it, and those behind it
   itself-inside : Inside (elem t k r) (zero ∷ [])
   unfolding elementAt atChild
-  itself-inside = inside zero [] (elementOf t k) refl
+  itself-inside = inside zero [] (elementWith t k) refl
 
   below-inside : (a : List ℕ) → Inside k a → Inside (elem t k r) (zero ∷ a)
   unfolding elementAt atChild
@@ -225,7 +222,7 @@ IsElement k a = (x : Element) × (elementAt 0 k a ≡ some x)
 
 root-element : (k : Content) → IsElement k []
 unfolding elementAt
-root-element k = (elementOf 0 k, refl)
+root-element k = (elementWith 0 k, refl)
 
 below-element : (k : Content) (a : List ℕ) → Inside k a → IsElement k a
 below-element k _ (inside i a x e) = (x, e)
@@ -274,7 +271,7 @@ offset-tells k a b e f same = told-by-number (offsetAt k) (all-rise k) (listed a
 type-told : (a : List ℕ) (t : ℕ) (k : Content) {x : Element} → elementAt t k a ≡ some x → typeAt t k a ≡ x .type
 unfolding elementAt typeAt
 type-told [] t k {x} e =
-    let same : elementOf t k ≡ x = cc in
+    let same : elementWith t k ≡ x = cc in
     ap (λ (y : Element). y .type) same
 type-told (i ∷ a) t k e =
     let it = child-found (λ u l. elementAt u l a) k i e in
@@ -288,34 +285,34 @@ opens-in k a {x} e =
     (x .holds, here .0, here .1)
 
 module _ (X : Setting) (v : Valid X) (k : Content) (h : Holds (X .source) (kindOf (X .source) 0) k) where
-  pub standings-count : length (standings X k) ≡ 1 + elements k
-  unfolding standings addresses
-  standings-count = omega (arith, length-map (addresses k) (standing X k), count-below k)
+  pub correspondences-count : length (correspondences X k) ≡ 1 + elements k
+  unfolding correspondences addresses
+  correspondences-count = omega (arith, length-map (addresses k) (correspondence X k), count-below k)
 
-  pub standings-in-order : Pairs (λ p q. p .offset < q .offset) (standings X k)
-  unfolding standings standing
-  standings-in-order = pairs-map (standing X k) (all-rise k)
+  pub correspondences-in-order : Pairs (λ p q. p .offset < q .offset) (correspondences X k)
+  unfolding correspondences correspondence
+  correspondences-in-order = pairs-map (correspondence X k) (all-rise k)
 
-  pub standings-in-source : All (λ p. OpensAs (document 0 k) (p .offset) (p .type)) (standings X k)
-  unfolding standings
-  standings-in-source = all-map (standing X k) (all-with in-source (all-elements k))
+  pub correspondences-in-source : All (λ p. OpensAs (document 0 k) (p .offset) (p .type)) (correspondences X k)
+  unfolding correspondences
+  correspondences-in-source = all-map (correspondence X k) (all-with in-source (all-elements k))
     where
-      in-source : (a : List ℕ) → IsElement k a → OpensAs (document 0 k) (standing X k a .offset) (standing X k a .type)
-      in-source a it = unfold standing in rw (type-told a 0 k (it .1)) (opens-in k a (it .1))
+      in-source : (a : List ℕ) → IsElement k a → OpensAs (document 0 k) (correspondence X k a .offset) (correspondence X k a .type)
+      in-source a it = unfold correspondence in rw (type-told a 0 k (it .1)) (opens-in k a (it .1))
 
-  pub standings-in-image : All (λ p. OpensAs (document 0 (image X k)) (p .image-offset) (targetOf (X .embedding) (p .type))) (standings X k)
-  unfolding standings
-  standings-in-image = all-map (standing X k) (all-with in-image (all-elements k))
+  pub correspondences-in-image : All (λ p. OpensAs (document 0 (image X k)) (p .image-offset) (targetOf (X .embedding) (p .type))) (correspondences X k)
+  unfolding correspondences
+  correspondences-in-image = all-map (correspondence X k) (all-with in-image (all-elements k))
     where
-      in-image : (a : List ℕ) → IsElement k a → OpensAs (document 0 (image X k)) (standing X k a .image-offset) (targetOf (X .embedding) (standing X k a .type))
-      in-image a it = unfold standing in rw (type-told a 0 k (it .1)) (opens-in (image X k) (standsAt X 0 k a) (each-stands X v k h a (it .1) .1))
+      in-image : (a : List ℕ) → IsElement k a → OpensAs (document 0 (image X k)) (correspondence X k a .image-offset) (targetOf (X .embedding) (correspondence X k a .type))
+      in-image a it = unfold correspondence in rw (type-told a 0 k (it .1)) (opens-in (image X k) (standsAt X 0 k a) (each-stands X v k h a (it .1) .1))
 
-  pub standings-apart : Pairs (λ p q. p .image-offset ≡ q .image-offset → ⊥) (standings X k)
-  unfolding standings
-  standings-apart = pairs-map (standing X k) (pairs-with apart (all-elements k) (all-rise k))
+  pub correspondences-apart : Pairs (λ p q. p .image-offset ≡ q .image-offset → ⊥) (correspondences X k)
+  unfolding correspondences
+  correspondences-apart = pairs-map (correspondence X k) (pairs-with apart (all-elements k) (all-rise k))
     where
-      apart : (a b : List ℕ) → IsElement k a → IsElement k b → Rises k a b → standing X k a .image-offset ≡ standing X k b .image-offset → ⊥
+      apart : (a b : List ℕ) → IsElement k a → IsElement k b → Rises k a b → correspondence X k a .image-offset ≡ correspondence X k b .image-offset → ⊥
       apart a b p q rises same =
           let there : standsAt X 0 k a ≡ standsAt X 0 k b =
-          offset-tells (image X k) (standsAt X 0 k a) (standsAt X 0 k b) (each-stands X v k h a (p .1) .1) (each-stands X v k h b (q .1) .1) (unfold standing in same) in
+          offset-tells (image X k) (standsAt X 0 k a) (standsAt X 0 k b) (each-stands X v k h a (p .1) .1) (each-stands X v k h b (q .1) .1) (unfold correspondence in same) in
           omega (arith, rises, ap (offsetAt k) (none-share X v k h a b (p .1) (q .1) there))
