@@ -6,7 +6,7 @@ use mathlib.Core.Bool.{Bool, true, false}
 use mathlib.Core.List.{List, [], _∷_, _++_}
 use mathlib.Core.Logic.{_↔_, _⊎_, inl, inr}
 use mathlib.Core.Option.{Option, none, some}
-use Prim.Native.Nat.{ℕ, _≤_, _<_}
+use Prim.Native.Nat.{ℕ, _+_, _≤_, _<_}
 use native.Mathlib.Decide.{decLe}
 use native.Mathlib.Nat.{lt-of-not-le}
 use native.Mathlib.Omega.{arith}
@@ -30,6 +30,7 @@ use Rattle.model.specs.Definitions.Embedding.{embeddingOf}
 use Rattle.model.specs.Definitions.EmbeddingChecks.{Reason, equal-paths, earlier-begins, later-begins, part-at-sequence}
 use Rattle.model.specs.Definitions.Inverse.{Reading, yields, missing, located}
 use Rattle.model.specs.Definitions.Unreadable.{FirstUnreadable}
+use Rattle.model.specs.Definitions.Counting.{pathElements}
 use Rattle.model.specs.Definitions.Explanation as explanations
 use Rattle.model.specs.Definitions.Extending.{Performed, performed, unread, reportIf, reported, extend}
 use Rattle.model.specs.Definitions.Explanation.{Clash, explained, unexplained, reasonNumber, explanationNumbers, Explains}
@@ -429,6 +430,15 @@ carry-goes-across s t e d before after a call not-refused =
     went n f is same out =
         unfold answerOf in
         rw (out, ap (λ (m : model.Answer). m .value) same, ap (λ (m : model.Answer). m .filler) same) (carried-across s t e d before n f is)
+
+-- A call of lafindry_judge_tree on what it wrote, with the target table, answers that sum.
+pub carried-elements-judged : (s t e d before after : List ℕ) (a : Answer) → CarryCall s t e d before after a → a .refusal ≡ 0
+    → (b : Answer) → JudgeTreeCall t (take (a .value) after) b → (b .refusal ≡ 0) × (b .value ≡ a .filler + pathElements (settingOf s t e) (contentOf d) + 1)
+unfolding answerOf
+carried-elements-judged s t e d before after a call not-refused b judging =
+    let same : numbers b ≡ answerOf (accepted (a .filler + pathElements (settingOf s t e) (contentOf d) + 1) 0) =
+    judging ∙ ap answerOf (carry-goes-across s t e d before after a call not-refused .judged-so) in
+    (ap (λ (m : model.Answer). m .refusal) same, ap (λ (m : model.Answer). m .value) same)
 
 -- ---- numbers in decimal (02, N2)
 

@@ -3,7 +3,7 @@
 --
 -- Documents here have any length and any number of levels, unless limits are named. `Theorems.Terms` has the few terms
 -- used: accepted by an entry, the image of a document given by its bytes, its levels.
-use mathlib.Core.Path.{_≡_, refl, sym, _∙_}
+use mathlib.Core.Path.{_≡_, refl, sym, ap, _∙_}
 use mathlib.Core.Bool.{Bool, true, false, _&&_, _||_}
 use mathlib.Core.List.{List, [], _∷_, _++_, List·Memᴰ}
 use mathlib.Core.Logic.{_↔_, _⊎_}
@@ -38,7 +38,7 @@ use Rattle.model.specs.Definitions.SingleItems.{singleItems}
 use Rattle.model.specs.Definitions.Refusals.{Fault, bad-form, wrong-steps, path-clash, too-long, over-limit, source-table, embedding, tree, Refusal, faulty, output-too-short, no-image, unreadable, image-too-deep, image-too-long, no-choice, numbersOf, has, maxLength}
 use Rattle.model.specs.Definitions.Decimal.{DecimalForm, DecimalText}
 use Rattle.model.specs.Definitions.Lines.{AnswerLine}
-use Rattle.model.specs.Definitions.Entries.{checkedTable, Answer, answerOf, accepted, refused, judgeTable, judgeEmbedding, settingOf, untouched, carry, bringWithin, bringBack, readWithin, readAlong}
+use Rattle.model.specs.Definitions.Entries.{checkedTable, Answer, answerOf, accepted, refused, judgeTable, judgeEmbedding, judgeTree, settingOf, untouched, carry, bringWithin, bringBack, readWithin, readAlong}
 use Rattle.model.specs.Definitions.Explanation.{Clash, explained, unexplained, explain, explanationNumbers, ReasonHolds, Explains}
 use Rattle.model.specs.Definitions.Operations.{keptLength, typeIn, Operation, append-type, append-member, unchanged, withoutMark, operate, Appends}
 use Rattle.model.specs.Computing.{definitions}
@@ -687,12 +687,14 @@ pub elements-add-up : (s t e : List ℕ) → AcceptedEmbedding s t e → (d : Li
     → 1 + elements (contentOf (imageOf s t e d)) ≡ fillerOf s t e d + pathElements (settingOf s t e) (contentOf d) + 1
 elements-add-up = counted-in-image
 
--- All of this holds, for any bytes, of what a call of carry that isn't refused has written and answered.
+-- All of this holds, for any bytes, of what a call of carry that isn't refused has written and answered; and judging that by the target
+-- table answers the sum.
 pub record WentAcross (s t e d written : List ℕ) (filler : ℕ) : Type 0 where
   pub by-address : ElementsStand s t e d written
   pub by-offset : OffsetsStand s t e d written
   pub characters : (c : ℕ) → occurrences c (contentOf written) ≡ occurrences c (contentOf d)
   pub adds-up : 1 + elements (contentOf written) ≡ filler + pathElements (settingOf s t e) (contentOf d) + 1
+  pub judged-so : judgeTree t written ≡ accepted (filler + pathElements (settingOf s t e) (contentOf d) + 1) 0
 
 pub carried-across : (s t e d out : List ℕ) (n f : ℕ) → carry s t e d out .result ≡ accepted n f → WentAcross s t e d (take n (carry s t e d out .output)) f
 carried-across s t e d out n f h =
@@ -705,4 +707,5 @@ carried-across s t e d out n f h =
       by-offset = offsets-stand s t e embedded d conforming;
       characters = characters-as-often s t e embedded d conforming;
       adds-up = elements-add-up s t e embedded d conforming;
+      judged-so = it .image-judged ∙ ap (λ (m : ℕ). accepted m 0) (elements-add-up s t e embedded d conforming);
     })

@@ -14,6 +14,7 @@ use counts::Counts;
 use lafindry_entries::{ensure, report, Failure, Setting};
 use lafindry_reference::extension::{report as report_of, Kept};
 use lafindry_reference::generate::{random_extension, Rng, TableSize, World};
+use lafindry_reference::vectors::crossings::is_crossing;
 use lafindry_reference::vectors::explanations::is_question;
 use lafindry_reference::vectors::operations::{self, is_row};
 use lafindry_reference::vectors::{is_skipped, parse_line, Answer, Case, Entry};
@@ -31,13 +32,14 @@ const MOST_OF_EACH: usize = 4;
 
 /// The cases of a file of vectors whose entries have a program, with their
 /// answers, at most [`MOST_OF_EACH`] of an entry with the same refusal of the
-/// same document. No program explains clashes; rows of operations go to another
-/// one.
+/// same document. No program explains clashes or counts what went across; rows of
+/// operations go to another one.
 fn some_vectors(path: &Path) -> Result<Vec<(Case, Answer)>, Failure> {
     let text = fs::read_to_string(path).map_err(at(path))?;
     let mut taken: BTreeMap<_, usize> = BTreeMap::new();
     let mut vectors = Vec::new();
-    for line in text.lines().filter(|line| !is_skipped(line) && !is_question(line) && !is_row(line)) {
+    let others = [is_skipped, is_question, is_crossing, is_row];
+    for line in text.lines().filter(|line| !others.iter().any(|is_other| is_other(line))) {
         let (case, answer) = parse_line(line).map_err(|message| Failure(format!("{line}: {message}")))?;
         let refusal = match answer {
             Answer::Ok { .. } => (0, 0),
