@@ -32,7 +32,7 @@ use Rattle.model.specs.Definitions.Valid.{WrittenBy, ValidTree}
 use Rattle.model.specs.Definitions.Inverse.{follow, Located, located, yields, readTo, reading, readBack}
 use Rattle.model.specs.Definitions.LeftOut.{onPaths, leftOut}
 use Rattle.model.specs.Definitions.Unreadable.{PathMissing, Opens, FirstUnreadable}
-use Rattle.model.specs.Definitions.Correspondence.{Element, elementWith, elementAt, addresses, standsAt, OpensAs, correspondences}
+use Rattle.model.specs.Definitions.Correspondence.{Element, elementWith, elementAt, addresses, standsAt, offsetAt, OpensAs, correspondences}
 use Rattle.model.specs.Definitions.Counting.{pathElements, occurrences}
 use Rattle.model.specs.Definitions.SingleItems.{singleItems}
 use Rattle.model.specs.Definitions.Refusals.{Fault, bad-form, wrong-steps, path-clash, too-long, over-limit, source-table, embedding, tree, Refusal, faulty, output-too-short, no-image, unreadable, image-too-deep, image-too-long, no-choice, numbersOf, has, maxLength}
@@ -82,7 +82,7 @@ use Rattle.model.specs.Theorems.ReadingOnBytes.{read-of-image, read-like
 use Rattle.model.specs.Theorems.Offsets.{mark-17-opens}
 use Rattle.model.specs.Theorems.Facts.{All, Pairs}
 use Rattle.model.specs.Theorems.Correspondence.{none-share}
-use Rattle.model.specs.Theorems.CorrespondenceOffsets.{listed-exactly, correspondences-count, correspondences-in-order, correspondences-in-image, correspondences-apart}
+use Rattle.model.specs.Theorems.CorrespondenceOffsets.{listed-exactly, opens-in, offset-tells, correspondences-count, correspondences-in-order, correspondences-in-image, correspondences-apart}
 use Rattle.model.specs.Theorems.WentAcross.{stands-in-image, opens-in-source, occurs-in-image, counted-in-image, Carried, carried-image}
 
 -- ---- 1. conforming and bytes
@@ -672,9 +672,16 @@ offsets-stand s t e a d c =
       none-shared = correspondences-apart X valid k held;
     }
 
--- The rows are those of `addresses`, which lists exactly the addresses of elements.
+-- The rows are those of `addresses`, which lists exactly the addresses of elements. In any document the element at an address opens at
+-- `offsetAt` of the address, and that is the offset of no other element.
 pub addresses-exactly : (k : Content) (a : List ℕ) → List·Memᴰ a (addresses k) ↔ ((x : Element) × (elementAt 0 k a ≡ some x))
 addresses-exactly = listed-exactly
+
+pub opens-at-offset : (k : Content) (a : List ℕ) (x : Element) → elementAt 0 k a ≡ some x → (o : Opens (document 0 k) (offsetAt k a) (x .holds)) × (o .type ≡ x .type)
+opens-at-offset k a x = opens-in k a
+
+pub offsets-differ : (k : Content) (a b : List ℕ) (x y : Element) → elementAt 0 k a ≡ some x → elementAt 0 k b ≡ some y → offsetAt k a ≡ offsetAt k b → a ≡ b
+offsets-differ k a b x y = offset-tells k a b
 
 -- Each character occurs as often in the image as in the document, whatever its value.
 pub characters-as-often : (s t e : List ℕ) → AcceptedEmbedding s t e → (d : List ℕ) → Conforming (tableOf s) d

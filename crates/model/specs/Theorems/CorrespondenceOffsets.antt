@@ -29,7 +29,7 @@ use Rattle.model.specs.Theorems.Correspondence.{ChildIs, first-child, la
 
 module _ (doc : List ℕ) where
   -- an element of this type, holding k, is at this offset
-  abbrev TypedAt : ℕ → ℕ → Content → Type 0
+  abbrev pub TypedAt : ℕ → ℕ → Content → Type 0
   TypedAt at t k = (o : Opens doc at k) × (o .type ≡ t)
 
   behind-two : {at c : ℕ} {r : Content} → Begins doc at (char c r) → Begins doc (at + 2) r
@@ -265,7 +265,7 @@ count-below (elem t k r) =
     (arith, length-append (map (λ (a : List ℕ). zero ∷ a) (addressesIn k)) (map behindFirst (addressesIn r)), length-map (addressesIn k) (λ (a : List ℕ). zero ∷ a), length-map (addressesIn r) behindFirst, count-below k, count-below r)
 
 -- an element's offset tells which it is
-offset-tells : (k : Content) (a b : List ℕ) {x y : Element} → elementAt 0 k a ≡ some x → elementAt 0 k b ≡ some y → offsetAt k a ≡ offsetAt k b → a ≡ b
+pub offset-tells : (k : Content) (a b : List ℕ) {x y : Element} → elementAt 0 k a ≡ some x → elementAt 0 k b ≡ some y → offsetAt k a ≡ offsetAt k b → a ≡ b
 offset-tells k a b e f same = told-by-number (offsetAt k) (all-rise k) (listed a 0 k e) (listed b 0 k f) same
 
 type-told : (a : List ℕ) (t : ℕ) (k : Content) {x : Element} → elementAt t k a ≡ some x → typeAt t k a ≡ x .type
@@ -277,12 +277,13 @@ type-told (i ∷ a) t k e =
     let it = child-found (λ u l. elementAt u l a) k i e in
     at-child 0 (λ u l. typeAt u l a) (it .2) ∙ type-told a (it .0) (it .1) (it .3)
 
--- in the bytes of a document
-opens-in : (k : Content) (a : List ℕ) {x : Element} → elementAt 0 k a ≡ some x → OpensAs (document 0 k) (offsetAt k a) (x .type)
+-- in the bytes of a document it opens there
+pub opens-in : (k : Content) (a : List ℕ) {x : Element} → elementAt 0 k a ≡ some x → TypedAt (document 0 k) (offsetAt k a) (x .type) (x .holds)
 opens-in k a {x} e =
-    let it : TypedAt (document 0 k) (0 + offsetAt k a) (x .type) (x .holds) = element-opens (document 0 k) a (root-opens k) e in
-    let here : TypedAt (document 0 k) (offsetAt k a) (x .type) (x .holds) = subst (λ (at : ℕ). TypedAt (document 0 k) at (x .type) (x .holds)) (zero-add (offsetAt k a)) it in
-    (x .holds, here .0, here .1)
+    subst (λ (at : ℕ). TypedAt (document 0 k) at (x .type) (x .holds)) (zero-add (offsetAt k a)) (element-opens (document 0 k) a (root-opens k) e)
+
+opens-as : (k : Content) (a : List ℕ) {x : Element} → elementAt 0 k a ≡ some x → OpensAs (document 0 k) (offsetAt k a) (x .type)
+opens-as k a {x} e = let it = opens-in k a e in (x .holds, it .0, it .1)
 
 module _ (X : Setting) (v : Valid X) (k : Content) (h : Holds (X .source) (kindOf (X .source) 0) k) where
   pub correspondences-count : length (correspondences X k) ≡ 1 + elements k
@@ -298,14 +299,14 @@ module _ (X : Setting) (v : Valid X) (k : Content) (h : Holds (X .source) (kindO
   correspondences-in-source = all-map (correspondence X k) (all-with in-source (all-elements k))
     where
       in-source : (a : List ℕ) → IsElement k a → OpensAs (document 0 k) (correspondence X k a .offset) (correspondence X k a .type)
-      in-source a it = unfold correspondence in rw (type-told a 0 k (it .1)) (opens-in k a (it .1))
+      in-source a it = unfold correspondence in rw (type-told a 0 k (it .1)) (opens-as k a (it .1))
 
   pub correspondences-in-image : All (λ p. OpensAs (document 0 (image X k)) (p .image-offset) (targetOf (X .embedding) (p .type))) (correspondences X k)
   unfolding correspondences
   correspondences-in-image = all-map (correspondence X k) (all-with in-image (all-elements k))
     where
       in-image : (a : List ℕ) → IsElement k a → OpensAs (document 0 (image X k)) (correspondence X k a .image-offset) (targetOf (X .embedding) (correspondence X k a .type))
-      in-image a it = unfold correspondence in rw (type-told a 0 k (it .1)) (opens-in (image X k) (standsAt X 0 k a) (each-stands X v k h a (it .1) .1))
+      in-image a it = unfold correspondence in rw (type-told a 0 k (it .1)) (opens-as (image X k) (standsAt X 0 k a) (each-stands X v k h a (it .1) .1))
 
   pub correspondences-apart : Pairs (λ p q. p .image-offset ≡ q .image-offset → ⊥) (correspondences X k)
   unfolding correspondences
