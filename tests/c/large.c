@@ -5,6 +5,7 @@
  * each case that failed, and last 'N passed, M failed'.
  */
 #define _DEFAULT_SOURCE
+#include "entry.h"
 #include "lafindry.h"
 
 #include <pthread.h>
@@ -203,20 +204,8 @@ static struct report growing_report(void)
 static struct document source, target, map, operations;
 static struct report report;
 
-/* The five entries, lafindry_explain_clash, lafindry_read_along, lafindry_extend_table and lafindry_decimal; those that
-   write are the last. */
-enum entry {
-    JUDGE_TABLE,
-    JUDGE_EMBEDDING,
-    EXPLAIN_CLASH,
-    JUDGE_TREE,
-    CARRY,
-    BRING_BACK,
-    READ_ALONG,
-    EXTEND_TABLE,
-    DECIMAL,
-    ENTRIES
-};
+/* How many of them there are. */
+enum { ENTRIES = DECIMAL + 1 };
 static const char *const NAMES[ENTRIES] = {"judge a table", "judge an embedding", "explain a clash",
                                            "judge a tree",  "carry",              "bring back",
                                            "read along",    "extend a table",     "write a number"};

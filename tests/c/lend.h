@@ -7,6 +7,7 @@
 #ifndef LEND_H
 #define LEND_H
 
+#include "entry.h"
 #include "lafindry.h"
 
 /* A byte that no document written by an entry has, that is no digit, and that stands in no report expected here. */
@@ -25,19 +26,6 @@ struct document {
 #define DOCUMENT(...) ((struct document)BYTES(__VA_ARGS__))
 
 static const struct document NO_BYTES = {NULL, 0};
-
-/* The five entries, lafindry_explain_clash, lafindry_read_along, lafindry_extend_table and lafindry_decimal. */
-enum entry {
-    JUDGE_TABLE,
-    JUDGE_EMBEDDING,
-    EXPLAIN_CLASH,
-    JUDGE_TREE,
-    CARRY,
-    BRING_BACK,
-    READ_ALONG,
-    EXTEND_TABLE,
-    DECIMAL
-};
 
 /* An entry with its documents in the order of their numbers, and the length of the output for those that write. DECIMAL
    has no document but a number. */

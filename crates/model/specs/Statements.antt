@@ -32,7 +32,7 @@ use Rattle.model.specs.Definitions.Valid.{WrittenBy, ValidTree}
 use Rattle.model.specs.Definitions.Inverse.{follow, Located, located, yields, readTo, reading, readBack}
 use Rattle.model.specs.Definitions.LeftOut.{onPaths, leftOut}
 use Rattle.model.specs.Definitions.Unreadable.{PathMissing, Opens, FirstUnreadable}
-use Rattle.model.specs.Definitions.Correspondence.{Element, elementWith, elementAt, addresses, standsAt, offsetAt, OpensAs, correspondences}
+use Rattle.model.specs.Definitions.Correspondence.{Element, elementWith, elementAt, addresses, standsAt, imageInside, offsetAt, OpensAs, correspondences}
 use Rattle.model.specs.Definitions.Counting.{pathElements, occurrences}
 use Rattle.model.specs.Definitions.SingleItems.{singleItems}
 use Rattle.model.specs.Definitions.Refusals.{Fault, bad-form, wrong-steps, path-clash, too-long, over-limit, source-table, embedding, tree, Refusal, faulty, output-too-short, no-image, unreadable, image-too-deep, image-too-long, no-choice, numbersOf, has, maxLength}
@@ -633,10 +633,12 @@ reads-only = read-only
 -- ---- 21. everything went across, counted (02, N14)
 
 -- Of a document and its image: each element of the document, by its address, stands at an element of the image, of the type that its own
--- is mapped to, and no two stand at the same. Where an element stands is found from the paths alone (`standsAt`).
+-- is mapped to, which holds the image of what it holds; and no two stand at the same. Where an element stands is found from the paths
+-- alone (`standsAt`).
 pub record ElementsStand (s t e d written : List ℕ) : Type 0 where
   pub at-an-element : (a : List ℕ) (x : Element) → elementAt 0 (contentOf d) a ≡ some x
-      → (l : Content) × (elementAt 0 (contentOf written) (standsAt (settingOf s t e) 0 (contentOf d) a) ≡ some (elementWith (targetOf (embeddingOf e) (x .type)) l))
+      → elementAt 0 (contentOf written) (standsAt (settingOf s t e) 0 (contentOf d) a)
+      ≡ some (elementWith (targetOf (embeddingOf e) (x .type)) (imageInside (settingOf s t e) (x .type) (x .holds)))
   pub none-shared : (a b : List ℕ) (x y : Element) → elementAt 0 (contentOf d) a ≡ some x → elementAt 0 (contentOf d) b ≡ some y
       → standsAt (settingOf s t e) 0 (contentOf d) a ≡ standsAt (settingOf s t e) 0 (contentOf d) b → a ≡ b
 

@@ -20,15 +20,9 @@ use seed::seed;
 /// occurs 257 times.
 const LEAST: usize = 100;
 
-/// A world to count: of mixed size, with optional choices, with lists on the paths
-/// of choices, or with accents.
+/// A world to count.
 fn random_world(rng: &mut Rng) -> World {
-    match rng.weighted(&[30, 30, 25, 15]) {
-        0 => World::mixed(rng),
-        1 => World::optional(rng),
-        2 => World::listed(rng),
-        _ => World::accented(rng),
-    }
+    World::varied(rng, [30, 30, 25, 15])
 }
 
 #[test]

@@ -68,15 +68,9 @@ impl Run {
     }
 }
 
-/// A world to edit: of mixed size, with optional choices, with lists on the paths
-/// of choices, or with accents.
+/// A world to edit.
 fn random_world(rng: &mut Rng) -> World {
-    match rng.weighted(&[25, 30, 30, 15]) {
-        0 => World::mixed(rng),
-        1 => World::optional(rng),
-        2 => World::listed(rng),
-        _ => World::accented(rng),
-    }
+    World::varied(rng, [25, 30, 30, 15])
 }
 
 /// How often a reading read, was refused with 17, or with 14.

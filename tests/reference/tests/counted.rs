@@ -194,15 +194,9 @@ fn images_at_the_limits() {
 /// The bytes of a document's root that holds nothing, and of its end.
 const ROOT_LENGTH: usize = 4;
 
-/// A world to count: of mixed size, with optional choices, with lists on the paths
-/// of choices, or with accents.
+/// A world to count.
 fn random_world(rng: &mut Rng) -> World {
-    match rng.below(4) {
-        0 => World::mixed(rng),
-        1 => World::optional(rng),
-        2 => World::listed(rng),
-        _ => World::accented(rng),
-    }
+    World::varied(rng, [1, 1, 1, 1])
 }
 
 /// The image of a crossing and its number of filler elements, if it has one.

@@ -140,15 +140,9 @@ fn what_is_read_may_have_no_image() {
     assert_eq!(carried, Err(Refusal { number: 13, document: OUTPUT, mark: 0 }));
 }
 
-/// A world for edits: of mixed size, with optional choices, with lists on the
-/// paths of choices, or with accents.
+/// A world to edit.
 fn random_world(rng: &mut Rng) -> World {
-    match rng.below(4) {
-        0 => World::mixed(rng),
-        1 => World::optional(rng),
-        2 => World::listed(rng),
-        _ => World::accented(rng),
-    }
+    World::varied(rng, [1, 1, 1, 1])
 }
 
 /// The documents of a case.

@@ -8,7 +8,8 @@ use lib.ListN.{getD}
 use Rattle.model.specs.Definitions.Table.{Kind, text, empty, sequence, choice, list, Table, kindOf}
 use Rattle.model.specs.Definitions.Content.{Content, end, char, elem}
 use Rattle.model.specs.Definitions.Embedding.{targetOf, pathsOf, firstPath, next, Divided, divide}
-use Rattle.model.specs.Definitions.Image.{Setting, pathOfMember, image}
+use Rattle.model.specs.Definitions.Filler.{content, fillers}
+use Rattle.model.specs.Definitions.Image.{Setting, pathOfMember, imageOfElement, children, image}
 use Rattle.model.specs.Definitions.Templates.{atChild}
 use Rattle.model.specs.Definitions.Inverse.{bytesBefore}
 use Rattle.model.specs.Definitions.Unreadable.{Opens}
@@ -78,6 +79,12 @@ unfoldable pub standsAt : Setting → ℕ → Content → List ℕ → List ℕ
 standsAt X s k [] = []
 standsAt X s k (i ∷ address) =
     atChild [] (λ t l. towardsChild (X .target) (kindOf (X .source) s) (targetOf (X .embedding) s) (pathsOf (X .embedding) s) i t ++ standsAt X t l address) k i
+
+-- what the element that it stands at holds: the image of what a source element of type s holds, k
+unfoldable pub imageInside : Setting → ℕ → Content → Content
+imageInside X s k =
+    let fs = fillers content (X .target) in
+    imageOfElement content X fs s (children content X fs k)
 
 -- ---- offsets
 

@@ -23,7 +23,7 @@ use Rattle.model.specs.Definitions.Filler.{content, fillers}
 use Rattle.model.specs.Definitions.Image.{Setting, Placement, placed, place, pathOfMember, alongPaths, alongChoice, itemsOf, alongList, placements, imageOfElement, children, image, imageBy}
 use Rattle.model.specs.Definitions.Templates.{atChild}
 use Rattle.model.specs.Definitions.Inverse.{childAt, childOfType, firstItem, enter, follow}
-use Rattle.model.specs.Definitions.Correspondence.{Element, elementWith, elementAt, childNumber, childNumbers, itemNumbers, towardsChild, standsAt}
+use Rattle.model.specs.Definitions.Correspondence.{Element, elementWith, elementAt, childNumber, childNumbers, itemNumbers, towardsChild, standsAt, imageInside}
 use Rattle.model.specs.Theorems.Facts.{Walks, GoodPath, MemberPath, Along, along-none, along-both, All, all-none, all-more, Pairs, pairs-none, pairs-more, Fits, ValidEdges, text-edge, no-edge, sequence-edges, choice-edges, list-edge, Valid}
 use Rattle.model.specs.Theorems.Tools.{true-false, some-none, pick-true, pick-false, and-left, entry-at}
 use Rattle.model.specs.Theorems.Placing.{list-step, walks-step, walks-rest, leaves-only, Diverge, at-once, later, sequence-diverge, single-fits, placements-fit, path-of-member, GoodParts, divide-good, AtList, divide-at-list}
@@ -383,18 +383,6 @@ module _ (X : Setting) (v : Valid X) where
   child-stands s k exists h c =
       kind-stands X fill (targetOf (X .embedding) s) (v .edges s exists) h (image-holds X v fill (filler-conforms (X .target) (v .target-sound)) s k exists h) c
 
-  -- Each source element stands at an element of the image, which holds its image and is of the type that its own is mapped to.
-  stands-below : (a : List ℕ) (s : ℕ) (k : Content) {x : Element} → s < length (X .source) → Holds (X .source) (kindOf (X .source) s) k → elementAt s k a ≡ some x
-      → elementAt (targetOf (X .embedding) s) (inImage X fill s k) (standsAt X s k a) ≡ some (elementWith (targetOf (X .embedding) (x .type)) (inImage X fill (x .type) (x .holds)))
-  unfolding elementAt standsAt
-  stands-below [] s k {x} exists h e =
-      let same : elementWith s k ≡ x = cc in
-      ap (λ (y : Element). some (elementWith (targetOf (X .embedding) (y .type)) (inImage X fill (y .type) (y .holds)))) same
-  stands-below (i ∷ a) s k exists h e =
-      let it = child-found (λ u l. elementAt u l a) k i e in
-      rw (at-child [] (λ t l. towards s i t ++ standsAt X t l a) (it .2))
-      (further (towards s i (it .0)) (standsAt X (it .0) (it .1) a) (targetOf (X .embedding) s) (inImage X fill s k) (child-stands s k exists h (it .2)) ∙ stands-below a (it .0) (it .1) (child-exists s h (it .2)) (child-conforms h (it .2) .1) (it .3))
-
   -- an element stands where its image does
   root-stands : (s : ℕ) (k : Content) → standsAt X s k [] ≡ []
   unfolding standsAt
@@ -405,23 +393,39 @@ module _ (X : Setting) (v : Valid X) where
   unfolding standsAt
   stands-behind s i a c = at-child [] (λ t l. towards s i t ++ standsAt X t l a) c
 
+  -- Each source element stands at an element of the image, which holds its image and is of the type that its own is mapped to.
+  stands-below : (a : List ℕ) (s : ℕ) (k : Content) {x : Element} → s < length (X .source) → Holds (X .source) (kindOf (X .source) s) k → elementAt s k a ≡ some x
+      → elementAt (targetOf (X .embedding) s) (inImage X fill s k) (standsAt X s k a) ≡ some (elementWith (targetOf (X .embedding) (x .type)) (inImage X fill (x .type) (x .holds)))
+  unfolding elementAt standsAt
+  stands-below [] s k {x} exists h e =
+      let same : elementWith s k ≡ x = cc in
+      ap (λ (y : Element). some (elementWith (targetOf (X .embedding) (y .type)) (inImage X fill (y .type) (y .holds)))) same
+  stands-below (i ∷ a) s k exists h e =
+      let it = child-found (λ u l. elementAt u l a) k i e in
+      rw (stands-behind s i a (it .2))
+      (further (towards s i (it .0)) (standsAt X (it .0) (it .1) a) (targetOf (X .embedding) s) (inImage X fill s k) (child-stands s k exists h (it .2)) ∙ stands-below a (it .0) (it .1) (child-exists s h (it .2)) (child-conforms h (it .2) .1) (it .3))
+
   -- what stands below two children stands apart
   children-apart : (s i j : ℕ) (a b : List ℕ) {k l m : Content} {t u : ℕ} → s < length (X .source) → Holds (X .source) (kindOf (X .source) s) k
       → ChildIs k i t l → ChildIs k j u m → i < j → standsAt X s k (i ∷ a) ≡ standsAt X s k (j ∷ b) → ⊥
   children-apart s i j a b exists h c d less same =
       apart-behind _ _ (towards-part X (targetOf (X .embedding) s) (v .edges s exists) h c d less) (sym (stands-behind s i a c) ∙ same ∙ stands-behind s j b d)
 
+  -- what stands below an element stands apart from it
+  parent-apart : (s i : ℕ) (a : List ℕ) (k : Content) {x : Element} → s < length (X .source) → Holds (X .source) (kindOf (X .source) s) k
+      → elementAt s k (i ∷ a) ≡ some x → standsAt X s k (i ∷ a) ≡ standsAt X s k [] → ⊥
+  unfolding elementAt
+  parent-apart s i a k exists h e same =
+      let it = child-found (λ u l. elementAt u l a) k i e in
+      away X (targetOf (X .embedding) s) (standsAt X (it .0) (it .1) a) (v .edges s exists) h (it .2) (sym (stands-behind s i a (it .2)) ∙ same ∙ root-stands s k)
+
   -- No two source elements stand at the same element.
   stand-apart : (a b : List ℕ) (s : ℕ) (k : Content) {x y : Element} → s < length (X .source) → Holds (X .source) (kindOf (X .source) s) k
       → elementAt s k a ≡ some x → elementAt s k b ≡ some y → standsAt X s k a ≡ standsAt X s k b → a ≡ b
   unfolding elementAt
   stand-apart [] [] s k exists h e f same = refl
-  stand-apart [] (j ∷ b) s k exists h e f same =
-      let it = child-found (λ u l. elementAt u l b) k j f in
-      absurd (away X (targetOf (X .embedding) s) (standsAt X (it .0) (it .1) b) (v .edges s exists) h (it .2) (sym (stands-behind s j b (it .2)) ∙ sym same ∙ root-stands s k))
-  stand-apart (i ∷ a) [] s k exists h e f same =
-      let it = child-found (λ u l. elementAt u l a) k i e in
-      absurd (away X (targetOf (X .embedding) s) (standsAt X (it .0) (it .1) a) (v .edges s exists) h (it .2) (sym (stands-behind s i a (it .2)) ∙ same ∙ root-stands s k))
+  stand-apart [] (j ∷ b) s k exists h e f same = absurd (parent-apart s j b k exists h f (sym same))
+  stand-apart (i ∷ a) [] s k exists h e f same = absurd (parent-apart s i a k exists h e same)
   stand-apart (i ∷ a) (j ∷ b) s k {x} {y} exists h e f same =
       let it = child-found (λ u l. elementAt u l a) k i e in
       let other = child-found (λ u l. elementAt u l b) k j f in
@@ -447,15 +451,14 @@ module _ (X : Setting) (v : Valid X) where
 
   -- ---- documents
 
-  -- Each element of a conforming source document stands at an element of its image, of the type that its own is mapped to,
+  -- Each element of a conforming source document stands at an element of its image, of the type that its own is mapped to, which holds
+  -- the image of what it holds,
   pub each-stands : (k : Content) → Holds (X .source) (kindOf (X .source) 0) k → (a : List ℕ) {x : Element} → elementAt 0 k a ≡ some x
-      → (l : Content) × (elementAt 0 (image X k) (standsAt X 0 k a) ≡ some (elementWith (targetOf (X .embedding) (x .type)) l))
-  unfolding image imageBy
-  each-stands k h a {x} e = (
-    inImage X fill (x .type) (x .holds),
-    subst (λ (τ : ℕ). elementAt τ (image X k) (standsAt X 0 k a) ≡ some (elementWith (targetOf (X .embedding) (x .type)) (inImage X fill (x .type) (x .holds)))) (v .root-to-root)
-        (stands-below a 0 k (v .source-sound .well-formed .has-root) h e),
-  )
+      → elementAt 0 (image X k) (standsAt X 0 k a) ≡ some (elementWith (targetOf (X .embedding) (x .type)) (imageInside X (x .type) (x .holds)))
+  unfolding image imageBy imageInside
+  each-stands k h a {x} e =
+      subst (λ (τ : ℕ). elementAt τ (image X k) (standsAt X 0 k a) ≡ some (elementWith (targetOf (X .embedding) (x .type)) (inImage X fill (x .type) (x .holds)))) (v .root-to-root)
+      (stands-below a 0 k (v .source-sound .well-formed .has-root) h e)
 
   -- and no two at the same.
   pub none-share : (k : Content) → Holds (X .source) (kindOf (X .source) 0) k → (a b : List ℕ) {x y : Element} → elementAt 0 k a ≡ some x → elementAt 0 k b ≡ some y

@@ -306,7 +306,7 @@ module _ (X : Setting) (v : Valid X) (k : Content) (h : Holds (X .source) (kindO
   correspondences-in-image = all-map (correspondence X k) (all-with in-image (all-elements k))
     where
       in-image : (a : List ℕ) → IsElement k a → OpensAs (document 0 (image X k)) (correspondence X k a .image-offset) (targetOf (X .embedding) (correspondence X k a .type))
-      in-image a it = unfold correspondence in rw (type-told a 0 k (it .1)) (opens-as (image X k) (standsAt X 0 k a) (each-stands X v k h a (it .1) .1))
+      in-image a it = unfold correspondence in rw (type-told a 0 k (it .1)) (opens-as (image X k) (standsAt X 0 k a) (each-stands X v k h a (it .1)))
 
   pub correspondences-apart : Pairs (λ p q. p .image-offset ≡ q .image-offset → ⊥) (correspondences X k)
   unfolding correspondences
@@ -315,5 +315,5 @@ module _ (X : Setting) (v : Valid X) (k : Content) (h : Holds (X .source) (kindO
       apart : (a b : List ℕ) → IsElement k a → IsElement k b → Rises k a b → correspondence X k a .image-offset ≡ correspondence X k b .image-offset → ⊥
       apart a b p q rises same =
           let there : standsAt X 0 k a ≡ standsAt X 0 k b =
-          offset-tells (image X k) (standsAt X 0 k a) (standsAt X 0 k b) (each-stands X v k h a (p .1) .1) (each-stands X v k h b (q .1) .1) (unfold correspondence in same) in
+          offset-tells (image X k) (standsAt X 0 k a) (standsAt X 0 k b) (each-stands X v k h a (p .1)) (each-stands X v k h b (q .1)) (unfold correspondence in same) in
           omega (arith, rises, ap (offsetAt k) (none-share X v k h a b (p .1) (q .1) there))

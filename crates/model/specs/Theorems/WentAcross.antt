@@ -15,7 +15,7 @@ use Rattle.model.specs.Definitions.Conformance.{Conforming}
 use Rattle.model.specs.Definitions.Embedding.{embeddingOf, targetOf}
 use Rattle.model.specs.Definitions.Image.{Setting, image, imageLevels, imageLength, imageFiller}
 use Rattle.model.specs.Definitions.TreeChecks.{maxLevels}
-use Rattle.model.specs.Definitions.Correspondence.{Element, elementWith, elementAt, standsAt, OpensAs, correspondences}
+use Rattle.model.specs.Definitions.Correspondence.{Element, elementWith, elementAt, standsAt, imageInside, OpensAs, correspondences}
 use Rattle.model.specs.Definitions.Counting.{pathElements, occurrences}
 use Rattle.model.specs.Definitions.Refusals.{Judged, sound, has, Document, source-table, target-table, embedding, tree, maxLength}
 use Rattle.model.specs.Definitions.Entries.{judgedTable, judgedEmbedding, judgedTree, judgeTree, accepted, Outcome, unlessFaulty, untouched, written, settingOf, carryWithin, carryContent, carry}
@@ -39,7 +39,7 @@ module _ (s t e : List ℕ) (a : AcceptedEmbedding s t e) (d : List ℕ) (c : Co
   X = settingOf s t e
 
   pub stands-in-image : (b : List ℕ) (x : Element) → elementAt 0 (contentOf d) b ≡ some x
-      → (l : Content) × (elementAt 0 (contentOf (imageOf s t e d)) (standsAt X 0 (contentOf d) b) ≡ some (elementWith (targetOf (embeddingOf e) (x .type)) l))
+      → elementAt 0 (contentOf (imageOf s t e d)) (standsAt X 0 (contentOf d) b) ≡ some (elementWith (targetOf (embeddingOf e) (x .type)) (imageInside X (x .type) (x .holds)))
   stands-in-image b x h = rw (content-of-document 0 (image X (contentOf d))) (each-stands X (valid s t e a) (contentOf d) (conforming-content c .1) b h)
 
   pub opens-in-source : All (λ p. OpensAs d (p .offset) (p .type)) (correspondences X (contentOf d))

@@ -82,6 +82,17 @@ impl World {
         World::random(rng, size, shape)
     }
 
+    /// A world of mixed size, one with an optional choice, one with lists on the
+    /// paths of choices, or one with accents, as often as these weights say.
+    pub fn varied(rng: &mut Rng, weights: [usize; 4]) -> World {
+        match rng.weighted(&weights) {
+            0 => World::mixed(rng),
+            1 => World::optional(rng),
+            2 => World::listed(rng),
+            _ => World::accented(rng),
+        }
+    }
+
     /// A world of mixed size with an optional choice in one of its tables.
     pub fn optional(rng: &mut Rng) -> World {
         let mut size = TableSize::random(rng);
