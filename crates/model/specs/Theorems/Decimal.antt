@@ -15,7 +15,7 @@ unfolding value_from
 smaller_before v w [] [] e h less = less
 smaller_before v w [] (x ∷ es) e h less = absurd (omega arith)
 smaller_before v w (d ∷ ds) [] e h less = absurd (omega arith)
-smaller_before v w (d ∷ ds) (x ∷ es) e (one_more small h) less = smaller_before _ _ ds es (omega arith) h (omega arith)
+smaller_before v w (d ∷ ds) (x ∷ es) e (one_more small h) less = smaller_before (10 * v + d) (10 * w + x) ds es (omega arith) h (omega arith)
 
 -- More digits, behind a number that isn't 0, give more.
 more_digits : (w : ℕ) (ds es : List ℕ) → length ds ≤ length es → Digits ds → 0 < w → value_from 0 ds < value_from w es
@@ -34,7 +34,7 @@ same_digits v w [] [] e h k same = (same, refl)
 same_digits v w [] (x ∷ es) e h k same = absurd (omega arith)
 same_digits v w (d ∷ ds) [] e h k same = absurd (omega arith)
 same_digits v w (d ∷ ds) (x ∷ es) e (one_more small h) (one_more small2 k) same =
-    let rest = same_digits _ _ ds es (omega arith) h k same in
+    let rest = same_digits (10 * v + d) (10 * w + x) ds es (omega arith) h k same in
     let first : d ≡ x = omega (arith, rest.0) in
     (omega (arith, rest.0), ap₂ (λ (y : ℕ) (ys : List ℕ). y ∷ ys) first rest.1)
 

@@ -6,7 +6,7 @@ use Rattle.std.proofs.Common.{sym, ap, inl, inr, arith}
 use Rattle.std.proofs.Math.Bool.{true}
 use mathlib.Core.List.Memᴰ
 use mathlib.Core.List.{List, [], ◌∷◌, map, Memᴰ}
-use Rattle.std.proofs.Math.Logic.{Iff·rfl}
+use Rattle.std.proofs.Math.Logic.Iff as iff
 use Rattle.std.proofs.Math.Option.{some}
 use Rattle.std.proofs.Math.Dec.{eqb}
 use Rattle.model.specs.Definitions.Basics.{Verdict, passes, fails, pick, entry, some_of}
@@ -127,7 +127,7 @@ module _ (E : Embedding) (T : Table) where
   pub type_ends : (κ : Kind) (f : TypeMap) → length f.edges ≡ edges_of κ
       → Found (λ i e. EndsRight T (mapping_in E) κ (suc i) (end_of T f.target e.steps)) f.edges (ends_of E T κ f)
   unfolding ends_of EndsRight edges_of ends_at_text
-  type_ends text f counted = found_by_test _ (ends_at_text T f.target) f.edges (λ i e there. Iff·rfl)
+  type_ends text f counted = found_by_test _ (ends_at_text T f.target) f.edges (λ i e there. iff.rfl)
   type_ends empty f counted = λ i e there. tt
   type_ends (sequence ms) f counted = member_ends f.target ms f.edges
   type_ends (choice need ms) f counted = member_ends f.target ms f.edges

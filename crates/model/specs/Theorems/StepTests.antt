@@ -6,7 +6,7 @@ use Rattle.std.proofs.Common.{sym, ap, ap₂, ◌∙◌, subst, inl, inr, arith}
 use Rattle.std.proofs.Math.Bool.{true, false}
 use mathlib.Core.List.Memᴰ
 use mathlib.Core.List.{List, [], ◌∷◌, ◌++◌, Memᴰ}
-use Rattle.std.proofs.Math.Logic.{Iff·rfl}
+use Rattle.std.proofs.Math.Logic.Iff as iff
 use Rattle.std.proofs.Math.Option.{none, some}
 use Rattle.model.specs.Definitions.Basics.{pick, some_of, is_there}
 use Rattle.model.specs.Definitions.Commands.{needed, optional}
@@ -50,12 +50,12 @@ each_passes {P} test d = none_passes (λ κ. not (test κ)) (λ κ. subst (λ (b
 -- each is a sequence or a list
 only_plain : (κs : List Kind) → Decides (leaves_only sequence_or_list κs) (Each SequenceOrList κs)
 unfolding sequence_or_list
-only_plain = each_passes sequence_or_list (λ κ. either (is_sequence κ) (is_list κ) Iff·rfl Iff·rfl)
+only_plain = each_passes sequence_or_list (λ κ. either (is_sequence κ) (is_list κ) iff.rfl iff.rfl)
 
 -- some kind is one of those tested
 some_kind : (test : Kind → Bool) (κs : List Kind) → Decides (some_of test κs) (AtLeastOne (λ κ. test κ ≡ true) κs)
 unfolding AtLeastOne
-some_kind test = some_passes test (λ κ. Iff·rfl)
+some_kind test = some_passes test (λ κ. iff.rfl)
 
 -- there is a kind at all
 any_kind : (κs : List Kind) → Decides (some_of (λ κ. true) κs) (1 ≤ length κs)

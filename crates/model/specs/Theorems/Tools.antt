@@ -3,7 +3,7 @@ use Rattle.std.specs.Prelude.{◌≡◌, Bool, true, false, not, ◌&&◌, ◌||
 use Rattle.std.proofs.Math.Path.{refl}
 use Rattle.std.proofs.Common.{ap, ◌∙◌, inl, inr, arith, eqb-true, eq-eqb}
 use mathlib.Core.List.{List, [], ◌∷◌, Memᴰ}
-use Rattle.std.proofs.Math.Logic.{Iff·rfl}
+use Rattle.std.proofs.Math.Logic.Iff as iff
 use Rattle.std.proofs.Math.Option.{Option, none, some}
 use Prim.Native.Nat.{ℕ, zero, suc, ◌+◌, ◌-◌, ◌≤◌, ◌<◌}
 use Rattle.std.proofs.lemmas.Bool.{eqb-false, not-true}
@@ -145,7 +145,7 @@ pub none_passes : {A : Type 0} {P : A → Type 0} (test : A → Bool) → ((x : 
 none_passes {A} {P} test d xs = (each, none-does)
   where
     some-does : Decides (some_of test xs) ((x : A) × Memᴰ x xs × (test x ≡ true))
-    some-does = some_passes test (λ x. Iff·rfl) xs
+    some-does = some_passes test (λ x. iff.rfl) xs
 
     each : not (some_of test xs) ≡ true → (x : A) → Memᴰ x xs → P x
     each e x i = (d x).0 (go (test x) refl)
