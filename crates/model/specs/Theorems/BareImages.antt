@@ -81,6 +81,11 @@ module _ (inside : ℕ → List (Placement Content) → Content) (nothing-inside
   members_behind p q path a [] h = refl
   members_behind p q path a (m ∷ ms) h = member_left_out p q path a m ms (ne_eqb p q (λ same. omega arith)) ∙ members_behind (suc p) q path a ms (omega arith)
 
+  member_first : (p : ℕ) (path : List ℕ) (a : Content) (ms : List ℕ) (m : ℕ)
+      → grow_members without_filler inside (placed (p ∷ path) a ∷ []) p (m ∷ ms) ≡ elem m (inside m (placed path a ∷ [])) end
+  unfolding grow_members without_filler built_element is_placed
+  member_first p path a ms m = rw (under_one p path a) (ap (elem m (inside m (placed path a ∷ []))) (members_behind (suc p) p path a ms (omega arith)))
+
   member_built : (p j : ℕ) (path : List ℕ) (a : Content) (ms : List ℕ) (m : ℕ) → entry (suc j) ms ≡ some m
       → grow_members without_filler inside (placed ((p + j) ∷ path) a ∷ []) p ms ≡ elem m (inside m (placed path a ∷ [])) end
   unfolding grow_members without_filler built_element is_placed entry
@@ -88,7 +93,8 @@ module _ (inside : ℕ → List (Placement Content) → Content) (nothing-inside
   member_built p (suc j) path a [] m e = some_none e refl
   member_built p zero path a (n ∷ ms) m e =
       let same : n ≡ m = cc in
-      rw (add-zero p, under_one p path a, same) (ap (elem m (inside m (placed path a ∷ []))) (members_behind (suc p) p path a ms (omega arith)))
+      subst (λ (q : ℕ). grow_members without_filler inside (placed (q ∷ path) a ∷ []) p (n ∷ ms) ≡ elem m (inside m (placed path a ∷ [])) end) (sym (add-zero p))
+      (rw same (member_first p path a ms m))
   member_built p (suc j) path a (n ∷ ms) m e =
       member_left_out p (p + suc j) path a n ms (ne_eqb p (p + suc j) (λ same. omega arith))
       ∙ rw (add-suc p j, ← suc-add p j) (member_built (suc p) j path a ms m e)

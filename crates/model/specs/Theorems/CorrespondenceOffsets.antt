@@ -44,10 +44,10 @@ module _ (doc : List ℕ) where
       rw here (record { type = t; rest = bytes r ++ 0x32 ∷ b.rest; stands = element_stands doc b }, refl)
   child_opens_at {at} {t = t} {l = l} b (later_child {i = i} {l = k} {r = r} c) =
       let further : at + 2 + length (bytes k) + 1 + bytes_before r (suc i) ≡ at + (3 + length (bytes k) + bytes_before r (suc i)) = omega arith in
-      subst (λ (there : ℕ). TypedAt there t l) further (child_opens_at (next_begins doc b) c)
+      subst (λ (there : ℕ). TypedAt there t l) further (child_opens_at {at = at + 2 + length (bytes k) + 1} {k = r} (next_begins doc b) c)
   child_opens_at {at} {i} {t} {l = l} b (behind_character {r = r} c) =
       let further : at + 2 + bytes_before r (suc i) ≡ at + (2 + bytes_before r (suc i)) = omega arith in
-      subst (λ (there : ℕ). TypedAt there t l) further (child_opens_at (behind_two b) c)
+      subst (λ (there : ℕ). TypedAt there t l) further (child_opens_at {at = at + 2} {k = r} (behind_two b) c)
 
   -- Below an element that is at an offset of the document, each element opens at its own.
   element_opens : (a : List ℕ) {at t : ℕ} {k : Content} {x : Element} → TypedAt at t k → element_at t k a ≡ some x → TypedAt (at + offset_at k a) x.type x.holds
@@ -86,6 +86,7 @@ module _ {A : Type 0} where
 
   -- two of a row whose numbers rise have the same number only where they are the same
   told_by_number : (f : A → ℕ) {x y : A} {xs : List A} → Pairs (λ a b. f a < f b) xs → Memᴰ x xs → Memᴰ y xs → f x ≡ f y → x ≡ y
+  told_by_number f {y = y} pairs_none x8 _ e = elim x8 [ ]
   told_by_number f (pairs_more h pr) (Memᴰ.head p) (Memᴰ.head q) e = p ∙ sym q
   told_by_number f (pairs_more h pr) (Memᴰ.head p) (Memᴰ.tail n) e = absurd (omega (arith, ap f p, all_member h n))
   told_by_number f (pairs_more h pr) (Memᴰ.tail m) (Memᴰ.head q) e = absurd (omega (arith, ap f q, all_member h m))

@@ -104,12 +104,12 @@ maps_of_bytes M =
 edges_without : (at : ℕ) (pss : List (List ℕ)) → map (λ (e : Edge). e.steps) (edges_from at pss) ≡ pss
 unfolding edges_from
 edges_without at [] = refl
-edges_without at (ps ∷ pss) = rw (edges_without _ pss)
+edges_without at (ps ∷ pss) = rw (edges_without (at + length (0x21 ∷ step_bytes ps)) pss)
 
 maps_without : (at : ℕ) (M : PathMapping) → mapping_in (maps_from at M) ≡ M
 unfolding maps_from mapping_in without_offsets
 maps_without at [] = refl
-maps_without at (f ∷ M) = rw (edges_without (at + 2) f.paths, maps_without _ M)
+maps_without at (f ∷ M) = rw (edges_without (at + 2) f.paths, maps_without (at + length (0x20 ∷ f.target ∷ path_bytes f.paths)) M)
 
 -- reading what was written gives the embedding back, the offsets left out
 pub mapping_of_bytes : (M : PathMapping) → mapping_of (embedding_bytes M) ≡ M
@@ -120,13 +120,13 @@ mapping_of_bytes M = ap mapping_in (maps_of_bytes M) ∙ maps_without 0 M
 
 -- the commands left are the other steps of a path, the k other paths of its type, and the maps of the other types; a step stands
 -- only where one may
-record Left (k : ℕ) (on_path : Bool) (cs : List EmbeddingCommand) : Type 0 where
+record Left (k : ℕ) (in_path : Bool) (cs : List EmbeddingCommand) : Type 0 where
   others : List ℕ
   left_paths : List (List ℕ)
   maps_left : PathMapping
   parts : cs ≡ steps_then others (paths_then left_paths (commands_of maps_left))
   paths_due : length left_paths ≡ k
-  on_path : on_path ≡ false → others ≡ []
+  on_path : in_path ≡ false → others ≡ []
 
 -- what a state of the form's machine leaves to come
 abbrev LeftIn : EmbeddingState → List EmbeddingCommand → Type 0

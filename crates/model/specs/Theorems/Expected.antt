@@ -117,40 +117,40 @@ module _ (S : Table) (wf : WellFormed S) (instances : (t : ℕ) → t < length S
       rw (← same-state, ← same-stack) p
   pending_after {u = u} before_root (opens t ∷ cs) f o e =
       let new : Completable S (kind_of S t) × (reach (operand_step (length S)) tt cs ≡ goes u) = opened_completable t cs o in
-      pending_after (in_root new.0) cs f new.1
+      pending_after {st = inside zero} {s = kind_of S t ∷ sequence [] ∷ []} (in_root new.0) cs f new.1
       (followed_if (admits (sequence (0 ∷ [])) t) (kind_of S t ∷ sequence [] ∷ []) (λ next. reach (expect_step S) next cs) e).1
   pending_after {u = u} (in_root {κ = κ} c) (opens t ∷ cs) f o e =
       let new : Completable S (kind_of S t) × (reach (operand_step (length S)) tt cs ≡ goes u) = opened_completable t cs o in
-      pending_after (deeper new.0 (in_root (after_completable S κ c))) cs f new.1
+      pending_after {st = inside 1} {s = kind_of S t ∷ after κ ∷ sequence [] ∷ []} (deeper new.0 (in_root (after_completable S κ c))) cs f new.1
       (followed_if (admits κ t) (kind_of S t ∷ after κ ∷ sequence [] ∷ []) (λ next. reach (expect_step S) next cs) e).1
-  pending_after {u = u} (deeper {κ = κ} {around = around} c p) (opens t ∷ cs) f o e =
+  pending_after {u = u} (deeper {n = n} {κ = κ} {around = around} c p) (opens t ∷ cs) f o e =
       let new : Completable S (kind_of S t) × (reach (operand_step (length S)) tt cs ≡ goes u) = opened_completable t cs o in
-      pending_after (deeper new.0 (deeper (after_completable S κ c) p)) cs f new.1
+      pending_after {st = inside (suc (suc n))} {s = kind_of S t ∷ after κ ∷ around} (deeper new.0 (deeper (after_completable S κ c) p)) cs f new.1
       (followed_if (admits κ t) (kind_of S t ∷ after κ ∷ around) (λ next. reach (expect_step S) next cs) e).1
   pending_after after_root (opens t ∷ cs) f o e = goes_stops f refl
   pending_after at_end (opens t ∷ cs) f o e = goes_stops f refl
   pending_after before_root (character c ∷ cs) f o e = goes_stops f refl
   pending_after (in_root {κ = κ} k) (character c ∷ cs) f o e =
-      pending_after (in_root k) cs f
+      pending_after {st = inside zero} {s = κ ∷ sequence [] ∷ []} (in_root k) cs f
       (followed_if (allowed c) tt (λ next. reach (operand_step (length S)) next cs) o).1
       (followed_if (is_text κ) (κ ∷ sequence [] ∷ []) (λ next. reach (expect_step S) next cs) e).1
-  pending_after (deeper {κ = κ} {around = around} k p) (character c ∷ cs) f o e =
-      pending_after (deeper k p) cs f
+  pending_after (deeper {n = n} {κ = κ} {around = around} k p) (character c ∷ cs) f o e =
+      pending_after {st = inside (suc n)} {s = κ ∷ around} (deeper k p) cs f
       (followed_if (allowed c) tt (λ next. reach (operand_step (length S)) next cs) o).1
       (followed_if (is_text κ) (κ ∷ around) (λ next. reach (expect_step S) next cs) e).1
   pending_after after_root (character c ∷ cs) f o e = goes_stops f refl
   pending_after at_end (character c ∷ cs) f o e = goes_stops f refl
   pending_after before_root (closes ∷ cs) f o e = goes_stops f refl
   pending_after (in_root {κ = κ} k) (closes ∷ cs) f o e =
-      pending_after after_root cs f o (followed_if (complete κ) (sequence [] ∷ []) (λ next. reach (expect_step S) next cs) e).1
-  pending_after (deeper {κ = κ} {around = around} k p) (closes ∷ cs) f o e =
-      pending_after p cs f o (followed_if (complete κ) around (λ next. reach (expect_step S) next cs) e).1
+      pending_after {st = root_closed} {s = sequence [] ∷ []} after_root cs f o (followed_if (complete κ) (sequence [] ∷ []) (λ next. reach (expect_step S) next cs) e).1
+  pending_after (deeper {n = n} {κ = κ} {around = around} k p) (closes ∷ cs) f o e =
+      pending_after {st = inside n} {s = around} p cs f o (followed_if (complete κ) around (λ next. reach (expect_step S) next cs) e).1
   pending_after after_root (closes ∷ cs) f o e = goes_stops f refl
   pending_after at_end (closes ∷ cs) f o e = goes_stops f refl
   pending_after before_root (tree_end ∷ cs) f o e = goes_stops f refl
   pending_after (in_root k) (tree_end ∷ cs) f o e = goes_stops f refl
   pending_after (deeper k p) (tree_end ∷ cs) f o e = goes_stops f refl
-  pending_after after_root (tree_end ∷ cs) f o e = pending_after at_end cs f o e
+  pending_after after_root (tree_end ∷ cs) f o e = pending_after {st = tree_ended} {s = []} at_end cs f o e
   pending_after at_end (tree_end ∷ cs) f o e = goes_stops f refl
   pending_after before_root (alien_t ∷ cs) f o e = goes_stops f refl
   pending_after (in_root k) (alien_t ∷ cs) f o e = goes_stops f refl

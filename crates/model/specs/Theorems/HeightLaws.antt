@@ -120,12 +120,14 @@ kind_positive hs (list m) = omega arith
 -- no member is higher than the highest
 pub below_highest : (hs ms : List ℕ) (m : ℕ) → Memᴰ m ms → height_in hs m ≤ highest hs ms
 unfolding highest
+below_highest hs [] m x' = elim x' [ ]
 below_highest hs (n ∷ ms) m (Memᴰ.head e) = omega (arith, ap (height_in hs) e)
 below_highest hs (n ∷ ms) m (Memᴰ.tail later) = omega (arith, below_highest hs ms m later)
 
 -- and none is lower than the lowest
 pub above_lowest : (hs ms : List ℕ) (m : ℕ) → Memᴰ m ms → lowest hs ms ≤ height_in hs m
 unfolding lowest
+above_lowest hs [] m x' = elim x' [ ]
 above_lowest hs (n ∷ []) m (Memᴰ.head e) = omega (arith, ap (height_in hs) e)
 above_lowest hs (n ∷ []) m (Memᴰ.tail later) = absurd (Memᴰ.not-nil later)
 above_lowest hs (n ∷ n' ∷ ms) m (Memᴰ.head e) = omega (arith, ap (height_in hs) e)
@@ -312,6 +314,7 @@ every_height T n (suc h) t e low i small = go (leb i h) refl (every_height T n h
 -- a list without one of its entries still has all others
 taken_out : (a : ℕ) (xs : List ℕ) → Memᴰ a xs
     → (ys : List ℕ) × (length xs ≡ suc (length ys)) × ((b : ℕ) → (b ≡ a → ⊥) → Memᴰ b xs → Memᴰ b ys)
+taken_out a [] x' = elim x' [ ]
 taken_out a (x ∷ xs) (Memᴰ.head e) = (xs, refl, others)
   where
     others : (b : ℕ) → (b ≡ a → ⊥) → Memᴰ b (x ∷ xs) → Memᴰ b xs

@@ -197,7 +197,7 @@ pick_fails_not true at v e = passes_fails e refl
 pick_fails_not false at v e = (refl, e)
 
 -- a test that no entry passes fails for each
-some_of_none : {A : Type 0} (test : A → Bool) {xs : List A} {x : A} → some_of test xs ≡ false → Memᴰ x xs → test x ≡ false
+some_of_none : {A : Type 0} (test : A → Bool) {x : A} {xs : List A} → some_of test xs ≡ false → Memᴰ x xs → test x ≡ false
 unfolding some_of
 some_of_none test {x = x} e (Memᴰ.head {x = y} {xs = ys} same) = rw same (neither (test y) (some_of test ys) e).0
 some_of_none test {x = x} e (Memᴰ.tail {x = y} {xs = ys} i) = some_of_none test (neither (test y) (some_of test ys) e).1 i

@@ -167,14 +167,14 @@ module _ (B : Builder ℕ) (μ : Content → ℕ) (M : Measure B μ) where
           let apart : p ≡ q → ⊥ = eqb-false p q e in
           rw (e, join_swap) (M.join_mono _ _ _ _ (le_refl (wrapped (under p ps))) (later (omega arith) (omega arith)))
 
-  wrapped_spread : {ps : List (Placement ℕ)} (p : ℕ) (ms : List ℕ) → Starts (λ q. (p ≤ q) × (q < p + length ms)) ps → wrapped ps ≤ spread ps p ms
+  wrapped_spread : (p : ℕ) (ms : List ℕ) {ps : List (Placement ℕ)} → Starts (λ q. (p ≤ q) × (q < p + length ms)) ps → wrapped ps ≤ spread ps p ms
   unfolding wrapped
   wrapped_spread p ms starts_none = zero-le
   wrapped_spread p ms (starts_more {q = q} {path} {a} {ps} h later) =
       le_trans (M.join_mono _ _ _ _ (le_refl (wrap a)) (wrapped_spread p ms later)) (spread_one q path a ps p ms h.0 h.1)
 
   -- a placement whose first step is q counts under q
-  wrapped_under : {ps : List (Placement ℕ)} (q : ℕ) → Starts (λ p. p ≡ q) ps → wrapped ps ≡ wrapped (under q ps)
+  wrapped_under : (q : ℕ) {ps : List (Placement ℕ)} → Starts (λ p. p ≡ q) ps → wrapped ps ≡ wrapped (under q ps)
   unfolding wrapped under beyond
   wrapped_under q starts_none = refl
   wrapped_under q (starts_more {q = p} {path} {a} {ps} h later) = rw (pick_true (eqb q p) (placed path a ∷ under q ps) (under q ps) (eq-eqb q p (sym h))) (ap (join (wrap a)) (wrapped_under q later))

@@ -86,7 +86,7 @@ module _ (doc : List ℕ) where
       rw (same, here) (first_opens b)
   child_opens {at} (elem t k r) (suc (suc p)) {j} b e =
       let further : at + 2 + length (bytes k) + 1 + bytes_before r (suc p) ≡ at + bytes_before (elem t k r) (suc (suc p)) = omega arith in
-      subst (λ (there : ℕ). Opens doc there j) further (child_opens r (suc p) (next_begins b) e)
+      subst (λ (there : ℕ). Opens doc there j) further (child_opens {at = at + 2 + length (bytes k) + 1} r (suc p) (next_begins b) e)
 
   -- the child of a choice, and the first item of a list, are first
   chosen_opens : {at : ℕ} (k : Content) (τ : ℕ) {j : Content} → Begins at k → child_of_type k τ ≡ some j → Opens doc at j
@@ -179,7 +179,7 @@ module _ (doc : List ℕ) where
   unfolding item_parts part_of
   item_stands beyond leads m at end b p = elim p [ ]
   item_stands beyond leads m at (char c r) b p = elim p [ ]
-  item_stands beyond leads m at (elem t k r) b p = go _ refl p (λ j q. item_stands beyond leads m _ r (next_begins b) q)
+  item_stands beyond leads m at (elem t k r) b p = go _ refl p (λ j q. item_stands beyond leads m (at + 2 + length (bytes k) + 1) r (next_begins b) q)
     where
       go : {i n : ℕ} {a : Located} {rest : Parts} (o : Option Located) → beyond (located (at + 2) k) ≡ o → PartAt (part_of m o rest) i n a
           → ((j : ℕ) → PartAt rest j n a → Stands a) → Stands a

@@ -270,6 +270,8 @@ module _ {A : Type 0} (X : Setting) (τ : ℕ) (ms : List ℕ) where
       → All (PlainPlaced X.target τ max_steps) (along_paths pss ks)
   unfolding along_paths right_steps
   along_plain [] [] ks al = all_none
+  along_plain [] (ps ∷ pss) ks al = elim al [ ]
+  along_plain (n ∷ ns) [] ks al = elim al [ ]
   along_plain (n ∷ ns) (ps ∷ pss) [] (along_both h al) = all_none
   along_plain (n ∷ ns) (ps ∷ pss) (letter c ∷ ks) (along_both h al) = all_none
   along_plain (n ∷ ns) (ps ∷ pss) (element t a ∷ ks) (along_both h al) =
@@ -297,6 +299,8 @@ pub member_walks : (X : Setting) (τ t : ℕ) (κ : Kind) (ms : List ℕ) (pss :
     → Walks X.target τ (path_of_member t ms pss) × (length (path_of_member t ms pss) ≤ max_steps)
 unfolding path_of_member
 member_walks X τ t κ [] [] along_none = (arrived, omega arith)
+member_walks X τ t κ [] (ps ∷ pss) x'' = elim x'' [ ]
+member_walks X τ t κ (m ∷ ms) [] x3 = elim x3 [ ]
 member_walks X τ t κ (m ∷ ms) (ps ∷ pss) (along_both h al) = go (eqb t m) refl (member_walks X τ t κ ms pss al)
   where
     go : (b : Bool) → eqb t m ≡ b → Walks X.target τ (path_of_member t ms pss) × (length (path_of_member t ms pss) ≤ max_steps)
@@ -432,3 +436,8 @@ placements_fit B X fs τ (choice need ms) pss ks (choice_edges al pr sh) = choic
 placements_fit B X fs τ (list m) (ps ∷ []) ks (list_edge g) =
     let parts : GoodParts X.target τ max_steps (divide X.target τ ps) = divide_good X.target τ max_steps ps g.good.walks g.good.short in
     single_fits X.target max_steps _ parts.before_walks parts.before_short
+placements_fit {A = A} B X fs τ text [] ks x'' = elim x'' [ ]
+placements_fit {A = A} B X fs τ text (ps ∷ (_ ∷ _)) ks x7 = elim x7 [ ]
+placements_fit {A = A} B X fs τ empty (ps ∷ _) ks x4 = elim x4 [ ]
+placements_fit {A = A} B X fs τ (list m) [] ks x4 = elim x4 [ ]
+placements_fit {A = A} B X fs τ (list m) (ps ∷ (_ ∷ _)) ks x9 = elim x9 [ ]

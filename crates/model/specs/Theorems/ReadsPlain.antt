@@ -9,7 +9,7 @@ use Prim.Native.Nat.{ℕ, zero, suc, ◌+◌}
 use Rattle.model.specs.Definitions.Basics.{and_then}
 use Rattle.model.specs.Definitions.Commands.{needed, optional}
 use Rattle.model.specs.Definitions.Table.{Kind, text, empty, sequence, choice, list, Table, kind_of}
-use Rattle.model.specs.Definitions.Content.{Content, end, char, elem, document}
+use Rattle.model.specs.Definitions.Content.{Content, bytes, end, char, elem, document}
 use Rattle.model.specs.Definitions.Embedding.{target_of, paths_of, first_path, next, divide, Divided, before_choice}
 use Rattle.model.specs.Definitions.Image.{Setting}
 use Rattle.model.specs.Definitions.Inverse.{enter, follow, Located, located, opened_at, found_at, enter_at, follow_at, Parts, done, broken, part, unbroken, part_of, if_there, member_parts, choice_parts, unless_empty, optional_parts, item_parts, list_parts, kind_parts, Reading, yields, missing, with_rest, with_element, read_parts, read_unbroken, read_characters, read_children, read_kind, read_to, reading, content_read, read_back}
@@ -95,7 +95,7 @@ module _ (read : ℕ → Located → Option Content) (plain : ℕ → Content �
   items_plain beyond on same m at end = refl
   items_plain beyond on same m at (char c r) = refl
   items_plain beyond on same m at (elem t k r) =
-      one_plain m _ _ _ (items_plain beyond on same m _ r) ∙ ap (λ (o : Option Content). plain_one plain m o (plain_items plain on m r)) (same (located (at + 2) k))
+      one_plain m _ _ _ (items_plain beyond on same m (at + 2 + length (bytes k) + 1) r) ∙ ap (λ (o : Option Content). plain_one plain m o (plain_items plain on m r)) (same (located (at + 2) k))
 
   list_plain : (T : Table) (d : Divided) (m : ℕ) (found : Option Located)
       → plain_parts read (list_parts T d m found) ≡ and_then (held_at found) (λ items. plain_items plain (follow T d.item d.rest) m items)

@@ -68,6 +68,8 @@ module _ (T : Table) (fs : List Content) where
       → all_single T τ ts (grow content T fs n τ all) ≡ true
   unfolding all_single
   all_placed n τ all [] [] fits within along_none = refl
+  all_placed n τ all [] (_ ∷ ts) fits within x7 = elim x7 [ ]
+  all_placed n τ all (placed path a ∷ ps) [] fits within x7 = elim x7 [ ]
   all_placed n τ all (placed path a ∷ ps) (placed other test ∷ ts) fits within (along_both passes later) =
       and_both
       (subst (λ (qs : List ℕ). single_along T τ qs test (grow content T fs n τ all) ≡ true) passes.0

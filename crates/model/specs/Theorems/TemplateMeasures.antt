@@ -112,14 +112,14 @@ module _ (B : Builder ℕ) (M : Joins B) where
   spread_none p [] = refl
   spread_none p (m ∷ ms) = ap (join 0) (spread_none (suc p) ms) ∙ M.join_zero 0
 
-  total_spread : {ps : List (Placement ℕ)} (p : ℕ) (ms : List ℕ) → Starts (λ q. (p ≤ q) × (q < p + length ms)) ps → total ps ≡ spread ps p ms
+  total_spread : (p : ℕ) (ms : List ℕ) {ps : List (Placement ℕ)} → Starts (λ q. (p ≤ q) × (q < p + length ms)) ps → total ps ≡ spread ps p ms
   unfolding total lifts
   total_spread p ms starts_none = sym (spread_none p ms)
   total_spread p ms (starts_more {q = q} {path} {a} {ps} h later) =
       ap (join (lift (lifts path a))) (total_spread p ms later) ∙ sym (spread_one q path a ps p ms h.0 h.1)
 
   -- where all paths begin with q
-  total_under : {ps : List (Placement ℕ)} (q : ℕ) → Starts (λ p. p ≡ q) ps → total ps ≡ raised (under q ps)
+  total_under : (q : ℕ) {ps : List (Placement ℕ)} → Starts (λ p. p ≡ q) ps → total ps ≡ raised (under q ps)
   unfolding total raised under beyond lifts
   total_under q starts_none = refl
   total_under q (starts_more {q = p} {path} {a} {ps} h later) =

@@ -132,6 +132,7 @@ some_passes {A} {P} test d xs = (found xs, λ s. passed xs s.0 s.1 s.2)
         go false q later = let s = later (rw q at e) in (s.0, Memᴰ.tail s.1, s.2)
 
     passed : (xs : List A) (x : A) → Memᴰ x xs → P x → some_of test xs ≡ true
+    passed [] x x4 h = elim x4 [ ]
     passed (y ∷ xs) x (Memᴰ.head same) h = rw (← same, (d x).1 h)
     passed (y ∷ xs) x (Memᴰ.tail i) h = go (test y) (passed xs x i h)
       where
