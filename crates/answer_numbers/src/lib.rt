@@ -1,4 +1,7 @@
 // An answer as five numbers, as paper 01 numbers refusals, documents and marks, and an explanation as ten.
+
+#![tactic(auto)]
+
 ghost use Rattle.std.specs.Prelude.{◌≡◌};
 ghost use Rattle.model.specs.Definitions.Entries.{answer_of};
 ghost use Rattle.model.specs.Definitions.Entries as model;

@@ -1,6 +1,9 @@
 // What checks, judges and entries answer. Each is an enum; specs/Answers.antt says which answer of the model it is, and
 // the model gives paper 01's numbers for it.
 
+#![tactic(auto)]
+
+
 // What a check of a whole document finds: nothing wrong, or the lowest place that is.
 #[derive(Drop)]
 pub enum Verdict {

@@ -1,4 +1,7 @@
 // What the entry that brings back answers and writes, for any bytes. Crate lafindry offers it to C.
+
+#![tactic(auto)]
+
 ghost use Rattle.model.specs.Definitions.Entries as model;
 ghost use Rattle.answer_numbers.specs.Numbers.{Answers};
 

@@ -1,5 +1,8 @@
 // Bringing an image back by loaded tables and a loaded embedding: the source is read along the paths into a local buffer, the
 // given document is compared with its image along the templates, and only then is the source written to the lent output.
+
+#![tactic(auto)]
+
 ghost use Rattle.std.specs.Prelude.{◌≤◌, length};
 ghost use Rattle.loaded_table.specs.Loaded.{table_by};
 ghost use Rattle.loaded_setting.specs.Ready.{setting_in, Ready};

@@ -1,6 +1,9 @@
 // Carries the document in the file tr of the working directory, by the source table in s1, the target table in s2 and the
 // embedding in em. A file that can't be opened counts as empty. Prints `carried`, the length of the image and the number of
 // its filler elements, or `refused`, number, document and mark.
+
+#![tactic(auto)]
+
 use answer_numbers::Answer;
 use codes::MAX_BYTES;
 use console::read_file;

@@ -1,5 +1,8 @@
 // Carrying a source document by prepared templates: its image is measured by them, refused where it is beyond the limits or has no
 // room, and only then written, straight into the lent output.
+
+#![tactic(auto)]
+
 ghost use Rattle.std.specs.Prelude.{List, ℕ, ◌≤◌, length};
 ghost use Rattle.loaded_setting.specs.Ready.{setting_in};
 ghost use Rattle.writing.specs.Writing.{Writes};

@@ -1,5 +1,8 @@
 // Carrying a source document by loaded tables and a loaded embedding: the templates of its types are prepared in arrays that are
 // long enough, and the document is carried by them.
+
+#![tactic(auto)]
+
 ghost use Rattle.std.specs.Prelude.{◌≡◌, length};
 ghost use Rattle.loaded_table.specs.Loaded.{table_by};
 ghost use Rattle.loaded_setting.specs.Ready.{setting_in, Ready};

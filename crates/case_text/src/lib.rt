@@ -1,4 +1,7 @@
 // How the program `cases` reads cases, as tools/make-cases writes them, and prints answers.
+
+#![tactic(auto)]
+
 pub use answers_of::{print, print_written};
 pub use documents::{lend_output, next_entry, read_document};
 

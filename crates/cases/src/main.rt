@@ -1,6 +1,9 @@
 // Runs worked cases through the entries: reads them from standard input, as tools/make-cases writes them, and prints a
 // line for each: `ok`, value, filler elements and, where the entry writes, the bytes written in hexadecimal; or `refused`,
 // number, document and mark.
+
+#![tactic(auto)]
+
 use answer_numbers::Answer;
 use case_text::{lend_output, next_entry, print, print_written, read_document};
 

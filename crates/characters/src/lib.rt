@@ -1,4 +1,7 @@
 // The test of a character, for every caller: how XML text writes it, or that no document may hold it.
+
+#![tactic(auto)]
+
 ghost use Rattle.std.specs.Prelude.{◌≡◌};
 ghost use Rattle.model.specs.Definitions.Characters as model;
 ghost use Rattle.characters.specs.Classes.{class};

@@ -1,5 +1,8 @@
 // The children of a source element, one after another, each found in a target document at the end of its path. specs/ says
 // what is found by the model's definitions.
+
+#![tactic(auto)]
+
 ghost use Rattle.std.specs.Prelude.{◌≡◌, List, ℕ, ◌+◌, ◌-◌, ◌*◌, ◌≤◌, ◌<◌, get_or, length};
 ghost use Rattle.loaded_table.specs.Loaded.{kinds_of, table_by, optional_kind, list_kind};
 ghost use Rattle.loaded_embedding.specs.Loaded.{targets_of, starts_of, lengths_of};

@@ -1,4 +1,7 @@
 // The rows of a source choice: one for each member, and behind them that of an optional choice that holds nothing.
+
+#![tactic(auto)]
+
 ghost use Rattle.std.specs.Prelude.{◌≡◌, true, ◌+◌, get_or};
 ghost use Rattle.loaded_table.specs.Kinds.{choice_code};
 ghost use Rattle.loaded_table.specs.Loaded.{kinds_of, optional_kind};

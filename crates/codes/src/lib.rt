@@ -1,6 +1,9 @@
 // Paper 01's numbers by name, the limits, commands, documents and refusals, and those of paper 02's reasons (N9), operations (N8) and
 // refusals.
 
+#![tactic(auto)]
+
+
 // No document is longer, in bytes.
 pub const MAX_BYTES: usize = 60000;
 

@@ -1,5 +1,8 @@
 // Whether a document is the image of a source document: the templates of the setting are prepared in arrays that are long enough,
 // and the document is compared along them.
+
+#![tactic(auto)]
+
 ghost use Rattle.std.specs.Prelude.{◌≡◌, true, ◌↔◌};
 ghost use Rattle.model.specs.Definitions.Content.{content_of, document};
 ghost use Rattle.model.specs.Definitions.Image.{image};

@@ -1,4 +1,7 @@
 // What the programs share: documents from files.
+
+#![tactic(auto)]
+
 ghost use Rattle.std.specs.Prelude.{◌≡◌, take};
 
 // The first n bytes of a buffer, or all where it has fewer.

@@ -1,4 +1,7 @@
 // Numbers in decimal, digit by digit: by comparing with powers of ten and subtracting them.
+
+#![tactic(auto)]
+
 ghost use Rattle.std.specs.Prelude.{◌≡◌, ◌+◌, ◌*◌, ◌^◌, ◌<◌, ◌≤◌, length, take};
 ghost use Rattle.model.specs.Definitions.Decimal.{DecimalText, DecimalWritten};
 ghost use Rattle.decimal.specs.Digits.{most_digits, Width, Share, WritesDecimal};

@@ -1,5 +1,8 @@
 // Checks 8 to 10 of an embedding in loaded form: each edge of each source type, in order. specs/Tests.antt says what is asked of
 // an edge.
+
+#![tactic(auto)]
+
 ghost use Rattle.std.specs.Prelude.{◌≡◌, ◌<◌};
 ghost use Rattle.answers.specs.Answers.{verdict};
 ghost use Rattle.loaded_table.specs.Loaded.{table_by, types_in};

@@ -1,5 +1,8 @@
 // Judging an embedding between accepted tables: all its checks in paper 01's order, and the embedding loaded where none
 // refuses it.
+
+#![tactic(auto)]
+
 ghost use Rattle.std.specs.Prelude.{◌≡◌};
 ghost use Rattle.answers.specs.Answers.{judged};
 ghost use Rattle.loaded_table.specs.Loaded.{table_by};

@@ -1,6 +1,9 @@
 // Loading an embedding document into one array: the map of types, and where each edge's path stands. specs/Loading.antt
 // says what a command does to the array, and proofs/ shows that what is loaded, continued by what the rest of the document
 // says, is the document's embedding.
+
+#![tactic(auto)]
+
 ghost use Rattle.std.specs.Prelude.{◌≡◌, ◌≤◌, length};
 ghost use Rattle.loaded_table.specs.Loaded.{table_by, Bounded};
 ghost use Rattle.loaded_embedding.specs.Loaded.{Cleared};

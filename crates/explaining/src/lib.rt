@@ -1,5 +1,8 @@
 // Explaining why an embedding's paths clash, after judging it: which two members of which source type, and why. For any other embedding
 // the judging answer.
+
+#![tactic(auto)]
+
 pub mod clashes;
 
 ghost use Rattle.std.specs.Prelude.{◌≡◌, eqb};

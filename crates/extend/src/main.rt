@@ -1,6 +1,9 @@
 // Extends the table in the file s1 of the working directory by the operations in the file op. A file that can't be opened counts as empty.
 // Prints a line for each operation, `types` and the number of types, or `refused`, number, document and mark; then for each type a line
 // with its height and the byte length of its filler, held at 60,001. Where a document is refused, prints one line for that.
+
+#![tactic(auto)]
+
 ghost use Rattle.std.specs.Prelude.{◌≤◌};
 ghost use Rattle.model.specs.Definitions.Refusals.{max_length};
 

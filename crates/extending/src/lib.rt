@@ -1,5 +1,8 @@
 // A document of operations carried out on a loaded table, and the report of it (paper 02, N8). The definitions are in the model's
 // Extending.antt.
+
+#![tactic(auto)]
+
 ghost use Rattle.std.specs.Prelude.{◌≡◌, List, [], ◌∷◌, ◌+◌, ◌*◌, ◌≤◌, ◌<◌, length, take};
 ghost use Rattle.answers.specs.Answers.{extensionResult};
 ghost use Rattle.answer_numbers.specs.Numbers.{Answers};

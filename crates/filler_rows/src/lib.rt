@@ -1,4 +1,7 @@
 // Rows of filler: what filler of each target type holds, and where it stands in the pool.
+
+#![tactic(auto)]
+
 ghost use Rattle.std.specs.Prelude.{ℕ, ◌+◌, ◌*◌, ◌≤◌, ◌<◌, length};
 ghost use Rattle.model.specs.Definitions.Templates.{filler_row};
 ghost use Rattle.loaded_table.specs.Loaded.{table_by, types_in};

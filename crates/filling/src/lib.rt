@@ -1,4 +1,7 @@
 // Writes the image of a source document by prepared rows.
+
+#![tactic(auto)]
+
 ghost use Rattle.std.specs.Prelude.{List, ℕ, length};
 ghost use Rattle.scanning.specs.Spanning.{Spans};
 ghost use Rattle.writing.specs.Writing.{Writes};

@@ -1,4 +1,7 @@
 // Following a path of an embedding in a target document.
+
+#![tactic(auto)]
+
 ghost use Rattle.std.specs.Prelude.{◌+◌, ◌<◌};
 ghost use Rattle.loaded_table.specs.Loaded.{table_by, kind_from};
 ghost use Rattle.loaded_embedding.specs.Loaded.{steps_from};

@@ -1,5 +1,8 @@
 // The row of a target element with what stands along some paths below it, as symbols in a pool of bytes. Steps are read from the
 // embedding's document.
+
+#![tactic(auto)]
+
 ghost use Rattle.std.specs.Prelude.{◌≡◌, [], ◌∷◌, ◌+◌, ◌≤◌, ◌<◌, length};
 ghost use Rattle.model.specs.Definitions.Image.{under};
 ghost use Rattle.loaded_embedding.specs.Loaded.{steps_from};

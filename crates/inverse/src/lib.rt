@@ -1,5 +1,8 @@
 // Reading a target document along the paths of an embedding, into a buffer: what the source document holds of which it
 // would be the image. specs/ says what each function reads by the model's definitions.
+
+#![tactic(auto)]
+
 ghost use Rattle.std.specs.Prelude.{◌≡◌, ◌+◌, ◌*◌, ◌≤◌, ◌<◌, get_or, length};
 ghost use Rattle.loaded_table.specs.Loaded.{table_by};
 ghost use Rattle.loaded_embedding.specs.Loaded.{targets_of, starts_of, lengths_of};

@@ -1,4 +1,7 @@
 // What the three entries that judge answer, for any bytes. Crate lafindry offers them to C.
+
+#![tactic(auto)]
+
 ghost use Rattle.std.specs.Prelude.{◌≡◌};
 ghost use Rattle.model.specs.Definitions.Entries.{answer_of, judge_table, judge_tree, judge_embedding};
 ghost use Rattle.loaded_table.specs.Loaded.{Bounded};

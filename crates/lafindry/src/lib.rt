@@ -1,4 +1,7 @@
 // The entries that a C program calls, each on any bytes. include/lafindry.h declares them.
+
+#![tactic(auto)]
+
 ghost use Rattle.model.specs.Definitions.Decimal.{DecimalWritten};
 ghost use Rattle.lafindry.specs.Calls.{JudgeTableCall, JudgeEmbeddingCall, ExplainClashCall, ExtendTableCall, JudgeTreeCall, CarryCall, BringBackCall, ReadAlongCall};
 

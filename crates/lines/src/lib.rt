@@ -1,4 +1,7 @@
 // The lines that programs print, made before they are printed, so that each is printed whole.
+
+#![tactic(auto)]
+
 ghost use Rattle.std.specs.Prelude.{◌+◌, ◌*◌, ◌≤◌, length};
 ghost use Rattle.model.specs.Definitions.Lines.{Line, AnswerLine, CarryLine, BringLine, ReadLine, OperationLine, KeptLine};
 ghost use Rattle.answer_numbers.specs.Numbers.{numbers};

@@ -1,4 +1,7 @@
 // The rows of a source list: its own, up to the first list on its path, and that of an item.
+
+#![tactic(auto)]
+
 ghost use Rattle.std.specs.Prelude.{◌≡◌, ◌+◌, ◌-◌, ◌*◌, ◌≤◌, ◌<◌, length, get_or};
 ghost use Rattle.std.proofs.Math.Option.{none};
 ghost use Rattle.model.specs.Definitions.Templates.{template, item_template, divided_of};

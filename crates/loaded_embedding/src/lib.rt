@@ -2,6 +2,9 @@
 // path stands. Steps are read from the document itself, so nothing is copied. specs/Loaded.antt says which embedding of the
 // model this is.
 
+#![tactic(auto)]
+
+
 ghost use Rattle.std.specs.Prelude.{◌≡◌, ◌<◌, ◌+◌, get_or, set};
 ghost use Rattle.loaded_embedding.specs.Loaded.{targets_of, starts_of, lengths_of, edge_places, lengths_start, map_size, starts_start};
 ghost use Rattle.model.specs.Definitions.TableChecks.{max_types};

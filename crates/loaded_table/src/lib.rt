@@ -1,6 +1,8 @@
 // The loaded form of a table (a normalised DTD): one array of numbers, in sections. specs/Loaded.antt says which table of the
 // model such an array stands for.
 
+#![tactic(auto)]
+
 ghost use Rattle.std.specs.Prelude.{◌≡◌, ◌<◌, ◌+◌, ◌*◌, get_or, set};
 ghost use Rattle.loaded_table.specs.Kinds.{choice_code};
 ghost use Rattle.loaded_table.specs.Loaded.{types_in, kinds_of, counts_of, heights_of, fill_of, members_in, counts_start, fill_start, heights_start, member_place, members_start, table_size, types_place};

@@ -1,4 +1,7 @@
 // Compares a document with the image of a source document by prepared rows, up to the first difference.
+
+#![tactic(auto)]
+
 ghost use Rattle.std.specs.Prelude.{◌≡◌, true, List, [], ◌∷◌, ◌↔◌, ℕ, ◌≤◌, length, take, drop};
 ghost use Rattle.scanning.specs.Spanning.{Spans};
 ghost use Rattle.row_traversal.specs.Asked.{FillerAsked, PlainAsked, ElementAsked, ItemsAsked, RowAsked, ImageAsked};

@@ -1,5 +1,8 @@
 // The measure of an image by the sizes of prepared templates: levels, bytes and bytes of filler, in one pass over the source
 // document. No path is looked at, and nothing is built.
+
+#![tactic(auto)]
+
 ghost use Rattle.std.specs.Prelude.{◌≡◌, ◌+◌, ◌*◌, ◌<◌, max, length, get_or};
 ghost use Rattle.model.specs.Definitions.Table.{kind_of};
 ghost use Rattle.model.specs.Definitions.Content.{Content, bytes, content_of};

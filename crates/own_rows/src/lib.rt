@@ -1,4 +1,7 @@
 // Rows of source types: what all of them share, and the row of a type that is a text, empty or a sequence.
+
+#![tactic(auto)]
+
 ghost use Rattle.std.specs.Prelude.{◌≡◌, ℕ, ◌+◌, ◌≤◌, ◌<◌, length, get_or};
 ghost use Rattle.model.specs.Definitions.Templates.{filler_row};
 ghost use Rattle.loaded_table.specs.Loaded.{table_by, kinds_of, counts_of, choice_kind};

@@ -1,5 +1,8 @@
 // The number of elements that paths build in the image of a source document: the templates of the setting are prepared in arrays that
 // are long enough, and their elements are counted along the document.
+
+#![tactic(auto)]
+
 ghost use Rattle.std.specs.Prelude.{◌≡◌, min};
 ghost use Rattle.model.specs.Definitions.Content.{content_of};
 ghost use Rattle.model.specs.Definitions.Image.{image_by};

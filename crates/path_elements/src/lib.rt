@@ -1,5 +1,8 @@
 // The number of elements that paths build in the image of a source document, by prepared rows, in one pass over the source
 // document: the elements of the image without its root and its filler. Nothing is built.
+
+#![tactic(auto)]
+
 ghost use Rattle.std.specs.Prelude.{◌≡◌, ◌+◌, ◌≤◌, ◌<◌, min, length};
 ghost use Rattle.model.specs.Definitions.Table.{kind_of};
 ghost use Rattle.model.specs.Definitions.Content.{bytes, content_of};

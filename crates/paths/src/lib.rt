@@ -1,5 +1,8 @@
 // A path of an embedding, read from the embedding's document and followed through the types of the target table. A path is
 // given by `start`, the offset two bytes before its first step, where its 21 stands, and by its number of steps.
+
+#![tactic(auto)]
+
 ghost use Rattle.std.specs.Prelude.{◌≡◌, ◌+◌, ◌*◌, ◌≤◌, ◌<◌, length, get_or};
 ghost use Rattle.loaded_table.specs.Loaded.{table_by};
 ghost use Rattle.loaded_embedding.specs.Loaded.{steps_from};

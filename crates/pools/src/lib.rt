@@ -1,4 +1,7 @@
 // How long the arrays for prepared templates are. Clearing them is what a small document pays, so there are three sizes.
+
+#![tactic(auto)]
+
 ghost use Rattle.std.specs.Prelude.{◌≡◌, true, ◌*◌, ◌≤◌, ◌<◌, length};
 ghost use Rattle.loaded_embedding.specs.Loaded.{edge_places};
 ghost use Rattle.loaded_table.specs.Loaded.{types_in};

@@ -1,4 +1,7 @@
 // Prepares the templates of a setting: for each target type the row of its filler, for each source type the rows of its image.
+
+#![tactic(auto)]
+
 ghost use Rattle.std.specs.Prelude.{◌+◌};
 ghost use Rattle.loaded_setting.specs.Ready.{setting_in, Ready};
 ghost use Rattle.rows.specs.Rows.{Rows};

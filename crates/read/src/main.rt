@@ -1,6 +1,9 @@
 // Reads the document in the file tr of the working directory along the paths of the embedding in em, from the source table in s1 to
 // the target table in s2. A file that can't be opened counts as empty. Prints `read`, the length of the source document and the number
 // of target elements, the root aside, on no followed path, or `refused`, number, document and mark.
+
+#![tactic(auto)]
+
 use answer_numbers::Answer;
 use codes::MAX_BYTES;
 use console::read_file;

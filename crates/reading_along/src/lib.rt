@@ -1,5 +1,8 @@
 // Reading a target document along the paths by loaded tables and a loaded embedding: the source is read into a local buffer, the
 // elements on followed paths are counted by it, and only then is it written to the lent output.
+
+#![tactic(auto)]
+
 ghost use Rattle.std.specs.Prelude.{◌≡◌, List, ℕ, ◌+◌, ◌≤◌, ◌<◌, length};
 ghost use Rattle.model.specs.Definitions.Content.{Content, content_of};
 ghost use Rattle.model.specs.Definitions.Inverse.{yields, missing, reading};

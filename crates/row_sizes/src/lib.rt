@@ -1,4 +1,7 @@
 // The sizes of prepared rows: levels, bytes and bytes of filler, each held at 60,001, found by one loop along each row.
+
+#![tactic(auto)]
+
 ghost use Rattle.std.specs.Prelude.{◌≡◌, List, ℕ, ◌+◌, ◌-◌, ◌*◌, ◌≤◌, ◌<◌, max, length};
 ghost use Rattle.std.proofs.Math.Option.{Option};
 ghost use Rattle.model.specs.Definitions.Table.{kind_of};

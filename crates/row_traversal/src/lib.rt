@@ -1,4 +1,7 @@
 // Going along prepared rows: where the children that a row stands for are, and their rows.
+
+#![tactic(auto)]
+
 ghost use Rattle.std.specs.Prelude.{◌≡◌, ◌-◌, ◌≤◌, ◌<◌};
 ghost use Rattle.model.specs.Definitions.Templates.{first_in};
 ghost use Rattle.model.specs.Definitions.TableChecks.{max_members};

@@ -1,5 +1,8 @@
 // Prepared templates: a pool of symbols, the places of rows in it, and the sizes of rows. specs/Rows.antt says which templates
 // of the model they hold.
+
+#![tactic(auto)]
+
 ghost use Rattle.std.specs.Prelude.{◌≡◌, ◌+◌, ◌*◌, ◌≤◌, ◌<◌, take, drop};
 ghost use Rattle.loaded_table.specs.Loaded.{Bounded, table_by, types_in, members_in};
 ghost use Rattle.rows.specs.Rows.{from_of, to_of, depth_in, levels_in, bytes_in, filler_in, index_in, member_index, first_from, source_row, item_row, HasRow, set_row};

@@ -1,4 +1,7 @@
 // Finding one's way in a tree document, on its bytes.
+
+#![tactic(auto)]
+
 ghost use Rattle.model.specs.Definitions.Content.{Content};
 ghost use Rattle.std.specs.Prelude.{◌+◌};
 ghost use Rattle.model.specs.Definitions.Inverse.{child_at, child_of_type, found_at, bytes_before};

@@ -1,4 +1,7 @@
 // Judging two tables and an embedding between them, in paper 01's order, and loading all three where none is refused.
+
+#![tactic(auto)]
+
 ghost use Rattle.std.specs.Prelude.{◌≡◌, length};
 ghost use Rattle.loaded_embedding.specs.Loaded.{Cleared};
 ghost use Rattle.setting_judge.specs.Judging.{ByVerdict};

@@ -1,5 +1,8 @@
 // The byte length of a filler element of each type of a loaded table, held at 60,001. The lengths are found in place, by
 // rounds until one changes nothing; what stood there before does not matter. specs/Fill.antt says what the section holds.
+
+#![tactic(auto)]
+
 ghost use Rattle.std.specs.Prelude.{◌≡◌, ◌+◌, ◌<◌, get_or};
 ghost use Rattle.loaded_table.specs.Loaded.{types_in, heights_of, fill_of, table_by, Bounded, fill_start, held_length};
 ghost use Rattle.model.specs.Theorems.Facts.{SoundTable};

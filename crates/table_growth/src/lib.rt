@@ -1,5 +1,8 @@
 // The two operations of paper 02, N8 on a loaded table's numbers: one type more, and one member more of a choice of either kind. What is
 // kept with each type is true again afterwards. specs/Growth.antt says what each answers and leaves.
+
+#![tactic(auto)]
+
 ghost use Rattle.std.specs.Prelude.{◌≡◌, true, ◌≤◌, ◌<◌, get_or, eqb};
 ghost use Rattle.loaded_table.specs.Loaded.{types_in, counts_of, table_by, Bounded};
 ghost use Rattle.model.specs.Definitions.Basics.{member_of};

@@ -1,5 +1,8 @@
 // What is kept with each type of a loaded table: its height, and whether it has a finite instance. The heights are found in
 // place, by rounds until one changes nothing. specs/Heights.antt says what the section holds.
+
+#![tactic(auto)]
+
 ghost use Rattle.std.specs.Prelude.{◌≡◌, ℕ, ◌+◌, ◌≤◌, ◌<◌, min, length, take, get_or};
 ghost use Rattle.answers.specs.Answers.{verdict};
 ghost use Rattle.loaded_table.specs.Loaded.{types_in, heights_of, table_by, Bounded, heights_start};

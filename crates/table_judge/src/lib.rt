@@ -1,4 +1,7 @@
 // Judging a table: all its checks in paper 01's order, and the loaded table where none refuses it.
+
+#![tactic(auto)]
+
 ghost use Rattle.std.specs.Prelude.{◌≡◌, length};
 ghost use Rattle.model.specs.Definitions.Basics.{passes};
 ghost use Rattle.model.specs.Definitions.TableChecks.{table_form, table_limits};

@@ -1,5 +1,8 @@
 // Loading a table document into one array, one command at a time. specs/Loading.antt says what a command does to the array,
 // and proves that what is loaded, continued by what the rest of the document says, is the document's table.
+
+#![tactic(auto)]
+
 ghost use Rattle.std.specs.Prelude.{◌≡◌, ◌+◌, ◌≤◌, ◌<◌, length, get_or, set};
 ghost use Rattle.loaded_table.specs.Loaded.{list_kind, counts_of, counts_start, member_place, members_start, table_size};
 ghost use Rattle.model.specs.Definitions.Basics.{passes};

@@ -1,5 +1,8 @@
 // A loaded table by value (paper 02, N8): it is made by loading a document, and its two operations hand it back, with all that is kept
 // of its types true. specs/Operations.antt says what each promises.
+
+#![tactic(auto)]
+
 ghost use Rattle.std.specs.Prelude.{◌≡◌};
 ghost use Rattle.model.specs.Definitions.Operations.{append_type, append_member};
 ghost use Rattle.table_operations.specs.Operations.{held, StandsFor, LoadedFrom, is_done, Operated};

@@ -1,5 +1,8 @@
 // Check 11 of a tree document: the first command that no conforming document has after the same beginning.
 // What may still follow in an open element is kept as its type and how many elements it has had.
+
+#![tactic(auto)]
+
 ghost use Rattle.std.specs.Prelude.{◌≡◌, ◌*◌, ◌<◌, length, take, drop, get_or};
 ghost use Rattle.model.specs.Definitions.Basics.{member_of};
 ghost use Rattle.model.specs.Definitions.Conformance as model;

@@ -1,3 +1,6 @@
 // The commands of a tree document, and check 2 of paper 01, its form.
+
+#![tactic(auto)]
+
 pub mod command;
 pub mod form;

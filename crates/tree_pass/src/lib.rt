@@ -1,4 +1,7 @@
 // All checks of a tree document in one pass, for documents that are accepted.
+
+#![tactic(auto)]
+
 ghost use Rattle.std.specs.Prelude.{◌≡◌, true, ◌<◌, length};
 ghost use Rattle.loaded_table.specs.Loaded.{Bounded};
 ghost use Rattle.tree_expected.specs.Expected.{TypeReadable};

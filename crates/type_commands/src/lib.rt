@@ -1,5 +1,8 @@
 // One type's own commands (paper 02, N8): whether bytes are exactly that, and how the type that they write is stored.
 // specs/Types.antt says what an array then holds.
+
+#![tactic(auto)]
+
 ghost use Rattle.std.specs.Prelude.{◌≡◌, true, ◌≤◌, ◌<◌, ◌/◌, length, drop};
 ghost use Rattle.loaded_table.specs.Loaded.{table_size};
 ghost use Rattle.model.specs.Definitions.Basics.{is_there};

@@ -1,5 +1,8 @@
 // Where reading a target document along the paths fails: the first source element, in document order, whose own paths can't be
 // followed. specs/ says what is found by the model's definition of reading.
+
+#![tactic(auto)]
+
 ghost use Rattle.std.specs.Prelude.{◌≡◌, not, ◌+◌, ◌-◌, ◌*◌, ◌<◌, get_or};
 ghost use Rattle.children.specs.Cursors.{ImageThere};
 ghost use Rattle.loaded_table.specs.Loaded.{table_by};

@@ -1,4 +1,7 @@
 // Writers into a lent output: each writes bytes at a position and returns the position after them.
+
+#![tactic(auto)]
+
 ghost use Rattle.std.specs.Prelude.{[], ◌∷◌, ◌+◌, ◌-◌, ◌≤◌, length, take, drop};
 ghost use Rattle.writing.specs.Writing.{Writes};
 
