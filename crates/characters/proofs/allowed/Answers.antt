@@ -15,4 +15,4 @@ returns-in-NotAllowed c = ap (λ κ. not (is_not_allowed κ)) (sym (ap class c.i
 
 pub returns-in_default : goal.returns-in_default
 unfolding is_not_allowed allowed
-returns-in_default c = in_arm enum (λ r. not (is_not_allowed (class r))) true (0 ∷ 1 ∷ 2 ∷ []) (search rules) c.class_of-class.result c.in_default.in_default-own.keys2 ∙ ap (λ κ. not (is_not_allowed κ)) c.class_of-class.ensures
+returns-in_default c = ?
