@@ -16,7 +16,7 @@ use codes::{EMBEDDING, OUTPUT, SOURCE_TABLE, TREE};
 
 // Fields that don't apply are 0; so is `refusal` where the input is accepted.
 #[repr(C)]
-#[derive(Drop)]
+#[derive(Clone, Copy)]
 pub struct Answer {
     pub refusal: u64,
     pub document: u64,

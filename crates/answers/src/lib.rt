@@ -12,7 +12,7 @@ pub enum Verdict {
 }
 
 // What is wrong with a document; the number is the mark.
-#[derive(Drop)]
+#[derive(Clone, Copy)]
 pub enum Fault {
     TooLong,
     BadForm(usize),
@@ -64,7 +64,7 @@ pub enum Reading {
 
 // What an operation on a loaded table finds (02, N8): the type to extend doesn't exist or is no choice; the table that it would give has a
 // fault, whose mark isn't told and is 0; or it is done, and there are so many types.
-#[derive(Drop)]
+#[derive(Clone, Copy)]
 pub enum Extension {
     NoChoice,
     Faulty(Fault),

@@ -12,11 +12,11 @@ use Rattle.model.specs.Definitions.Content.{Content, content_of, document}
 use Rattle.model.specs.Definitions.Image.{Setting, image}
 use Rattle.model.specs.Definitions.Inverse.{read_back, bring_back_content}
 use Rattle.model.specs.Definitions.Entries.{accepted, Outcome, untouched, written, read_within, bring_content}
-use Rattle.model.specs.Theorems.Facts.{Valid}
-use Rattle.model.specs.Theorems.Documents.{document_injective}
-use Rattle.model.specs.Theorems.NeverLonger.{document_never_longer}
-use Rattle.model.specs.Theorems.BringingBack as model
-use Rattle.model.specs.Theorems.BringingBack.{read_image, brought_exactly, nothing_exactly}
+use Rattle.model.proofs.Theorems.Facts.{Valid}
+use Rattle.model.proofs.Theorems.Documents.{document_injective}
+use Rattle.model.proofs.Theorems.NeverLonger.{document_never_longer}
+use Rattle.model.proofs.Theorems.BringingBack as model
+use Rattle.model.proofs.Theorems.BringingBack.{read_image, brought_exactly, nothing_exactly}
 use Rattle.writing.specs.Writing.{Writes}
 use Rattle.inverse.specs.Reading.{BringsTo}
 use Rattle.inverse.specs.Sources.{ReadFrom, conforms, content_is}

@@ -2,7 +2,7 @@
 use mathlib.Core.Path.{◌≡◌, refl}
 use mathlib.Core.Bool.{Bool, true, false, not}
 use mathlib.Core.Logic.{◌↔◌}
-use Rattle.model.specs.Theorems.Tools.{true_false}
+use Rattle.model.proofs.Theorems.Tools.{true_false}
 
 -- "not yes" says that the fact does not hold, and not "not yes" that it does
 pub denied : (b : Bool) {P : Type 0} → (b ≡ true) ↔ P → not b ≡ true → P → ⊥

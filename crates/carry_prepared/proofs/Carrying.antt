@@ -23,8 +23,8 @@ use Rattle.model.specs.Definitions.TreeChecks.{max_levels}
 use Rattle.model.specs.Definitions.Image.{Setting, image, image_by, image_levels, image_length, image_filler}
 use Rattle.model.specs.Definitions.Refusals.{max_length}
 use Rattle.model.specs.Definitions.Entries.{accepted, Outcome, written, carry_within, carry_content}
-use Rattle.model.specs.Theorems.Measures.{image-levels, image-length, Marked, marked, marked_end, marked_char, marked_elem, unmarked, count_filler, marked_is_image, marked_filler}
-use Rattle.model.specs.Theorems.EntryLaws.{content_too_deep, content_too_long, content_no_room}
+use Rattle.model.proofs.Theorems.Measures.{image-levels, image-length, Marked, marked, marked_end, marked_char, marked_elem, unmarked, count_filler, marked_is_image, marked_filler}
+use Rattle.model.proofs.Theorems.EntryLaws.{content_too_deep, content_too_long, content_no_room}
 
 -- ---- filler
 

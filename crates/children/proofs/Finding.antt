@@ -6,7 +6,7 @@ use Prim.Native.Nat.{ℕ, ◌<◌}
 use native.Mathlib.Omega.{arith}
 use lib.ListN.{length, get_or}
 use Rattle.model.specs.Definitions.Content.{Content, end, char, elem}
-use Rattle.model.specs.Theorems.Tools.{some_none}
+use Rattle.model.proofs.Theorems.Tools.{some_none}
 use Rattle.scanning.specs.Scanning.{ContentAt}
 use Rattle.scanning.specs.Finding.{FoundContent}
 use Rattle.scanning.specs.Laws.{content_within, end_first, ends}

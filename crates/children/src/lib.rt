@@ -25,7 +25,7 @@ use scanning::Found;
 use scanning::spans::close_of;
 
 // A source type, and where the content of an image of an element of that type begins.
-#[derive(Drop)]
+#[derive(Clone, Copy)]
 pub struct Image {
     pub sigma: usize,
     pub from: usize,
@@ -33,7 +33,7 @@ pub struct Image {
 
 // The items of a target list that are left, from the offset `at` on; each is followed from its type `item` along the path
 // at `start`, and what stands at the end is read as an element of source type `child`.
-#[derive(Drop)]
+#[derive(Clone, Copy)]
 pub struct Rest {
     pub at: usize,
     pub item: usize,

@@ -7,7 +7,7 @@ use native.Mathlib.Numerals.{add-one}
 use native.Mathlib.Omega.{arith}
 use lib.ListN.{length, take, set, replicate, length-set, length-append}
 use Rattle.model.specs.Definitions.Decimal.{Digits, no_digit, value_from, digit_bytes, DecimalText}
-use Rattle.model.specs.Theorems.Decimal.{last_digit, digits_behind, bytes_behind, form_of}
+use Rattle.model.proofs.Theorems.Decimal.{last_digit, digits_behind, bytes_behind, form_of}
 use Rattle.decimal.specs.Digits.{most_digits, Width, Share}
 use Rattle.decimal.proofs.Powers.{next_digit}
 

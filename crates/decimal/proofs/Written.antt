@@ -5,7 +5,7 @@ use Prim.Native.Nat.{ℕ, ◌-◌, ◌≤◌, ◌<◌}
 use native.Mathlib.Omega.{arith}
 use lib.ListN.{length, take, drop, length-take}
 use Rattle.model.specs.Definitions.Decimal.{DecimalText, DecimalWritten, with_room, without_room}
-use Rattle.model.specs.Theorems.EntryLaws.{written_start}
+use Rattle.model.proofs.Theorems.EntryLaws.{written_start}
 use Rattle.writing.specs.Writing.{Writes}
 use Rattle.decimal.specs.Digits.{most_digits, WritesDecimal}
 

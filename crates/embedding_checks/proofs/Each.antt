@@ -10,7 +10,7 @@ use Rattle.model.specs.Definitions.Basics.{Verdict, passes, fails, pick, or_else
 use Rattle.model.specs.Definitions.Table.{Kind, text, empty, sequence, choice, list, Table, kind_of, edges_of}
 use Rattle.model.specs.Definitions.Embedding.{Edge, TypeMap, Embedding, no_map, target_of, end_of, leaves, first_path, no_edge, edge_of}
 use Rattle.model.specs.Definitions.EmbeddingChecks.{each_type, first_edge, ends_at, ends_at_text, ends_of, right_steps, agrees, steps_of, first_clash, clashes_of, clash, wrong_end_verdict, wrong_steps_verdict, path_clash_verdict}
-use Rattle.model.specs.Theorems.Tools.{pick_true, pick_false, and_left, and_right}
+use Rattle.model.proofs.Theorems.Tools.{pick_true, pick_false, and_left, and_right}
 use Rattle.loaded_table.specs.Loaded.{table_by, length_of_lem}
 use Rattle.loaded_embedding.specs.Loaded.{targets_of, starts_of, lengths_of, embedding_by}
 use Rattle.embedding_clash.specs.Ready.{Checkable}

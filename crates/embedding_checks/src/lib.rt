@@ -26,7 +26,7 @@ use loaded_table::{OPTIONAL, TABLE};
 
 // What is asked of each edge: where its path ends, which kinds its steps leave, that it clashes with no earlier one; or all three,
 // which says whether every check passes, but not which one fails first.
-#[derive(Drop)]
+#[derive(Clone, Copy)]
 pub enum Check {
     Ends,
     Steps,

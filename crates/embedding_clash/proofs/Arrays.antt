@@ -7,7 +7,7 @@ use native.Mathlib.Omega.{arith}
 use lib.ListN.{length, get_or}
 use Rattle.model.specs.Definitions.Table.{Kind, Table, kind_of, edges_of}
 use Rattle.model.specs.Definitions.Embedding.{Edge, TypeMap, no_map, target_of, no_edge, edge_of}
-use Rattle.model.specs.Theorems.Facts.{Walks, All, all_none, all_more}
+use Rattle.model.proofs.Theorems.Facts.{Walks, All, all_none, all_more}
 use Rattle.loaded_table.specs.Loaded.{table_by, types_in, kinds_of, counts_of, members_in, kind_in, length_of_lem, kind_of_lem}
 use Rattle.loaded_embedding.specs.Loaded.{targets_of, starts_of, lengths_of, steps_from, edge_in, edges_from, maps_from, embedding_in}
 use Rattle.embedding_clash.specs.Paths.{path_of, Walkable}

@@ -20,8 +20,8 @@ use Rattle.model.specs.Definitions.Embedding.{next, both_end, first_ends, second
 use Rattle.model.specs.Definitions.EmbeddingChecks as checks
 use Rattle.model.specs.Definitions.EmbeddingChecks.{equal_paths, earlier_begins, later_begins, part_at_sequence, where_one_ends, where_paths_part, clash_reason}
 use Rattle.model.specs.Definitions.Explanation.{clash_for, pair_clash}
-use Rattle.model.specs.Theorems.Facts.{Walks}
-use Rattle.model.specs.Theorems.Partings.{step_shared, behind_shared, step_differs}
+use Rattle.model.proofs.Theorems.Facts.{Walks}
+use Rattle.model.proofs.Theorems.Partings.{step_shared, behind_shared, step_differs}
 use Rattle.loaded_table.specs.Loaded.{kind_from, table_by, types_in, kinds_of, counts_of, members_in, kind_of_lem}
 use Rattle.loaded_table.specs.Kinds.{choice_code, each_code, below_lists, list_codes, row_codes, other_codes, choice_code_lem, choice_from}
 use Rattle.loaded_embedding.specs.Loaded.{targets_of, starts_of, lengths_of, edge_in}

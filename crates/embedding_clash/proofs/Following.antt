@@ -13,8 +13,8 @@ use borrow.Author.Tests.{ltb-true, ltb-false}
 use Rattle.model.specs.Definitions.Basics.{entry}
 use Rattle.model.specs.Definitions.Table.{text, empty, Table, kind_of, members_of, step_from}
 use Rattle.model.specs.Definitions.Embedding.{next, end_of}
-use Rattle.model.specs.Theorems.Facts.{Walks, onward}
-use Rattle.model.specs.Theorems.Tools.{some_none}
+use Rattle.model.proofs.Theorems.Facts.{Walks, onward}
+use Rattle.model.proofs.Theorems.Tools.{some_none}
 use Rattle.loaded_table.specs.Loaded.{table_by, types_in, kinds_of, counts_of, members_in, length_of_lem, kind_of_lem}
 use Rattle.loaded_table.specs.Steps.{step_in_row}
 use Rattle.loaded_embedding.specs.Loaded.{steps_from, steps_more}

@@ -3,7 +3,7 @@ use Rattle.std.specs.Prelude.{◌≡◌, List, [], ◌++◌, ℕ, ◌+◌, ◌-�
 use Rattle.std.proofs.Math.Option.{some}
 use Rattle.model.specs.Definitions.Table.{kind_of, step_from}
 use Rattle.model.specs.Definitions.Embedding.{next}
-use Rattle.model.specs.Theorems.Facts.{Walks}
+use Rattle.model.proofs.Theorems.Facts.{Walks}
 use Rattle.loaded_table.specs.Loaded.{table_by, Bounded}
 use Rattle.loaded_embedding.specs.Loaded.{steps_from, starts_of, lengths_of}
 

@@ -2,7 +2,7 @@
 use Rattle.std.specs.Prelude.{ℕ, ◌*◌, ◌<◌, List, get_or}
 use Rattle.model.specs.Definitions.Table.{kind_of, edges_of}
 use Rattle.model.specs.Definitions.Embedding.{Edge, TypeMap, no_map, target_of}
-use Rattle.model.specs.Theorems.Facts.{WellFormed, Walks, All}
+use Rattle.model.proofs.Theorems.Facts.{WellFormed, Walks, All}
 use Rattle.loaded_table.specs.Loaded.{table_by, types_in}
 use Rattle.loaded_table.specs.Loaded as loaded_table
 use Rattle.loaded_embedding.specs.Loaded.{embedding_by}

@@ -8,8 +8,8 @@ use borrow.Author.Tests.{eq-eqb, ne_eqb}
 use Rattle.model.specs.Definitions.Basics.{pick}
 use Rattle.model.specs.Definitions.Table.{Table, kind_of, is_choice}
 use Rattle.model.specs.Definitions.Embedding.{next, before_choice, same_steps}
-use Rattle.model.specs.Theorems.Facts.{Walks}
-use Rattle.model.specs.Theorems.Tools.{pick_true, pick_false}
+use Rattle.model.proofs.Theorems.Facts.{Walks}
+use Rattle.model.proofs.Theorems.Tools.{pick_true, pick_false}
 use Rattle.loaded_table.specs.Loaded.{table_by, kinds_of, counts_of, members_in, kind_of_lem}
 use Rattle.loaded_table.specs.Kinds.{choice_code, choice_code_lem}
 use Rattle.embedding_clash.proofs.Following.{StepAt, goes_on}

@@ -9,8 +9,8 @@ use lib.Dec.{eqb}
 use Rattle.model.specs.Definitions.Commands.{needed, optional}
 use Rattle.model.specs.Definitions.Table.{Kind, sequence, choice, Table, kind_of, members_of, step_from, edges_of, is_text}
 use Rattle.model.specs.Definitions.Embedding.{TypeMap, Embedding, target_of, next, end_of, edge_of}
-use Rattle.model.specs.Theorems.Facts.{WellFormed, Walks, arrived, onward}
-use Rattle.model.specs.Theorems.Tools.{entry_member}
+use Rattle.model.proofs.Theorems.Facts.{WellFormed, Walks, arrived, onward}
+use Rattle.model.proofs.Theorems.Tools.{entry_member}
 use Rattle.loaded_table.specs.Kinds.{text_code}
 use Rattle.loaded_table.specs.Loaded.{kind_from, kind_in, table_by, types_in, kinds_of, counts_of, members_in, length_of_lem, kind_of_lem}
 use Rattle.loaded_embedding.specs.Loaded.{targets_of, edge_in, embedding_by}

@@ -13,7 +13,7 @@ use Rattle.model.specs.Definitions.Table.{Kind, text, empty, sequence, choice, l
 use Rattle.model.specs.Definitions.Embedding.{next, leaves, edge_of}
 use Rattle.loaded_embedding.specs.Loaded.{targets_of, starts_of, lengths_of, steps_from, edge_in}
 use Rattle.model.specs.Definitions.EmbeddingChecks.{right_steps, leaves_only, sequence_or_list, optional_first}
-use Rattle.model.specs.Theorems.Facts.{Walks, arrived, onward}
+use Rattle.model.proofs.Theorems.Facts.{Walks, arrived, onward}
 use Rattle.loaded_table.specs.Kinds.{each_code}
 use Rattle.loaded_table.specs.Loaded.{kind_from, kind_in, table_by, types_in, kinds_of, counts_of, members_in, kind_of_lem}
 use Rattle.embedding_ends.specs.declared.steps.Left.{Left}

@@ -11,7 +11,7 @@ use loaded_table::{CHOICE, EMPTY, OPTIONAL, SEQUENCE, TABLE, TEXT};
 
 // Whether a path leaves a choice of either kind, whether the first choice that it leaves is an optional one, and whether it leaves
 // a list.
-#[derive(Drop)]
+#[derive(Clone, Copy)]
 pub struct Left {
     pub choice: bool,
     pub optional: bool,

@@ -10,7 +10,7 @@ use lib.Dec.{ltb}
 use borrow.Author.Tests.{lt-ltb, le-ltb, ne_eqb}
 use Rattle.model.specs.Definitions.Basics.{pick}
 use Rattle.model.specs.Definitions.Commands.{takes_operand, maps_to, path, step, embedding_end, alien_e, embedding_command}
-use Rattle.model.specs.Theorems.Reading.{raw_at, raw_with}
+use Rattle.model.proofs.Theorems.Reading.{raw_at, raw_with}
 
 -- a byte that is none of an embedding's command bytes is alien, whatever follows it
 raw_other : (o m : Bool) (b t : ℕ) → (b ≡ 0x20 → ⊥) → (b ≡ 0x21 → ⊥) → (b ≡ 0x22 → ⊥) → (b ≡ 0x2F → ⊥) → alien_e ≡ embedding_command (raw_with o m b t)

@@ -7,7 +7,7 @@ use native.Mathlib.Omega.{arith}
 use lib.ListN.{length, drop}
 use Rattle.model.specs.Definitions.Basics.{pick, Verdict, passes, fails, Next, goes, stops, run}
 use Rattle.model.specs.Definitions.Commands.{EmbeddingCommand, maps_to, path, step, embedding_end, alien_e, embedding_command, embedding_commands, embedding_width}
-use Rattle.model.specs.Theorems.Reading.{raw_at, ReadsAt, left_stops, left_goes, goes_within, left_ends, embedding_reads, no_embedding-commands}
+use Rattle.model.proofs.Theorems.Reading.{raw_at, ReadsAt, left_stops, left_goes, goes_within, left_ends, embedding_reads, no_embedding-commands}
 
 -- At an offset within document e the machine is in a state, and the verdict of what is left is that of the whole.
 pub record Runs {S : Type 0} (next : S → EmbeddingCommand → Next S) (complete : S → Bool) (whole : Verdict) (e : List ℕ) (s : S) (at : ℕ) : Type 0 where

@@ -2,12 +2,12 @@
 ghost use Rattle.std.specs.Prelude.{◌≡◌, ◌<◌, length};
 ghost use Rattle.embedding_form.specs.Commands.{command};
 ghost use Rattle.model.specs.Definitions.Commands.{embedding_command, embedding_width};
-ghost use Rattle.model.specs.Theorems.Reading.{raw_at};
+ghost use Rattle.model.proofs.Theorems.Reading.{raw_at};
 
 use codes::{EMBEDDING_END, MAPS_TO, PATH, STEP};
 
 // A command of an embedding; `Alien` is a byte that is none, or one whose operand is missing.
-#[derive(Drop)]
+#[derive(Clone, Copy)]
 pub enum EmbeddingCommand {
     MapsTo(u8),
     Path,

@@ -24,8 +24,8 @@ use Rattle.model.specs.Definitions.EmbeddingChecks.{embedding_form, embedding_li
 use Rattle.model.specs.Definitions.Refusals as refusals
 use Rattle.model.specs.Definitions.Refusals.{has, fault_at, fault_unless, fits}
 use Rattle.model.specs.Definitions.Entries.{judged_embedding}
-use Rattle.model.specs.Theorems.Facts.{All, Walks}
-use Rattle.model.specs.Theorems.JudgedEmbeddings.{paths_walk}
+use Rattle.model.proofs.Theorems.Facts.{All, Walks}
+use Rattle.model.proofs.Theorems.JudgedEmbeddings.{paths_walk}
 
 -- a fault is no acceptance, and another than a clash is no clash
 other_fault : {X : Type 0} (f : refusals.Fault) {j : refusals.Judged} → ((at : ℕ) → f ≡ refusals.path_clash at → ⊥) → j ≡ has f → UpToClashes j → X

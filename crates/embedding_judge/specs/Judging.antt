@@ -10,7 +10,7 @@ use Rattle.model.specs.Definitions.Embedding.{Embedding}
 use Rattle.model.specs.Definitions.EmbeddingChecks.{root_to_root, wrong_end_verdict, wrong_steps_verdict, path_clash_verdict}
 use Rattle.model.specs.Definitions.Refusals.{Judged, sound, has, root_moved, wrong_end, wrong_steps, path_clash, fault_at, fault_unless}
 use Rattle.model.specs.Definitions.Entries.{judged_embedding}
-use Rattle.model.specs.Theorems.Facts.{SoundTable}
+use Rattle.model.proofs.Theorems.Facts.{SoundTable}
 
 -- checks 8 to 10, in order
 unfoldable pub edge_checks : Table → Table → Embedding → Judged

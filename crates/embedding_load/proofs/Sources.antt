@@ -13,8 +13,8 @@ use Rattle.model.specs.Definitions.Basics.{pick, passes}
 use Rattle.model.specs.Definitions.Commands.{maps_to, path, step, embedding_end, alien_e, embedding_command, embedding_commands, embedding_width}
 use Rattle.model.specs.Definitions.Table.{Table, kind_of, edges_of}
 use Rattle.model.specs.Definitions.EmbeddingChecks.{due, embedding_step, embedding_complete, embedding_form}
-use Rattle.model.specs.Theorems.Runs.{passes_fails}
-use Rattle.model.specs.Theorems.Reading.{raw_at, raw_with, left_ends, no_embedding-commands}
+use Rattle.model.proofs.Theorems.Runs.{passes_fails}
+use Rattle.model.proofs.Theorems.Reading.{raw_at, raw_with, left_ends, no_embedding-commands}
 
 -- a source table and a document whose numbers fit the arrays
 pub record SourceTable (em : List ℕ) (S : Table) : Type 0 where

@@ -20,10 +20,10 @@ use Rattle.model.specs.Definitions.Commands.{EmbeddingCommand, maps_to, path, st
 use Rattle.model.specs.Definitions.Table.{Table, edges_of}
 use Rattle.model.specs.Definitions.Embedding.{Embedding, EmbeddingTail, with_embedding_command, embedding_tail, embedding_of}
 use Rattle.model.specs.Definitions.EmbeddingChecks.{EmbeddingState, due, embedding_ended, embedding_step, embedding_complete, embedding_form, step_count, embedding_limits}
-use Rattle.model.specs.Theorems.JudgedTables.{goes_if_lem, pick_passes}
-use Rattle.model.specs.Theorems.Runs.{passes_fails, goes_stops}
-use Rattle.model.specs.Theorems.Tools.{true_false}
-use Rattle.model.specs.Theorems.Reading.{raw_at, ReadsAt, left_stops, left_goes, left_ends, embedding_reads, no_embedding-commands}
+use Rattle.model.proofs.Theorems.JudgedTables.{goes_if_lem, pick_passes}
+use Rattle.model.proofs.Theorems.Runs.{passes_fails, goes_stops}
+use Rattle.model.proofs.Theorems.Tools.{true_false}
+use Rattle.model.proofs.Theorems.Reading.{raw_at, ReadsAt, left_stops, left_goes, left_ends, embedding_reads, no_embedding-commands}
 use Rattle.embedding_load.specs.Loading.{MapArrays, loaded_in, mapped, begun, stepped, puts, TypeMayFollow, PathMayBegin, StepMayFollow, MapRoom, EmbeddingLoaded}
 use Rattle.embedding_load.proofs.Continuation.{continued, edges_due, continued_mapped, continued-begun, continued-stepped, continued_full}
 use Rattle.embedding_load.proofs.Shapes.{MapShaped, shaped_cleared, shaped-mapped, shaped_written}

@@ -10,9 +10,9 @@ use Rattle.model.specs.Definitions.Basics.{Next, goes, stops, goes_if}
 use Rattle.model.specs.Definitions.Commands.{EmbeddingCommand, maps_to, path, step, embedding_end, alien_e}
 use Rattle.model.specs.Definitions.Table.{Table, kind_of, members_of, step_from}
 use Rattle.model.specs.Definitions.EmbeddingChecks.{Reached, reaches, path_step}
-use Rattle.model.specs.Theorems.Facts.{WellFormed}
-use Rattle.model.specs.Theorems.Runs.{goes_stops}
-use Rattle.model.specs.Theorems.Tools.{entry_member}
+use Rattle.model.proofs.Theorems.Facts.{WellFormed}
+use Rattle.model.proofs.Theorems.Runs.{goes_stops}
+use Rattle.model.proofs.Theorems.Tools.{entry_member}
 use Rattle.embedding_operands.specs.States.{reached}
 
 -- ---- a turn of the machine

@@ -5,7 +5,7 @@ ghost use Rattle.loaded_table.specs.Loaded.{table_by, types_in, Bounded};
 ghost use Rattle.embedding_form.specs.Commands.{command};
 ghost use Rattle.embedding_operands.specs.States.{reached, reach_next};
 ghost use Rattle.model.specs.Definitions.EmbeddingChecks.{path_step, embedding_operands};
-ghost use Rattle.model.specs.Theorems.Facts.{WellFormed};
+ghost use Rattle.model.proofs.Theorems.Facts.{WellFormed};
 
 use super::step::{Stepped, step_from};
 use answers::Verdict;

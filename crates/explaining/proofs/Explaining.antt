@@ -28,9 +28,9 @@ use Rattle.model.specs.Definitions.Refusals.{fault_number, numbers_of}
 use Rattle.model.specs.Definitions.Entries.{Result, answer_of, edge_count, judge_embedding}
 use Rattle.model.specs.Definitions.Explanation as model
 use Rattle.model.specs.Definitions.Explanation.{clash_of, explanation, explain}
-use Rattle.model.specs.Theorems.Facts.{SoundTable}
-use Rattle.model.specs.Theorems.JudgedTables.{table_sound}
-use Rattle.model.specs.Theorems.Explanations.{RefusedFor10, refused_10, only_clash, explain_10, explain_other}
+use Rattle.model.proofs.Theorems.Facts.{SoundTable}
+use Rattle.model.proofs.Theorems.JudgedTables.{table_sound}
+use Rattle.model.proofs.Theorems.Explanations.{RefusedFor10, refused_10, only_clash, explain_10, explain_other}
 
 -- ---- what a search found
 

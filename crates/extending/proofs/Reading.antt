@@ -12,7 +12,7 @@ use borrow.Author.Tests.{ltb-true, ltb-false, le-leb, lt-leb, eqb-true}
 use Rattle.model.specs.Definitions.Basics.{pick}
 use Rattle.model.specs.Definitions.Extending.{reads, unreadable, type_there, member_there, first_operation}
 use Rattle.model.specs.Definitions.Operations.{append_type, append_member}
-use Rattle.model.specs.Theorems.Tools.{pick_true, pick_false}
+use Rattle.model.proofs.Theorems.Tools.{pick_true, pick_false}
 use Rattle.table_operations.specs.declared.Table.{Table}
 use Rattle.table_operations.specs.declared.Extended.{Extended}
 use Rattle.table_operations.specs.Operations.{Operated}

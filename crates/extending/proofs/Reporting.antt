@@ -20,8 +20,8 @@ use Rattle.model.specs.Definitions.Entries as model
 use Rattle.model.specs.Definitions.Entries.{Result, answer_of, untouched}
 use Rattle.model.specs.Definitions.Operations.{kept_length}
 use Rattle.model.specs.Definitions.Extending.{answer_bytes, kept_bytes, performed, report, report_if, reported}
-use Rattle.model.specs.Theorems.Operations.{valid_sound}
-use Rattle.model.specs.Theorems.GrownTables.{finite_everywhere}
+use Rattle.model.proofs.Theorems.Operations.{valid_sound}
+use Rattle.model.proofs.Theorems.GrownTables.{finite_everywhere}
 use Rattle.table_growth.specs.Growth.{IsLoaded}
 use Rattle.writing.specs.Writing.{Writes}
 use Rattle.writing.specs.Laws.{writes_then, writes-length, stored}

@@ -19,7 +19,7 @@ use Rattle.model.specs.Definitions.Refusals.{source_table, operations, document_
 use Rattle.model.specs.Definitions.Entries.{Result, refused, accepted, unless_faulty, judged_table}
 use Rattle.model.specs.Definitions.Operations.{Operation, operate}
 use Rattle.model.specs.Definitions.Extending.{reads, unreadable, first_operation, Performed, performed, unread, with_answer, perform_one, perform_next, perform_to, perform, answer_bytes, reported, long_operations, extend}
-use Rattle.model.specs.Theorems.OperationLaws.{done}
+use Rattle.model.proofs.Theorems.OperationLaws.{done}
 use Rattle.table_operations.specs.declared.Table.{Table}
 use Rattle.table_operations.specs.declared.Loading.{Loading}
 use Rattle.table_operations.specs.Operations.{held, StandsFor, LoadedFrom}

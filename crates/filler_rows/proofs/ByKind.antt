@@ -10,12 +10,12 @@ use Rattle.model.specs.Definitions.Commands.{needed}
 use Rattle.model.specs.Definitions.Table.{Kind, Table, kind_of, members_of}
 use Rattle.model.specs.Definitions.Heights.{height_in, heights, height_of, least_member}
 use Rattle.model.specs.Definitions.Templates.{Symbol, filler, filler_row}
-use Rattle.model.specs.Theorems.HeightLaws.{least_member_lem}
-use Rattle.model.specs.Theorems.FillerLaws.{filled}
-use Rattle.model.specs.Theorems.Templates.{filler_row_of}
+use Rattle.model.proofs.Theorems.HeightLaws.{least_member_lem}
+use Rattle.model.proofs.Theorems.FillerLaws.{filled}
+use Rattle.model.proofs.Theorems.Templates.{filler_row_of}
 use Rattle.loaded_table.specs.Loaded.{table_by, types_in, kinds_of, counts_of, heights_of, members_in, length_of_lem}
 use Rattle.table_heights.specs.Sections.{members_at, members_long, member_is, kind_sequence, kind_choice, kind_other}
-use Rattle.model.specs.Theorems.GrownTables.{least_same}
+use Rattle.model.proofs.Theorems.GrownTables.{least_same}
 use Rattle.rows.specs.Rows.{symbol_of}
 use Rattle.rows.specs.Symbols.{filler_of_lem}
 use Rattle.growing.specs.Growing.{Puts}

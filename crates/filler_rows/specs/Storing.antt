@@ -1,7 +1,7 @@
 -- Rows that are made, and stand in the pool before a place.
 use Rattle.std.specs.Prelude.{◌≡◌, List, ℕ, ◌*◌, ◌≤◌, ◌<◌, length}
 use Rattle.model.specs.Definitions.Templates.{Symbol, filler_row}
-use Rattle.model.specs.Theorems.Facts.{SoundTable}
+use Rattle.model.proofs.Theorems.Facts.{SoundTable}
 use Rattle.loaded_table.specs.Loaded.{Bounded, Kept, table_by}
 use Rattle.rows.specs.Rows.{to_of, depth_in, row_in, row_at, HasRow, set_row}
 use Rattle.growing.specs.Growing.{Puts}

@@ -14,9 +14,9 @@ use Rattle.model.specs.Definitions.Embedding.{next}
 use Rattle.model.specs.Definitions.Filler.{fillers}
 use Rattle.model.specs.Definitions.Image.{Placement, placed, under, is_placed, grow, grow_kind, grow_members}
 use Rattle.model.specs.Definitions.Templates.{Shape, bare, framed, shaped}
-use Rattle.model.specs.Theorems.Facts.{WellFormed, Fits, nothing_placed, right_here, below_sequence, below_choice, below_list}
-use Rattle.model.specs.Theorems.Tools.{entry_member, entry_at, true_false}
-use Rattle.model.specs.Theorems.Placing.{under_same}
+use Rattle.model.proofs.Theorems.Facts.{WellFormed, Fits, nothing_placed, right_here, below_sequence, below_choice, below_list}
+use Rattle.model.proofs.Theorems.Tools.{entry_member, entry_at, true_false}
+use Rattle.model.proofs.Theorems.Placing.{under_same}
 use Rattle.loaded_table.specs.Loaded.{Bounded, kind_from, table_by, types_in, kinds_of, counts_of, members_in, length_of_lem, kind_of_lem}
 use Rattle.loaded_table.specs.Kinds.{choice_code, code_choice, code_sequence, code_list}
 use Rattle.rows.specs.Laws.{entry_there}

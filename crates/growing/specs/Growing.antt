@@ -5,7 +5,7 @@ use Rattle.model.specs.Definitions.Filler.{fillers}
 use Rattle.model.specs.Definitions.Image.{Placement, placed, is_placed, grow}
 use Rattle.model.specs.Definitions.Refusals.{max_length}
 use Rattle.model.specs.Definitions.Templates.{Shape, bare, gap, framed, shaped, Symbol, row_of}
-use Rattle.model.specs.Theorems.Facts.{WellFormed, Fits}
+use Rattle.model.proofs.Theorems.Facts.{WellFormed, Fits}
 use Rattle.loaded_table.specs.Loaded.{Bounded, table_by, types_in, kinds_of, counts_of, sequence_kind}
 use Rattle.loaded_embedding.specs.Loaded.{steps_from}
 use Rattle.rows.specs.Rows.{symbol_of, hole_of, IsHole}

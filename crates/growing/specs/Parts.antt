@@ -8,7 +8,7 @@ use Rattle.model.specs.Definitions.Table.{Table}
 use Rattle.model.specs.Definitions.Filler.{fillers}
 use Rattle.model.specs.Definitions.Image.{Placement, is_placed, grow}
 use Rattle.model.specs.Definitions.Templates.{Shape, bare, framed, shaped, Symbol, opening, closing, filler, row_of}
-use Rattle.model.specs.Theorems.Facts.{Fits, nothing_placed, right_here, below_sequence, below_choice, below_list}
+use Rattle.model.proofs.Theorems.Facts.{Fits, nothing_placed, right_here, below_sequence, below_choice, below_list}
 use Rattle.loaded_table.specs.Loaded.{table_by}
 use Rattle.growing.specs.declared.Edges.{Edges}
 use Rattle.growing.specs.Growing.{placement_of, placements_from, placements_of, element_row}

@@ -17,7 +17,7 @@ use rows::{CLOSING, FILLER, OPENING};
 
 // The paths still to be followed below a target element: path j goes on with left[j] steps, the first at offset next[j] of the
 // embedding's document, to the hole with the number hole[j].
-#[derive(Drop)]
+#[derive(Clone, Copy)]
 pub struct Edges {
     pub count: usize,
     pub next: [u16; MAX_MEMBERS],

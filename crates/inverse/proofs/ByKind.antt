@@ -9,7 +9,7 @@ use Rattle.model.specs.Definitions.Table.{Kind, kind_of}
 use Rattle.model.specs.Definitions.Embedding.{target_of, paths_of}
 use Rattle.model.specs.Definitions.Image.{Setting}
 use Rattle.model.specs.Definitions.Inverse.{Located, opened_at, follow_at, child_parts, content_read, read_kind, read_to}
-use Rattle.model.specs.Theorems.ReadsPlain.{held_at, plain_parts, children_read_lem, characters_read, by_children}
+use Rattle.model.proofs.Theorems.ReadsPlain.{held_at, plain_parts, children_read_lem, characters_read, by_children}
 use Rattle.loaded_table.specs.Loaded.{types_in, kinds_of}
 use Rattle.loaded_embedding.specs.Loaded.{targets_of}
 use Rattle.loaded_setting.specs.Ready.{setting_in, Ready}

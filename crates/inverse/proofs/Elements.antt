@@ -8,8 +8,8 @@ use lib.ListN.{length, length-append, drop, take}
 use Rattle.model.specs.Definitions.Basics.{and_then}
 use Rattle.model.specs.Definitions.Content.{Content, end, elem, bytes}
 use Rattle.model.specs.Definitions.Inverse.{Located}
-use Rattle.model.specs.Theorems.Tools.{some_none}
-use Rattle.model.specs.Theorems.ReadsPlain.{held_at}
+use Rattle.model.proofs.Theorems.Tools.{some_none}
+use Rattle.model.proofs.Theorems.ReadsPlain.{held_at}
 use Rattle.scanning.specs.Scanning.{ContentAt}
 use Rattle.scanning.specs.Finding.{FoundContent}
 use Rattle.scanning.specs.Laws.{content_within, content_part}

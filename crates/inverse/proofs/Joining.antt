@@ -8,8 +8,8 @@ use lib.ListN.{length}
 use lib.Seq.{sets}
 use Rattle.model.specs.Definitions.Basics.{and_then}
 use Rattle.model.specs.Definitions.Content.{Content, end, elem, bytes}
-use Rattle.model.specs.Theorems.Tools.{some_none}
-use Rattle.model.specs.Theorems.ReadsPlain.{plain_then}
+use Rattle.model.proofs.Theorems.Tools.{some_none}
+use Rattle.model.proofs.Theorems.ReadsPlain.{plain_then}
 use Rattle.writing.specs.Writing.{Writes}
 use Rattle.writing.specs.Laws.{writes-left}
 use Rattle.inverse.specs.Reading.{element_of, ReadsTo}

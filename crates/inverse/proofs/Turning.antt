@@ -8,7 +8,7 @@ use lib.ListN.{length, get_or}
 use Rattle.model.specs.Definitions.Content.{Content, bytes}
 use Rattle.model.specs.Definitions.Image.{Setting}
 use Rattle.model.specs.Definitions.Inverse.{Located, located, Parts, done, broken, child_parts}
-use Rattle.model.specs.Theorems.ReadsPlain.{plain_then, plain_parts}
+use Rattle.model.proofs.Theorems.ReadsPlain.{plain_then, plain_parts}
 use Rattle.loaded_table.specs.Loaded.{types_in, kinds_of}
 use Rattle.loaded_setting.specs.Ready.{setting_in, Ready}
 use Rattle.scanning.specs.Scanning.{ContentAt}

@@ -8,10 +8,10 @@ use Rattle.std.proofs.Math.Seq.{take-append_seam}
 use Rattle.model.specs.Definitions.Content.{Content, content_of, document}
 use Rattle.model.specs.Definitions.Image.{Setting}
 use Rattle.model.specs.Definitions.Inverse.{read_back}
-use Rattle.model.specs.Theorems.Facts.{Valid}
-use Rattle.model.specs.Theorems.EntryLaws.{written_start}
-use Rattle.model.specs.Theorems.Documents.{content_of_document}
-use Rattle.model.specs.Theorems.BringingBack.{Source, read_conforms}
+use Rattle.model.proofs.Theorems.Facts.{Valid}
+use Rattle.model.proofs.Theorems.EntryLaws.{written_start}
+use Rattle.model.proofs.Theorems.Documents.{content_of_document}
+use Rattle.model.proofs.Theorems.BringingBack.{Source, read_conforms}
 use Rattle.loaded_table.specs.Loaded.{length_of_lem}
 use Rattle.loaded_setting.specs.Ready.{Ready}
 use Rattle.loaded_setting.specs.Trees.{SoundTree}

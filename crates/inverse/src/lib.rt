@@ -12,7 +12,7 @@ ghost use Rattle.inverse.specs.Reading.{read_as, element_of, ReadsInto, BringsRe
 ghost use Rattle.model.specs.Definitions.Content.{Content, document};
 ghost use Rattle.model.specs.Definitions.Inverse as model;
 ghost use Rattle.model.specs.Definitions.Inverse.{located};
-ghost use Rattle.model.specs.Theorems.ReadsPlain.{held_at};
+ghost use Rattle.model.proofs.Theorems.ReadsPlain.{held_at};
 ghost use Rattle.scanning.specs.Scanning.{ContentAt};
 ghost use Rattle.scanning.specs.Spanning.{Spans};
 ghost use Rattle.loaded_setting.specs.Ready.{setting_in, Ready};

@@ -32,9 +32,9 @@ use Rattle.model.specs.Definitions.Explanation.{Clash, explained, unexplained, r
 use Rattle.model.specs.Definitions.Decimal.{DecimalText, DecimalWritten, with_room, without_room}
 use Rattle.model.specs.Definitions.Entries as model
 use Rattle.model.specs.Definitions.Entries.{Result, refused, accepted, Outcome, answer_of, unless_faulty, judge_table, judge_embedding, judge_tree, untouched, written, carry_within, carry_content, carry, bring_content, bring_back, setting_of, read_within, read_content, read_along}
-use Rattle.model.specs.Theorems.Terms.{AcceptedEmbedding, AcceptedTree, image_of, filler_of, levels_in, NoSource}
-use Rattle.model.specs.Theorems.EntryLaws.{judges_accept, judge_accepts, judges_are_all, table_is_accepted, tree_judged, tree_is_accepted}
-use Rattle.model.specs.Statements.{DemandThree, demand_three, refused_15_exactly, decimal_text_unique, tables_exactly, embeddings_exactly, trees_exactly, explained_exactly, explains_exactly, answer_is_inside, numbers_begin_as_judged, refused_17_exactly, WentAcross, carried_across}
+use Rattle.model.proofs.Theorems.Terms.{AcceptedEmbedding, AcceptedTree, image_of, filler_of, levels_in, NoSource}
+use Rattle.model.proofs.Theorems.EntryLaws.{judges_accept, judge_accepts, judges_are_all, table_is_accepted, tree_judged, tree_is_accepted}
+use Rattle.model.proofs.Statements.{DemandThree, demand_three, refused_15_exactly, decimal_text_unique, tables_exactly, embeddings_exactly, trees_exactly, explained_exactly, explains_exactly, answer_is_inside, numbers_begin_as_judged, refused_17_exactly, WentAcross, carried_across}
 
 -- ---- answers
 

@@ -10,9 +10,9 @@ use Rattle.model.specs.Definitions.Table.{Table, kind_of, list, edges_of}
 use Rattle.model.specs.Definitions.Embedding.{Divided, divide, first_path}
 use Rattle.model.specs.Definitions.Image.{Setting, placed, place, is_placed}
 use Rattle.model.specs.Definitions.Templates.{child, Hole, Shape, gap, framed, shaped, Symbol, holes_of, template, template_by, item_template, item_by, divided_of, items}
-use Rattle.model.specs.Theorems.Facts.{Fits}
-use Rattle.model.specs.Theorems.TemplateShapes.{Regular, regular_built, item_regular}
-use Rattle.model.specs.Theorems.NeverLonger.{rest_always_fits}
+use Rattle.model.proofs.Theorems.Facts.{Fits}
+use Rattle.model.proofs.Theorems.TemplateShapes.{Regular, regular_built, item_regular}
+use Rattle.model.proofs.Theorems.NeverLonger.{rest_always_fits}
 use Rattle.model.specs.Definitions.Basics.{pick}
 use Rattle.loaded_table.specs.Loaded.{table_by, types_in, kinds_of, members_in, length_of_lem}
 use Rattle.loaded_embedding.specs.Loaded.{starts_of, lengths_of, targets_of}

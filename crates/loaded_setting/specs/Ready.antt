@@ -2,7 +2,7 @@
 -- it. Functions that carry and bring back take the arrays and require this of them.
 use Rattle.std.specs.Prelude.{List, ℕ}
 use Rattle.model.specs.Definitions.Image.{Setting}
-use Rattle.model.specs.Theorems.Facts.{Valid}
+use Rattle.model.proofs.Theorems.Facts.{Valid}
 use Rattle.loaded_table.specs.Loaded as loaded_table
 use Rattle.loaded_table.specs.Loaded.{table_by}
 use Rattle.loaded_embedding.specs.Loaded as loaded_embedding

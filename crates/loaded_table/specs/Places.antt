@@ -9,7 +9,7 @@ use Rattle.std.proofs.lemmas.Bool.{eqb-false}
 use Rattle.model.specs.Definitions.Commands.{needed, optional}
 use Rattle.model.specs.Definitions.Table as model
 use Rattle.model.specs.Definitions.Table.{Kind, text, empty, sequence, choice, list, kind_of, members_of}
-use Rattle.model.specs.Theorems.GrownTables.{grown_length, kind_older, kind_last}
+use Rattle.model.proofs.Theorems.GrownTables.{grown_length, kind_older, kind_last}
 use Rattle.loaded_table.specs.Loaded.{kind_from, kind_in, kinds_of, counts_of, members_in, types_in, table_by, Bounded, section, in_section, section-same, section_long, section-kept, length_of_lem, kind_of_lem}
 use Rattle.loaded_table.specs.Kinds.{code_of, each_code}
 

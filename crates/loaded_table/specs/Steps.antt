@@ -4,7 +4,7 @@ use Rattle.std.proofs.Common.{sym, ◌∙◌, arith, length-take, get_or-take}
 use Rattle.std.proofs.Math.Option.{some}
 use Rattle.model.specs.Definitions.Basics.{entry}
 use Rattle.model.specs.Definitions.Table.{members_of, step_from}
-use Rattle.model.specs.Theorems.Tools.{entry_at}
+use Rattle.model.proofs.Theorems.Tools.{entry_at}
 use Rattle.loaded_table.specs.Loaded.{kind_from}
 
 -- one of the first members of a row stands at its position

@@ -10,7 +10,7 @@ use lib.ListN.{length, take, drop, get_or, length-take, length-drop, length-appe
 use lib.Seq.{drop-length}
 use lib.Dec.{eqb}
 use borrow.Author.Tests.{eqb-true, eq-eqb}
-use Rattle.model.specs.Theorems.Tools.{true_false}
+use Rattle.model.proofs.Theorems.Tools.{true_false}
 use Rattle.writing.specs.Laws.{part_cons}
 use Rattle.matching.specs.Same.{SameBytes, ToCompare, compare_all, compare-turn, compare-stops, all_compared, byte_same, byte_differs}
 

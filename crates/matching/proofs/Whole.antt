@@ -5,7 +5,7 @@ use mathlib.Core.List.{List, [], ◌∷◌, ◌++◌, append_assoc, append_cance
 use mathlib.Core.Logic.{◌↔◌}
 use Prim.Native.Nat.{ℕ}
 use lib.ListN.{drop}
-use Rattle.model.specs.Theorems.Tools.{true_false}
+use Rattle.model.proofs.Theorems.Tools.{true_false}
 use Rattle.row_traversal.specs.Asked.{ImageAsked}
 use Rattle.row_traversal.specs.Whole.{held, image_bytes}
 use Rattle.matching.specs.Same.{SameBytes, same_then}

@@ -10,7 +10,7 @@ use Rattle.model.specs.Definitions.Table.{Kind, text, empty, sequence, choice, l
 use Rattle.model.specs.Definitions.Content.{Content, end, char, elem, bytes}
 use Rattle.model.specs.Definitions.Conformance.{Holds, no_character, one_character, nothing, no_member, one_member, chosen, left_out, no_item, one_item}
 use Rattle.model.specs.Definitions.Templates.{first_in}
-use Rattle.model.specs.Theorems.Facts.{WellFormed}
+use Rattle.model.proofs.Theorems.Facts.{WellFormed}
 use Rattle.rows.specs.FirstChildren.{index_within}
 use Rattle.scanning.specs.Scanning.{ContentAt}
 use Rattle.scanning.specs.Laws.{content_within, element_first, character_first, end_first, Letters, letters, OpensElement, opens, opens_next, ends}

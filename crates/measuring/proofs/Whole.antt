@@ -5,7 +5,7 @@ use Prim.Native.Nat.{ℕ, suc, ◌+◌, min, max}
 use native.Mathlib.Omega.{arith}
 use Rattle.model.specs.Definitions.Content.{content_of}
 use Rattle.model.specs.Definitions.Templates.{first_in, own_length, own_levels, sum_length, deepest}
-use Rattle.model.specs.Theorems.TemplateSizes.{image_length_rows, image_filler_rows, image_levels_rows}
+use Rattle.model.proofs.Theorems.TemplateSizes.{image_length_rows, image_filler_rows, image_levels_rows}
 use Rattle.loaded_table.specs.Loaded.{length_of_lem}
 use Rattle.loaded_setting.specs.Ready.{setting_in}
 use Rattle.scanning.specs.Scanning.{ContentAt}

@@ -6,7 +6,7 @@ use Rattle.model.specs.Definitions.Content.{Content, end, char, elem, bytes, con
 use Rattle.model.specs.Definitions.Conformance.{Holds}
 use Rattle.model.specs.Definitions.Image.{Setting, image_levels, image_length, image_filler}
 use Rattle.model.specs.Definitions.Templates.{first_in, own_length, own_filler, own_levels, sum_length, sum_filler, deepest}
-use Rattle.model.specs.Theorems.Facts.{WellFormed}
+use Rattle.model.proofs.Theorems.Facts.{WellFormed}
 use Rattle.loaded_table.specs.Loaded.{Bounded, table_by, types_in}
 use Rattle.loaded_setting.specs.Ready.{setting_in, Ready}
 use Rattle.scanning.specs.Scanning.{ContentAt}

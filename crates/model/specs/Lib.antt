@@ -1,7 +1,4 @@
--- Paper 01 as definitions, and what is proved of them.
--- `Definitions` lists its parts in reading order; `Statements` is the page of theorems.
+-- Paper 01 as definitions. `Definitions` lists its parts in reading order; what is proved of them stands in proofs/.
 pub mod Definitions
 pub mod Computing
 pub mod Examples
-pub mod Statements
-pub mod Theorems

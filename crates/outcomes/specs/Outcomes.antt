@@ -19,10 +19,10 @@ use Rattle.model.specs.Definitions.Table.{Table, table_of}
 use Rattle.model.specs.Definitions.Refusals.{source_table, target_table, embedding, tree, document_number, sound, has, fits}
 use Rattle.model.specs.Definitions.Image.{Setting}
 use Rattle.model.specs.Definitions.Entries.{Result, Outcome, setting_of, answer_of, untouched, unless_faulty, judged_table, judged_embedding, judged_tree}
-use Rattle.model.specs.Theorems.Facts.{SoundTable}
-use Rattle.model.specs.Theorems.JudgedTables.{table_sound, tree_checks}
-use Rattle.model.specs.Theorems.Documents.{accepted_content}
-use Rattle.model.specs.Theorems.EntryLaws.{Judges}
+use Rattle.model.proofs.Theorems.Facts.{SoundTable}
+use Rattle.model.proofs.Theorems.JudgedTables.{table_sound, tree_checks}
+use Rattle.model.proofs.Theorems.Documents.{accepted_content}
+use Rattle.model.proofs.Theorems.EntryLaws.{Judges}
 
 -- ---- the first three documents
 

@@ -16,9 +16,9 @@ use Rattle.model.specs.Definitions.Embedding.{next}
 use Rattle.model.specs.Definitions.Filler.{fillers}
 use Rattle.model.specs.Definitions.Image.{Placement, placed, under, beyond, is_placed, grow, grow_kind, grow_members}
 use Rattle.model.specs.Definitions.Templates.{Shape, bare, framed, shaped, closing, row_of}
-use Rattle.model.specs.Theorems.Facts.{All, all_more, Starts, starts_none, starts_more, Fits, nothing_placed, right_here, below_sequence, below_choice, below_list}
-use Rattle.model.specs.Theorems.Tools.{one_plus}
-use Rattle.model.specs.Theorems.Placing.{under_same, under_all}
+use Rattle.model.proofs.Theorems.Facts.{All, all_more, Starts, starts_none, starts_more, Fits, nothing_placed, right_here, below_sequence, below_choice, below_list}
+use Rattle.model.proofs.Theorems.Tools.{one_plus}
+use Rattle.model.proofs.Theorems.Placing.{under_same, under_all}
 use Rattle.growing.specs.Parts.{fits_positive}
 
 -- the symbols that some paths can add

@@ -11,8 +11,8 @@ use Rattle.model.specs.Definitions.Embedding.{target_of, paths_of, first_path, b
 use Rattle.model.specs.Definitions.Filler.{fillers}
 use Rattle.model.specs.Definitions.Image.{Setting, Placement, placed, place, path_of_member}
 use Rattle.model.specs.Definitions.Templates.{Shape, gap, shaped, row_of, Hole, characters, child, holes_along, choice_hole, holes_of, template, template_by}
-use Rattle.model.specs.Theorems.Facts.{Fits}
-use Rattle.model.specs.Theorems.TemplateShapes.{holes_fit}
+use Rattle.model.proofs.Theorems.Facts.{Fits}
+use Rattle.model.proofs.Theorems.TemplateShapes.{holes_fit}
 use Rattle.loaded_table.specs.Loaded.{table_by, types_in, length_of_lem}
 use Rattle.loaded_embedding.specs.Loaded.{targets_of, steps_from}
 use Rattle.loaded_setting.specs.Ready.{setting_in, Ready}

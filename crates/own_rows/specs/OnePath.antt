@@ -6,7 +6,7 @@ use mathlib.Core.List.{List, [], ◌∷◌, ◌++◌}
 use native.Mathlib.Omega.{arith}
 use Rattle.model.specs.Definitions.Image.{Placement}
 use Rattle.model.specs.Definitions.Templates.{Shape, row_of}
-use Rattle.model.specs.Theorems.Facts.{All, all_none, all_more}
+use Rattle.model.proofs.Theorems.Facts.{All, all_none, all_more}
 use Rattle.rows.specs.Rows.{IsHole}
 use Rattle.growing.specs.declared.Edges.{Edges}
 use Rattle.growing.specs.Growing.{placement_of, placements_of, no_edges, push, PathsReadable, Task, element_row, step_bound}

@@ -5,7 +5,7 @@ use Rattle.std.proofs.Math.ListN.{get_or-eq_default}
 use Rattle.model.specs.Definitions.Table.{empty, sequence, Table, kind_of}
 use Rattle.model.specs.Definitions.Image.{is_placed}
 use Rattle.model.specs.Definitions.Templates.{closing, row_of}
-use Rattle.model.specs.Theorems.Facts.{All, all_none, all_more}
+use Rattle.model.proofs.Theorems.Facts.{All, all_none, all_more}
 use Rattle.loaded_table.specs.Loaded.{Bounded, table_by, types_in, kinds_of, counts_of, members_in, length_of_lem, kind_of_lem}
 use Rattle.loaded_embedding.specs.Loaded.{starts_of, lengths_of, steps_from}
 use Rattle.loaded_table.specs.Kinds.{code_sequence}

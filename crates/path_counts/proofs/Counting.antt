@@ -4,7 +4,7 @@ use mathlib.Core.List.{List}
 use Prim.Native.Nat.{ℕ, min}
 use Rattle.model.specs.Definitions.Content.{content_of}
 use Rattle.model.specs.Definitions.Image.{image_by}
-use Rattle.model.specs.Theorems.WithoutFiller.{built_of}
+use Rattle.model.proofs.Theorems.WithoutFiller.{built_of}
 use Rattle.loaded_table.specs.Loaded.{table_by}
 use Rattle.loaded_setting.specs.Ready.{setting_in, Ready}
 use Rattle.loaded_setting.specs.Trees.{SoundTree}

@@ -6,7 +6,7 @@
 ghost use Rattle.std.specs.Prelude.{◌≡◌, min};
 ghost use Rattle.model.specs.Definitions.Content.{content_of};
 ghost use Rattle.model.specs.Definitions.Image.{image_by};
-ghost use Rattle.model.specs.Theorems.WithoutFiller.{built_of};
+ghost use Rattle.model.proofs.Theorems.WithoutFiller.{built_of};
 ghost use Rattle.loaded_table.specs.Loaded.{table_by};
 ghost use Rattle.loaded_setting.specs.Ready.{setting_in, Ready};
 ghost use Rattle.loaded_setting.specs.Trees.{SoundTree};

@@ -9,7 +9,7 @@ use lib.Dec.{eqb, ltb}
 use borrow.Author.Tests.{le-ltb}
 use Rattle.model.specs.Definitions.Basics.{pick}
 use Rattle.model.specs.Definitions.Templates.{Symbol, closing, filler, hole, characters, child, items}
-use Rattle.model.specs.Theorems.BuiltElements.{row_built}
+use Rattle.model.proofs.Theorems.BuiltElements.{row_built}
 use Rattle.rows.specs.Rows.{symbol_of, row_in}
 use Rattle.rows.specs.Symbols.{is_opening, row_cons, row_none}
 

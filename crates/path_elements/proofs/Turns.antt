@@ -9,7 +9,7 @@ use Rattle.model.specs.Definitions.Table.{kind_of}
 use Rattle.model.specs.Definitions.Content.{Content, end, char, elem, bytes}
 use Rattle.model.specs.Definitions.Image.{Setting}
 use Rattle.model.specs.Definitions.Templates.{first_in, around}
-use Rattle.model.specs.Theorems.BuiltElements.{row_built, own_built, item_built, sum_built}
+use Rattle.model.proofs.Theorems.BuiltElements.{row_built, own_built, item_built, sum_built}
 use Rattle.loaded_table.specs.Loaded.{table_by, length_of_lem}
 use Rattle.loaded_setting.specs.Ready.{setting_in}
 use Rattle.scanning.specs.Scanning.{ContentAt}

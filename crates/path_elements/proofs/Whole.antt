@@ -5,8 +5,8 @@ use Prim.Native.Nat.{ℕ, min}
 use native.Mathlib.Omega.{arith}
 use Rattle.model.specs.Definitions.Content.{content_of}
 use Rattle.model.specs.Definitions.Image.{image_by}
-use Rattle.model.specs.Theorems.WithoutFiller.{built_of}
-use Rattle.model.specs.Theorems.BuiltElements.{image_built_rows}
+use Rattle.model.proofs.Theorems.WithoutFiller.{built_of}
+use Rattle.model.proofs.Theorems.BuiltElements.{image_built_rows}
 use Rattle.loaded_table.specs.Loaded.{length_of_lem}
 use Rattle.loaded_setting.specs.Ready.{setting_in}
 use Rattle.scanning.specs.Scanning.{ContentAt}

@@ -5,8 +5,8 @@ use Rattle.model.specs.Definitions.Content.{Content, content_of, document}
 use Rattle.model.specs.Definitions.Conformance.{Holds}
 use Rattle.model.specs.Definitions.Image.{Setting}
 use Rattle.model.specs.Definitions.Templates.{first_in}
-use Rattle.model.specs.Theorems.Facts.{WellFormed}
-use Rattle.model.specs.Theorems.BuiltElements.{own_built, sum_built}
+use Rattle.model.proofs.Theorems.Facts.{WellFormed}
+use Rattle.model.proofs.Theorems.BuiltElements.{own_built, sum_built}
 use Rattle.loaded_table.specs.Loaded.{Bounded, table_by, types_in}
 use Rattle.loaded_setting.specs.Ready.{setting_in, Ready}
 use Rattle.scanning.specs.Scanning.{ContentAt}

@@ -8,7 +8,7 @@ use native.Mathlib.Omega.{arith}
 use lib.ListN.{drop, get_or}
 use Rattle.model.specs.Definitions.Table.{Table, kind_of, is_choice}
 use Rattle.model.specs.Definitions.Embedding.{next, before_choice}
-use Rattle.model.specs.Theorems.Tools.{pick_true, pick_false}
+use Rattle.model.proofs.Theorems.Tools.{pick_true, pick_false}
 use Rattle.loaded_table.specs.Loaded.{table_by, kinds_of, counts_of, members_in}
 use Rattle.loaded_table.specs.Kinds.{choice_code, choice_code_lem}
 use Rattle.loaded_embedding.specs.Loaded.{steps_from, steps_more}

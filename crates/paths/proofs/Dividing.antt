@@ -6,7 +6,7 @@ use native.Mathlib.Omega.{arith}
 use lib.ListN.{length, drop, get_or}
 use Rattle.model.specs.Definitions.Table.{Kind, text, empty, sequence, choice, list, Table, kind_of}
 use Rattle.model.specs.Definitions.Embedding.{next, Divided, divide, divide_at}
-use Rattle.model.specs.Theorems.Placing.{walks_step, list_step, item_next}
+use Rattle.model.proofs.Theorems.Placing.{walks_step, list_step, item_next}
 use Rattle.loaded_table.specs.Kinds.{below_lists, list_code}
 use Rattle.loaded_table.specs.Loaded.{kind_from, kind_in, table_by, kinds_of, counts_of, members_in}
 use Rattle.loaded_embedding.specs.Loaded.{steps_from}

@@ -4,8 +4,8 @@ use mathlib.Core.List.{List, [], ◌∷◌, Memᴰ}
 use Rattle.std.proofs.Common.{arith}
 use Rattle.model.specs.Definitions.Table.{Kind, text, empty, sequence, choice, list, Table, kind_of, members_of}
 use Rattle.model.specs.Definitions.Embedding.{next, Divided, divide, divide_at}
-use Rattle.model.specs.Theorems.Facts.{WellFormed, Walks, arrived, onward}
-use Rattle.model.specs.Theorems.Placing.{walks_step, walks_rest, GoodParts, divide_good}
+use Rattle.model.proofs.Theorems.Facts.{WellFormed, Walks, arrived, onward}
+use Rattle.model.proofs.Theorems.Placing.{walks_step, walks_rest, GoodParts, divide_good}
 use Rattle.loaded_table.specs.Loaded.{table_by, length_of_lem}
 use Rattle.loaded_embedding.specs.Loaded.{steps_from}
 use Rattle.paths.specs.declared.Cut.{Cut}

@@ -11,9 +11,9 @@ use Rattle.model.specs.Definitions.Basics.{some_of}
 use Rattle.model.specs.Definitions.Table.{Kind, text, empty, sequence, choice, list, Table, kind_of, members_of, edges_of, is_list}
 use Rattle.model.specs.Definitions.Embedding.{Edge, TypeMap, no_map, target_of, paths_of, first_path, next, leaves, Divided, divide, divide_at}
 use Rattle.model.specs.Definitions.Image.{Setting}
-use Rattle.model.specs.Theorems.Facts.{Walks, MemberPath, Along, along_none, along_both, All, all_none, all_more, ValidEdges, text_edge, no_edge, sequence_edges, choice_edges, list_edge, Valid}
-use Rattle.model.specs.Theorems.Tools.{true_false}
-use Rattle.model.specs.Theorems.ImageConforms.{list_left}
+use Rattle.model.proofs.Theorems.Facts.{Walks, MemberPath, Along, along_none, along_both, All, all_none, all_more, ValidEdges, text_edge, no_edge, sequence_edges, choice_edges, list_edge, Valid}
+use Rattle.model.proofs.Theorems.Tools.{true_false}
+use Rattle.model.proofs.Theorems.ImageConforms.{list_left}
 use Rattle.loaded_table.specs.Loaded.{kind_from, kind_in, types_in, kinds_of, counts_of, members_in, length_of_lem, kind_of_lem}
 use Rattle.loaded_table.specs.Kinds.{code_text, choice_code, need_from, row_codes, choice_from, choice_range, list_code}
 use Rattle.loaded_embedding.specs.Loaded.{targets_of, starts_of, lengths_of, steps_from, edges_from, edge_in, maps_from, embedding_in}

@@ -1,7 +1,7 @@
 -- Paths in an embedding's document that exist in a loaded table, and where a path is divided.
 use Rattle.std.specs.Prelude.{◌≡◌, List, [], ◌∷◌, ℕ, zero, suc, ◌+◌, ◌-◌, ◌*◌, ◌≤◌, ◌<◌, length, get_or}
 use Rattle.model.specs.Definitions.Embedding.{Divided}
-use Rattle.model.specs.Theorems.Facts.{WellFormed, Walks}
+use Rattle.model.proofs.Theorems.Facts.{WellFormed, Walks}
 use Rattle.loaded_table.specs.Loaded.{types_in, table_by, Bounded}
 use Rattle.loaded_embedding.specs.Loaded.{starts_of, lengths_of, steps_from}
 use Rattle.paths.specs.declared.Cut.{Cut}

@@ -6,9 +6,9 @@ use Prim.Native.Nat.{ℕ, suc, ◌+◌, ◌-◌, ◌*◌, ◌≤◌, ◌<◌}
 use native.Mathlib.Omega.{arith}
 use Rattle.model.specs.Definitions.Table.{Table, kind_of, members_of, step_from}
 use Rattle.model.specs.Definitions.Embedding.{next}
-use Rattle.model.specs.Theorems.Facts.{Walks}
-use Rattle.model.specs.Theorems.Tools.{entry_member}
-use Rattle.model.specs.Theorems.Placing.{walks_step, walks_rest}
+use Rattle.model.proofs.Theorems.Facts.{Walks}
+use Rattle.model.proofs.Theorems.Tools.{entry_member}
+use Rattle.model.proofs.Theorems.Placing.{walks_step, walks_rest}
 use Rattle.loaded_table.specs.Loaded.{kind_in, table_by, kinds_of, counts_of, members_in, length_of_lem, kind_of_lem}
 use Rattle.loaded_table.specs.Steps.{step_in_row}
 use Rattle.loaded_embedding.specs.Loaded.{steps_from}

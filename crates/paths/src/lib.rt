@@ -12,7 +12,7 @@ ghost use Rattle.paths.specs.Following.{Followable, Cuts};
 use loaded_table::{LIST, TABLE, is_choice, kind, member};
 
 // The number of steps before the first step of a path that leaves a list, and the item type of that list.
-#[derive(Drop)]
+#[derive(Clone, Copy)]
 pub struct Cut {
     pub depth: usize,
     pub item: usize,

@@ -13,11 +13,11 @@ use Rattle.model.specs.Definitions.Image.{Setting, image_by}
 use Rattle.model.specs.Definitions.Inverse.{located, yields, missing, read_to, reading, read_back}
 use Rattle.model.specs.Definitions.LeftOut.{left_out_of}
 use Rattle.model.specs.Definitions.Entries.{accepted, Outcome, untouched, written, read_within, read_content}
-use Rattle.model.specs.Theorems.Facts.{Valid}
-use Rattle.model.specs.Theorems.Measures.{size, size_elem, document-length}
-use Rattle.model.specs.Theorems.ReadsPlain.{read_content_lem}
-use Rattle.model.specs.Theorems.WithoutFiller.{built_of}
-use Rattle.model.specs.Theorems.ReadingAlong.{read_counts, read_no_longer}
+use Rattle.model.proofs.Theorems.Facts.{Valid}
+use Rattle.model.proofs.Theorems.Measures.{size, size_elem, document-length}
+use Rattle.model.proofs.Theorems.ReadsPlain.{read_content_lem}
+use Rattle.model.proofs.Theorems.WithoutFiller.{built_of}
+use Rattle.model.proofs.Theorems.ReadingAlong.{read_counts, read_no_longer}
 use Rattle.writing.specs.Writing.{Writes}
 use Rattle.loaded_setting.specs.Trees.{SoundTree}
 use Rattle.answers.specs.declared.Reading as answers

@@ -10,8 +10,8 @@ use Rattle.model.specs.Definitions.Image.{Setting}
 use Rattle.model.specs.Definitions.Heights.{height_of}
 use Rattle.model.specs.Definitions.Filler.{filler_length}
 use Rattle.model.specs.Definitions.Templates.{Symbol, opening, closing, filler, hole, row_length, row_levels, row_filler, template, item_template, divided_of, own_length, own_filler, own_levels, item_length, item_filler, item_levels}
-use Rattle.model.specs.Theorems.Facts.{All, all_none, all_more}
-use Rattle.model.specs.Theorems.Templates.{TypeBelow, template_types, item_types}
+use Rattle.model.proofs.Theorems.Facts.{All, all_none, all_more}
+use Rattle.model.proofs.Theorems.Templates.{TypeBelow, template_types, item_types}
 use Rattle.loaded_table.specs.Kinds.{each_code}
 use Rattle.loaded_table.specs.Loaded.{Bounded, Kept, kind_from, table_by, types_in, kinds_of, counts_of, members_in, length_of_lem, kind_of_lem}
 use Rattle.loaded_setting.specs.Ready.{setting_in, Ready}

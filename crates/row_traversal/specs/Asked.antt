@@ -6,7 +6,7 @@ use Rattle.model.specs.Definitions.Content.{Content, elem, bytes, document}
 use Rattle.model.specs.Definitions.Conformance.{Holds}
 use Rattle.model.specs.Definitions.Image.{Setting, image}
 use Rattle.model.specs.Definitions.Templates.{filler_row, filler_bytes, filled_row, item_template, writes, first_in, held_by, over_children}
-use Rattle.model.specs.Theorems.Facts.{SoundTable}
+use Rattle.model.proofs.Theorems.Facts.{SoundTable}
 use Rattle.loaded_table.specs.Loaded.{table_by}
 use Rattle.rows.specs.Rows.{Rows, row_at, to_of, source_row, item_row, filler_symbol, child_symbol, characters_symbol, items_symbol}
 use Rattle.scanning.specs.Scanning.{ContentAt}

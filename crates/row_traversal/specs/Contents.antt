@@ -9,7 +9,7 @@ use Rattle.model.specs.Definitions.Table.{Kind, text, sequence, choice, Table, k
 use Rattle.model.specs.Definitions.Content.{Content, end, char, elem, bytes}
 use Rattle.model.specs.Definitions.Conformance.{Holds, no_character, one_character, nothing, no_member, one_member, chosen, left_out, no_item, one_item}
 use Rattle.model.specs.Definitions.Templates.{first_in, at_child}
-use Rattle.model.specs.Theorems.Tools.{some_none}
+use Rattle.model.proofs.Theorems.Tools.{some_none}
 use Rattle.rows.specs.Rows.{source_row}
 use Rattle.scanning.specs.Scanning.{ContentAt}
 use Rattle.scanning.specs.Spanning.{Spans, spans_part}

@@ -10,8 +10,8 @@ use Rattle.loaded_table.specs.Loaded.{table_by}
 use Rattle.rows.specs.Rows.{row_at, source_row}
 use Rattle.scanning.specs.Scanning.{ContentAt}
 use Rattle.scanning.specs.Laws.{content_within}
-use Rattle.model.specs.Theorems.TemplateShapes.{HoleOfItem}
-use Rattle.model.specs.Theorems.Templates.{writes_again}
+use Rattle.model.proofs.Theorems.TemplateShapes.{HoleOfItem}
+use Rattle.model.proofs.Theorems.Templates.{writes_again}
 use Rattle.row_traversal.specs.Model.{item_symbols}
 use Rattle.row_traversal.specs.Contents.{part_from, at_part, inside_part, ChildThere, Behind, element_behind, RowIs}
 use Rattle.row_traversal.specs.Asked.{Prepared, prepared_setting, ChildAsked, ElementAsked, ListOf, item_bytes, own_row, item_row_lem, RowAsked}

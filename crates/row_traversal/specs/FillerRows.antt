@@ -4,10 +4,10 @@ use Rattle.std.proofs.Math.Path.{refl, ap}
 use Rattle.std.proofs.Common.{sym, ◌∙◌, subst, append_assoc, arith}
 use Rattle.model.specs.Definitions.Table.{Table}
 use Rattle.model.specs.Definitions.Templates.{filled_row}
-use Rattle.model.specs.Theorems.Facts.{All}
+use Rattle.model.proofs.Theorems.Facts.{All}
 use Rattle.loaded_table.specs.Loaded.{length_of_lem}
 use Rattle.rows.specs.Rows.{symbol_of, row_in, from_of, to_of}
-use Rattle.model.specs.Theorems.Templates.{filler_written}
+use Rattle.model.proofs.Theorems.Templates.{filler_written}
 use Rattle.row_traversal.specs.Model.{OfFiller, filler_symbols}
 use Rattle.row_traversal.specs.Asked.{Fillers, Prepared, prepared_setting, FillerAsked}
 use Rattle.row_traversal.specs.Symbols.{Meaning, opens, fills, child_there, text_there, items_there, closes, meaning, opening_symbol, filler_symbol_lem, child_symbol_lem, characters_symbol_lem, items_symbol_lem, closing_symbol_lem, symbol_bytes, row_first, row_done, symbol_in, filler_bytes_lem}

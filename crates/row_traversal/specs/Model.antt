@@ -7,10 +7,10 @@ use Rattle.model.specs.Definitions.Table.{Kind, list, Table, kind_of}
 use Rattle.model.specs.Definitions.Heights.{heights}
 use Rattle.model.specs.Definitions.Image.{Setting}
 use Rattle.model.specs.Definitions.Templates.{Hole, Symbol, opening, closing, filler, hole, template, item_template, filler_row}
-use Rattle.model.specs.Theorems.Facts.{SoundTable, Valid, All, all_none, all_more}
-use Rattle.model.specs.Theorems.FillerLaws.{filled}
-use Rattle.model.specs.Theorems.TemplateShapes.{HoleIn, HoleOfItem}
-use Rattle.model.specs.Theorems.Templates.{TypeBelow, HoleOf, ItemHole, template_holes, template_types, item_holes, item_types, filler_row_of, filler_members}
+use Rattle.model.proofs.Theorems.Facts.{SoundTable, Valid, All, all_none, all_more}
+use Rattle.model.proofs.Theorems.FillerLaws.{filled}
+use Rattle.model.proofs.Theorems.TemplateShapes.{HoleIn, HoleOfItem}
+use Rattle.model.proofs.Theorems.Templates.{TypeBelow, HoleOf, ItemHole, template_holes, template_types, item_holes, item_types, filler_row_of, filler_members}
 
 -- a symbol of a row over target table T whose holes are of some kind
 abbrev pub Allowed : Table → (Hole → Type 0) → Symbol → Type 0

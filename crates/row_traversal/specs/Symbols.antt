@@ -6,8 +6,8 @@ use Rattle.std.proofs.lemmas.Bool.{eqb-false}
 use Rattle.model.specs.Definitions.Basics.{pick}
 use Rattle.model.specs.Definitions.Table.{Table}
 use Rattle.model.specs.Definitions.Templates.{Hole, characters, child, items, Symbol, opening, closing, filler, hole, filler_bytes, filled_row}
-use Rattle.model.specs.Theorems.Facts.{All, all_more}
-use Rattle.model.specs.Theorems.Tools.{pick_true}
+use Rattle.model.proofs.Theorems.Facts.{All, all_more}
+use Rattle.model.proofs.Theorems.Tools.{pick_true}
 use Rattle.rows.specs.Rows.{symbol_of, row_in}
 use Rattle.writing.specs.Laws.{part_cons}
 

@@ -12,13 +12,13 @@ use Rattle.model.specs.Definitions.Content.{Content, bytes}
 use Rattle.model.specs.Definitions.Conformance.{Holds, chosen, left_out}
 use Rattle.model.specs.Definitions.Image.{Setting}
 use Rattle.model.specs.Definitions.Templates.{Hole, characters, child, items, Symbol, opening, closing, filler, hole, filler_bytes, filled_row, writes, first_in, held_by, characters_of}
-use Rattle.model.specs.Theorems.Facts.{Valid, All, all_none, all_more}
-use Rattle.model.specs.Theorems.Tools.{some_none}
+use Rattle.model.proofs.Theorems.Facts.{Valid, All, all_none, all_more}
+use Rattle.model.proofs.Theorems.Tools.{some_none}
 use Rattle.loaded_table.specs.Loaded.{table_by}
 use Rattle.rows.specs.Rows.{symbol_of, row_in, row_at, from_of, to_of, row_index, source_row, item_row}
 use Rattle.scanning.specs.Scanning.{ContentAt}
-use Rattle.model.specs.Theorems.TemplateShapes.{HoleIn, HoleOfItem}
-use Rattle.model.specs.Theorems.Templates.{text_characters}
+use Rattle.model.proofs.Theorems.TemplateShapes.{HoleIn, HoleOfItem}
+use Rattle.model.proofs.Theorems.Templates.{text_characters}
 use Rattle.row_traversal.specs.Model.{Allowed, template_symbols, item_symbols}
 use Rattle.row_traversal.specs.Contents.{after_first, SomeChild, sequence_child, choice_child, at_child_lem}
 use Rattle.row_traversal.specs.Asked.{prepared_setting, FillerAsked, PlainAsked, an_opening, a_filler, the_characters, a_closing, ChildAsked, ItemsAsked, RowOf, own_row, item_row_lem, RowAsked}

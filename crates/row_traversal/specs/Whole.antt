@@ -4,7 +4,7 @@ use Rattle.std.proofs.Common.{sym, ap, ◌∙◌, subst, arith}
 use Rattle.model.specs.Definitions.Content.{Content, bytes, content_of, document}
 use Rattle.model.specs.Definitions.Image.{image}
 use Rattle.model.specs.Definitions.Templates.{writes}
-use Rattle.model.specs.Theorems.Templates.{write_image}
+use Rattle.model.proofs.Theorems.Templates.{write_image}
 use Rattle.loaded_table.specs.Loaded.{table_by}
 use Rattle.loaded_setting.specs.Ready.{setting_in, Ready}
 use Rattle.loaded_setting.specs.Trees.{SoundTree}

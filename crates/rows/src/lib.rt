@@ -128,7 +128,7 @@ pub fn place_row(places: &mut [u32], r: usize, from: u32, to: u32, depth: u32)
 }
 
 // A size of a row: levels, bytes and bytes of filler.
-#[derive(Drop)]
+#[derive(Clone, Copy)]
 pub struct Size {
     pub levels: usize,
     pub bytes: usize,

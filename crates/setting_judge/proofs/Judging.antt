@@ -15,8 +15,8 @@ use Rattle.model.specs.Definitions.Table.{Table, table_of}
 use Rattle.model.specs.Definitions.Refusals as refusals
 use Rattle.model.specs.Definitions.Refusals.{sound, has}
 use Rattle.model.specs.Definitions.Entries.{judged_table, judged_embedding}
-use Rattle.model.specs.Theorems.Facts.{SoundTable}
-use Rattle.model.specs.Theorems.JudgedTables.{table_sound}
+use Rattle.model.proofs.Theorems.Facts.{SoundTable}
+use Rattle.model.proofs.Theorems.JudgedTables.{table_sound}
 
 -- the model's judgement of a table, where the code's is known
 table_accepted : {bs rows : List ℕ} {j : Judged} → TableJudged bs j rows → j ≡ Judged.Sound → judged_table bs ≡ sound

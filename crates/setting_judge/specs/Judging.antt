@@ -11,8 +11,8 @@ use Rattle.model.specs.Definitions.Table.{table_of}
 use Rattle.model.specs.Definitions.Embedding.{embedding_of}
 use Rattle.model.specs.Definitions.Refusals.{sound, has}
 use Rattle.model.specs.Definitions.Entries.{judged_table, judged_embedding}
-use Rattle.model.specs.Theorems.EntryLaws.{Judges}
-use Rattle.model.specs.Theorems.Explanations.{RefusedFor10}
+use Rattle.model.proofs.Theorems.EntryLaws.{Judges}
+use Rattle.model.proofs.Theorems.Explanations.{RefusedFor10}
 
 -- the first refused of the three documents, by its number and its fault
 pub data Refusing (s t e : List ℕ) (f : Fault) : ℕ → Type 0 where

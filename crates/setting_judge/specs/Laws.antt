@@ -13,8 +13,8 @@ use Rattle.model.specs.Definitions.Table.{table_of}
 use Rattle.model.specs.Definitions.Embedding.{embedding_of}
 use Rattle.model.specs.Definitions.Refusals.{source_table, target_table, embedding, document_number}
 use Rattle.model.specs.Definitions.Entries.{setting_of, unless_faulty, edge_count, judge_embedding}
-use Rattle.model.specs.Theorems.Facts.{Valid}
-use Rattle.model.specs.Theorems.EntryLaws.{judges_valid}
+use Rattle.model.proofs.Theorems.Facts.{Valid}
+use Rattle.model.proofs.Theorems.EntryLaws.{judges_valid}
 
 module _ (s t e from to map : List ℕ) (v : Verdict) (h : ByVerdict s t e from to map v) where
   pub standing : v ≡ Verdict.Sound → Standing s t e from to map

@@ -14,10 +14,10 @@ use Rattle.loaded_table.specs.Loaded.{heights_of, fill_of, table_by}
 use Rattle.model.specs.Definitions.Table.{Table, kind_of}
 use Rattle.model.specs.Definitions.Heights.{height_in, heights, height_of}
 use Rattle.model.specs.Definitions.Filler.{length_of, fill_members, fillers, filler_length}
-use Rattle.model.specs.Theorems.Facts.{SoundTable}
-use Rattle.model.specs.Theorems.HeightLaws.{finite_height, kind_positive}
-use Rattle.model.specs.Theorems.FillerLaws.{filled, fill_filled, filled_members, filled_lower, filler-induction, fill_step}
-use Rattle.model.specs.Theorems.GrownTables.{filled-same}
+use Rattle.model.proofs.Theorems.Facts.{SoundTable}
+use Rattle.model.proofs.Theorems.HeightLaws.{finite_height, kind_positive}
+use Rattle.model.proofs.Theorems.FillerLaws.{filled, fill_filled, filled_members, filled_lower, filler-induction, fill_step}
+use Rattle.model.proofs.Theorems.GrownTables.{filled-same}
 use Rattle.table_heights.specs.Sections.{Elsewhere, section_elsewhere, table_elsewhere}
 use Rattle.table_heights.specs.Heights.{HoldsHeights}
 use Rattle.table_fill.specs.Fill.{HoldsFill, FillTo, fill_sum, next_fill, HoldsFillRound}

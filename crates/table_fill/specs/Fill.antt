@@ -4,8 +4,8 @@ use Rattle.loaded_table.specs.Loaded.{fill_of, table_by}
 use Rattle.model.specs.Definitions.Table.{Table, kind_of}
 use Rattle.model.specs.Definitions.Heights.{height_of}
 use Rattle.model.specs.Definitions.Filler.{filler_length}
-use Rattle.model.specs.Theorems.Facts.{SoundTable}
-use Rattle.model.specs.Theorems.FillerLaws.{filled}
+use Rattle.model.proofs.Theorems.Facts.{SoundTable}
+use Rattle.model.proofs.Theorems.FillerLaws.{filled}
 use Rattle.table_heights.specs.Sections.{Elsewhere}
 
 -- an array holds the byte lengths of a table's filler elements, held at 60,001

@@ -5,7 +5,7 @@
 
 ghost use Rattle.std.specs.Prelude.{◌≡◌, ◌+◌, ◌<◌, get_or};
 ghost use Rattle.loaded_table.specs.Loaded.{types_in, heights_of, fill_of, table_by, Bounded, fill_start, held_length};
-ghost use Rattle.model.specs.Theorems.Facts.{SoundTable};
+ghost use Rattle.model.proofs.Theorems.Facts.{SoundTable};
 ghost use Rattle.table_heights.specs.Sections.{members_at, Elsewhere};
 ghost use Rattle.table_heights.specs.Heights.{HoldsHeights};
 ghost use Rattle.table_fill.specs.Fill.{fill_sum, next_fill, HoldsFillRound, FillFound};

@@ -9,7 +9,7 @@ use lib.Dec.{ltb}
 use borrow.Author.Tests.{lt-ltb, le-ltb, ne_eqb}
 use Rattle.model.specs.Definitions.Basics.{pick}
 use Rattle.model.specs.Definitions.Commands.{bare, paired, takes_operand, TableCommand, alien, table_command}
-use Rattle.model.specs.Theorems.Reading.{raw_with, raw_at}
+use Rattle.model.proofs.Theorems.Reading.{raw_with, raw_at}
 
 -- a byte that takes no operand
 pub bare_at : (bs : List ℕ) (at b : ℕ) {r : TableCommand} → get_or bs at 0 ≡ b → takes_operand b ≡ false → table_command (bare b) ≡ r

@@ -7,7 +7,7 @@ use native.Mathlib.Omega.{arith}
 use lib.ListN.{length}
 use Rattle.model.specs.Definitions.Basics.{pick, Verdict, passes, fails, Next, goes, stops}
 use Rattle.model.specs.Definitions.Commands.{TableCommand, text_type, empty_type, sequence_type, choice_type, list_type, member, table_end, alien, table_command, table_commands, table_width}
-use Rattle.model.specs.Theorems.Reading.{raw_at, ReadsAt, table_reads, no_table_commands, left, left_stops, left_goes, goes_within, left_ends}
+use Rattle.model.proofs.Theorems.Reading.{raw_at, ReadsAt, table_reads, no_table_commands, left, left_stops, left_goes, goes_within, left_ends}
 
 -- every command has a byte
 pub some_width : (c : TableCommand) {w : ℕ} → w ≡ table_width c → 1 ≤ w

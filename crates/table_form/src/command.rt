@@ -1,7 +1,7 @@
 // The commands of a table document.
 ghost use Rattle.std.specs.Prelude.{◌≡◌, ◌<◌, length};
 ghost use Rattle.model.specs.Definitions.Commands.{table_command, table_width};
-ghost use Rattle.model.specs.Theorems.Reading.{raw_at};
+ghost use Rattle.model.proofs.Theorems.Reading.{raw_at};
 ghost use Rattle.table_form.specs.Read.{command};
 
 use codes::{
@@ -10,7 +10,7 @@ use codes::{
 
 // A command, with its operand; `Alien` is a byte that is no command of a table, or one whose operand is missing. `Optional` stands
 // last, as its arm in `step` does: elsewhere the compiled loop of check 2 is up to a third slower.
-#[derive(Drop)]
+#[derive(Clone, Copy)]
 pub enum TableCommand {
     Text,
     Empty,

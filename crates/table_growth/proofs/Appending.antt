@@ -25,10 +25,10 @@ use Rattle.model.specs.Definitions.ValidTable.{ValidTable, kind_bytes}
 use Rattle.model.specs.Definitions.Refusals.{over_limit, bad_operand, repeated_member, no_finite_instance, Refusal, source_table, faulty, no_choice}
 use Rattle.model.specs.Definitions.Entries.{refused, accepted}
 use Rattle.model.specs.Definitions.Operations.{type_in, Operation, append_type, append_member, Changed, unchanged, changed_to, append_kind, type_appended, operate, member_appended, extended_at}
-use Rattle.model.specs.Theorems.Operations.{type_in_exactly, type_many, type-unknown, type-repeated, grown-well-formed, type-endless, type-appended, no_choice_there, member_many, member-unknown, member-repeated, member-appended}
-use Rattle.model.specs.Theorems.Facts.{WellFormed}
-use Rattle.model.specs.Theorems.JudgedTables.{Enough}
-use Rattle.model.specs.Theorems.Tools.{true_false}
+use Rattle.model.proofs.Theorems.Operations.{type_in_exactly, type_many, type-unknown, type-repeated, grown-well-formed, type-endless, type-appended, no_choice_there, member_many, member-unknown, member-repeated, member-appended}
+use Rattle.model.proofs.Theorems.Facts.{WellFormed}
+use Rattle.model.proofs.Theorems.JudgedTables.{Enough}
+use Rattle.model.proofs.Theorems.Tools.{true_false}
 use Rattle.table_heights.specs.Sections.{members_at, members_long}
 use Rattle.type_commands.specs.Types.{is_one_type, or_empty, type_written}
 use Rattle.type_commands.proofs.Reading.{type_told}

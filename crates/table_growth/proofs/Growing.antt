@@ -16,9 +16,9 @@ use Rattle.model.specs.Definitions.Heights.{height_of}
 use Rattle.model.specs.Definitions.Filler.{filler_length}
 use Rattle.model.specs.Definitions.Entries.{accepted}
 use Rattle.model.specs.Definitions.Operations.{kept_length, append_type, operate}
-use Rattle.model.specs.Theorems.Facts.{WellFormed, SoundTable}
-use Rattle.model.specs.Theorems.GrownTables.{beyond_height, older_height, older_length}
-use Rattle.model.specs.Theorems.Operations.{valid_sound}
+use Rattle.model.proofs.Theorems.Facts.{WellFormed, SoundTable}
+use Rattle.model.proofs.Theorems.GrownTables.{beyond_height, older_height, older_length}
+use Rattle.model.proofs.Theorems.Operations.{valid_sound}
 use Rattle.table_heights.specs.Sections.{table_elsewhere, bounded_elsewhere}
 use Rattle.type_commands.specs.Types.{type_written, TypePut}
 use Rattle.table_growth.proofs.Appending.{refused_fault, done_as, well-formed-then, endless-type, type-done}

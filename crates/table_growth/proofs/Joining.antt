@@ -19,10 +19,10 @@ use Rattle.model.specs.Definitions.Heights.{height_in, height_of_kind, height_of
 use Rattle.model.specs.Definitions.Filler.{filler_length}
 use Rattle.model.specs.Definitions.ValidTable.{ValidTable}
 use Rattle.model.specs.Definitions.Operations.{with_member, extended_at}
-use Rattle.model.specs.Theorems.Facts.{WellFormed, SoundTable}
-use Rattle.model.specs.Theorems.HeightLaws.{finite_height}
-use Rattle.model.specs.Theorems.GrownTables.{beyond_height, finite_everywhere, heights_fall, extended_sound, unmoved_height, unmoved_length}
-use Rattle.model.specs.Theorems.Operations.{valid_sound, extended-well-formed, member-appended}
+use Rattle.model.proofs.Theorems.Facts.{WellFormed, SoundTable}
+use Rattle.model.proofs.Theorems.HeightLaws.{finite_height}
+use Rattle.model.proofs.Theorems.GrownTables.{beyond_height, finite_everywhere, heights_fall, extended_sound, unmoved_height, unmoved_length}
+use Rattle.model.proofs.Theorems.Operations.{valid_sound, extended-well-formed, member-appended}
 use Rattle.table_heights.specs.Sections.{members_at, members_long, member_is, section_elsewhere, table_elsewhere, bounded_elsewhere}
 use Rattle.table_heights.specs.Heights.{NowhereBelow, HeightsFound}
 use Rattle.table_fill.specs.Fill.{FillFound}

@@ -15,10 +15,10 @@ use Rattle.model.specs.Definitions.Table.{Table, kind_of}
 use Rattle.model.specs.Definitions.Heights.{height_in, heights_to, heights, height_of}
 use Rattle.model.specs.Definitions.Filler.{filler_length}
 use Rattle.model.specs.Definitions.Operations.{kept_length}
-use Rattle.model.specs.Theorems.Facts.{SoundTable}
-use Rattle.model.specs.Theorems.HeightLaws.{held_next, height_round, kind_positive}
-use Rattle.model.specs.Theorems.FillerLaws.{filled, filled_lower, filled_members}
-use Rattle.model.specs.Theorems.GrownTables.{beyond_height}
+use Rattle.model.proofs.Theorems.Facts.{SoundTable}
+use Rattle.model.proofs.Theorems.HeightLaws.{held_next, height_round, kind_positive}
+use Rattle.model.proofs.Theorems.FillerLaws.{filled, filled_lower, filled_members}
+use Rattle.model.proofs.Theorems.GrownTables.{beyond_height}
 use Rattle.table_heights.specs.Sections.{Elsewhere, elsewhere_same, elsewhere_set, section_elsewhere, table_elsewhere, bounded_elsewhere}
 use Rattle.table_heights.specs.Heights.{NowhereBelow, HoldsHeights, next_height}
 use Rattle.table_heights.proofs.Rounds.{next_right}

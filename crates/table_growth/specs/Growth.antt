@@ -16,7 +16,7 @@ use Rattle.model.specs.Definitions.ValidTable.{ValidTable}
 use Rattle.model.specs.Definitions.Refusals.{source_table, faulty}
 use Rattle.model.specs.Definitions.Entries.{refused}
 use Rattle.model.specs.Definitions.Operations.{kept_length, Operation, operate, type_appended}
-use Rattle.model.specs.Theorems.Facts.{WellFormed, SoundTable}
+use Rattle.model.proofs.Theorems.Facts.{WellFormed, SoundTable}
 use Rattle.table_heights.specs.Sections.{members_at, Elsewhere}
 use Rattle.type_commands.specs.Types.{is_one_type}
 

@@ -11,7 +11,7 @@ use lib.Dec.{leb}
 use borrow.Author.Tests.{leb-true, leb-false, le-leb, lt-leb}
 use Rattle.model.specs.Definitions.Basics.{pick}
 use Rattle.model.specs.Definitions.Heights.{height_in, highest, lowest, least_member}
-use Rattle.model.specs.Theorems.Tools.{pick_true, pick_false}
+use Rattle.model.proofs.Theorems.Tools.{pick_true, pick_false}
 
 -- a turn of the loop for the highest
 pub highest_turn : (hs ms : List ℕ) (i best next whole : ℕ) → i < length ms → next ≡ max best (height_in hs (get_or ms i 0))

@@ -14,9 +14,9 @@ use borrow.Author.Tests.{eqb-true, eqb-false, leb-true, leb-false, ltb-true, ltb
 use Rattle.loaded_table.specs.Loaded.{types_in, heights_of, table_by, Bounded, length_of_lem, section_long}
 use Rattle.model.specs.Definitions.Table.{Table, kind_of}
 use Rattle.model.specs.Definitions.Heights.{height_in, height_of_kind, heights}
-use Rattle.model.specs.Theorems.HeightLaws.{height_round, height_beyond, held_next, kind_lower, kind_positive}
-use Rattle.model.specs.Theorems.GrownTables.{kind_settled}
-use Rattle.model.specs.Theorems.Tools.{true_false, pick_true, pick_false}
+use Rattle.model.proofs.Theorems.HeightLaws.{height_round, height_beyond, held_next, kind_lower, kind_positive}
+use Rattle.model.proofs.Theorems.GrownTables.{kind_settled}
+use Rattle.model.proofs.Theorems.Tools.{true_false, pick_true, pick_false}
 use Rattle.table_heights.specs.Heights.{HoldsRound, HoldsHeights, NowhereBelow, first_height, next_height, raised}
 
 -- ---- one entry written

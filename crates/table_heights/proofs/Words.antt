@@ -17,7 +17,7 @@ use borrow.Author.Tests.{le-leb, lt-leb}
 use Rattle.model.specs.Definitions.Basics.{Verdict, passes, fails, pick}
 use Rattle.model.specs.Definitions.Table.{Table}
 use Rattle.model.specs.Definitions.Heights.{height_in, heights, first_endless, endless_type}
-use Rattle.model.specs.Theorems.HeightLaws.{heights-length}
+use Rattle.model.proofs.Theorems.HeightLaws.{heights-length}
 use Rattle.table_heights.specs.Heights.{bit, word, finite_bits, HoldsHeights}
 
 -- ---- the value of a list of bits

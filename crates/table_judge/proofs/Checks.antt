@@ -25,8 +25,8 @@ use Rattle.model.specs.Definitions.TableChecks.{table_form, table_limits, table_
 use Rattle.model.specs.Definitions.Refusals as refusals
 use Rattle.model.specs.Definitions.Refusals.{sound, has, fault_at, fault_unless, fits}
 use Rattle.model.specs.Definitions.Entries.{checked_table, judged_table}
-use Rattle.model.specs.Theorems.Facts.{SoundTable}
-use Rattle.model.specs.Theorems.JudgedTables.{table_sound}
+use Rattle.model.proofs.Theorems.Facts.{SoundTable}
+use Rattle.model.proofs.Theorems.JudgedTables.{table_sound}
 
 -- a fault is no acceptance
 has_sound : {X : Type 0} {f : refusals.Fault} {j : refusals.Judged} → j ≡ has f → j ≡ sound → X

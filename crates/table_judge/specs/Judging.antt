@@ -8,7 +8,7 @@ use Rattle.model.specs.Definitions.Heights.{endless_type}
 use Rattle.model.specs.Definitions.TableChecks.{table_operands, table_repeats}
 use Rattle.model.specs.Definitions.Refusals.{Judged, sound, bad_operand, repeated_member, no_finite_instance, fault_at}
 use Rattle.model.specs.Definitions.Entries.{judged_table}
-use Rattle.model.specs.Theorems.Facts.{SoundTable}
+use Rattle.model.proofs.Theorems.Facts.{SoundTable}
 
 -- the model's judgement, and where it accepts, the table loaded
 pub record TableJudged (bs : List ℕ) (r : answers.Judged) (rows : List ℕ) : Type 0 where

@@ -16,9 +16,9 @@ use Rattle.model.specs.Definitions.Basics.{passes, Next, goes, stops, run, goes_
 use Rattle.model.specs.Definitions.Commands.{needed, optional, TableCommand, text_type, empty_type, sequence_type, choice_type, list_type, member, table_end, alien, table_command, table_commands, table_width}
 use Rattle.model.specs.Definitions.Table.{Kind, text, empty, sequence, choice, list, Table, TableTail, with_command, table_tail, table_of}
 use Rattle.model.specs.Definitions.TableChecks.{TableState, no_type, whole, members, table_ended, begins, joins, finishes, table_role, table_move, table_step, table_complete, table_form, TableCount, max_members, one_type_more, limit_step, table_limits}
-use Rattle.model.specs.Theorems.JudgedTables.{goes_if_lem}
-use Rattle.model.specs.Theorems.Runs.{passes_fails, goes_stops}
-use Rattle.model.specs.Theorems.Reading.{raw_at, ReadsAt, left_stops, left_goes, table_reads, no_table_commands}
+use Rattle.model.proofs.Theorems.JudgedTables.{goes_if_lem}
+use Rattle.model.proofs.Theorems.Runs.{passes_fails, goes_stops}
+use Rattle.model.proofs.Theorems.Reading.{raw_at, ReadsAt, left_stops, left_goes, table_reads, no_table_commands}
 use Rattle.table_form.proofs.FormMachine.{form_stops}
 use Rattle.table_form.proofs.Loop.{some_width}
 use Rattle.table_load.specs.Loading.{TableArrays, loaded_in, CountsCleared, begun, joined, puts, TypeMayBegin, MemberMayJoin, TableRoom, TablePut, TableLoaded}

@@ -9,7 +9,7 @@ use lib.Dec.{eqb}
 use borrow.Author.Tests.{eqb-true, eqb-false}
 use Rattle.model.specs.Definitions.Basics.{goes, stops, goes_if, member_of}
 use Rattle.model.specs.Definitions.TableChecks.{Chosen, elsewhere, among, chooses, table_repeats}
-use Rattle.model.specs.Theorems.Tools.{true_false}
+use Rattle.model.proofs.Theorems.Tools.{true_false}
 use Rattle.table_form.proofs.Loop.{At}
 use Rattle.table_operands.proofs.Machines.{repeat_machine}
 

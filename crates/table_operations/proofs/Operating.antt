@@ -6,8 +6,8 @@ use Prim.Native.Nat.{ℕ}
 use Rattle.answers.specs.declared.Extension.{Extension}
 use Rattle.answers.specs.declared.Extension.TheVariants.{NoChoice, Faulty, Types}
 use Rattle.model.specs.Definitions.Operations.{Operation}
-use Rattle.model.specs.Theorems.OperationLaws.{refused_same}
-use Rattle.model.specs.Theorems.Tools.{true_false}
+use Rattle.model.proofs.Theorems.OperationLaws.{refused_same}
+use Rattle.model.proofs.Theorems.Tools.{true_false}
 use Rattle.table_growth.specs.Growth.{Grown}
 use Rattle.table_operations.specs.declared.Table.{Table}
 use Rattle.table_operations.specs.Operations.{held, StandsFor, is_done, Operated}

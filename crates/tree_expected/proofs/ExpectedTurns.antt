@@ -16,8 +16,8 @@ use Rattle.model.specs.Definitions.Table.{Kind, sequence, Table, kind_of}
 use Rattle.model.specs.Definitions.Characters.{allowed}
 use Rattle.model.specs.Definitions.Conformance.{admits, after}
 use Rattle.model.specs.Definitions.TreeChecks.{no_root, tree_step, expect_step, tree_expected}
-use Rattle.model.specs.Theorems.Runs.{passes_fails}
-use Rattle.model.specs.Theorems.Reading.{raw_at, tree_reads, left_stops, left_goes, left_ends, no_tree-commands}
+use Rattle.model.proofs.Theorems.Runs.{passes_fails}
+use Rattle.model.proofs.Theorems.Reading.{raw_at, tree_reads, left_stops, left_goes, left_ends, no_tree-commands}
 use Rattle.loaded_table.specs.Loaded.{table_by, types_in, kinds_of, counts_of, members_in, kind_of_lem, Bounded}
 use Rattle.tree_form.specs.Form.{InForm}
 use Rattle.tree_levels.specs.Levels.{InLevels}

@@ -9,7 +9,7 @@ use lib.Dec.{ltb}
 use borrow.Author.Tests.{lt-ltb, le-ltb, ne_eqb}
 use Rattle.model.specs.Definitions.Basics.{pick}
 use Rattle.model.specs.Definitions.Commands.{opens, character, closes, tree_end, alien_t, tree_command, takes_operand}
-use Rattle.model.specs.Theorems.Reading.{raw_with, raw_at, tree_reads}
+use Rattle.model.proofs.Theorems.Reading.{raw_with, raw_at, tree_reads}
 use Rattle.tree_form.specs.declared.command.TreeCommand.{TreeCommand}
 use Rattle.tree_form.specs.Commands.{command, ReadsCommand}
 use Rattle.model.specs.Definitions.Commands as model

@@ -8,7 +8,7 @@ use lib.ListN.{length}
 use Rattle.model.specs.Definitions.Basics.{pick, passes, fails, goes, stops}
 use Rattle.model.specs.Definitions.Commands.{TreeCommand, opens, character, closes, tree_end, alien_t, tree_command, tree_commands, tree_width}
 use Rattle.model.specs.Definitions.TreeChecks.{TreeState, no_root, inside, root_closed, tree_ended, closed, tree_step, tree_complete, tree_form}
-use Rattle.model.specs.Theorems.Reading.{raw_at, tree_reads, left_stops, left_goes, goes_within, left_ends, no_tree-commands}
+use Rattle.model.proofs.Theorems.Reading.{raw_at, tree_reads, left_stops, left_goes, goes_within, left_ends, no_tree-commands}
 use Rattle.tree_form.specs.Form.{form_left, InForm, AfterEnd}
 use Rattle.tree_form.specs.Commands.{ReadsCommand}
 

@@ -3,7 +3,7 @@ use Rattle.std.specs.Prelude.{List, ℕ}
 use Rattle.tree_form.specs.declared.command.TreeCommand.{TreeCommand}
 use Rattle.tree_form.specs.declared.command.TreeCommand.TheVariants.{Opens, Character, Closes, End, Alien}
 use Rattle.model.specs.Definitions.Commands as model
-use Rattle.model.specs.Theorems.Reading.{ReadsAt}
+use Rattle.model.proofs.Theorems.Reading.{ReadsAt}
 
 -- a command of the code as the model has it
 abbrev pub command : TreeCommand → model.TreeCommand

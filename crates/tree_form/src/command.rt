@@ -1,7 +1,7 @@
 // The command that stands at an offset of a tree document.
 ghost use Rattle.std.specs.Prelude.{◌≡◌, ◌<◌, length};
 ghost use Rattle.model.specs.Definitions.Commands.{tree_command};
-ghost use Rattle.model.specs.Theorems.Reading.{raw_at};
+ghost use Rattle.model.proofs.Theorems.Reading.{raw_at};
 ghost use Rattle.tree_form.specs.Commands as said;
 
 use codes::{CHARACTER, CLOSES, OPENS, TREE_END};

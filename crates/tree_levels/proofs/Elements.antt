@@ -9,8 +9,8 @@ use Rattle.model.specs.Definitions.Basics.{passes}
 use Rattle.model.specs.Definitions.Commands.{TreeCommand, opens, character, closes, tree_end, alien_t, tree_commands, tree_width}
 use Rattle.model.specs.Definitions.Content.{Content, end, char, elem, content_of, elements}
 use Rattle.model.specs.Definitions.TreeChecks.{tree_form}
-use Rattle.model.specs.Theorems.Documents.{commands_then, document_commands, document-commands, content_of_form}
-use Rattle.model.specs.Theorems.Reading.{no_tree-commands}
+use Rattle.model.proofs.Theorems.Documents.{commands_then, document_commands, document-commands, content_of_form}
+use Rattle.model.proofs.Theorems.Reading.{no_tree-commands}
 use Rattle.tree_levels.specs.Elements.{opens_in}
 use Rattle.tree_form.specs.Commands.{ReadsCommand}
 

@@ -11,7 +11,7 @@ use borrow.Author.Tests.{lt-ltb, le-ltb}
 use Rattle.model.specs.Definitions.Basics.{pick, passes, fails, goes, stops, goes_if}
 use Rattle.model.specs.Definitions.Commands.{TreeCommand, opens, character, closes, tree_end, alien_t, tree_commands, tree_width}
 use Rattle.model.specs.Definitions.TreeChecks.{level_step, tree_levels}
-use Rattle.model.specs.Theorems.Reading.{left_stops, left_goes, goes_within, left_ends, no_tree-commands}
+use Rattle.model.proofs.Theorems.Reading.{left_stops, left_goes, goes_within, left_ends, no_tree-commands}
 use Rattle.tree_levels.specs.Levels.{InLevels}
 use Rattle.tree_form.specs.Commands.{ReadsCommand}
 

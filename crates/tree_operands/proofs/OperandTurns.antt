@@ -10,7 +10,7 @@ use Rattle.model.specs.Definitions.Basics.{pick, passes, fails, goes, stops, goe
 use Rattle.model.specs.Definitions.Commands.{TreeCommand, opens, character, closes, tree_end, alien_t, tree_commands, tree_width}
 use Rattle.model.specs.Definitions.Characters.{allowed}
 use Rattle.model.specs.Definitions.TreeChecks.{operand_step, tree_operands}
-use Rattle.model.specs.Theorems.Reading.{left_stops, left_goes, goes_within, left_ends, no_tree-commands}
+use Rattle.model.proofs.Theorems.Reading.{left_stops, left_goes, goes_within, left_ends, no_tree-commands}
 use Rattle.tree_operands.specs.Operands.{InOperands}
 use Rattle.tree_form.specs.Commands.{ReadsCommand}
 

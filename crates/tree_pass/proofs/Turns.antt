@@ -7,7 +7,7 @@ use native.Mathlib.Omega.{arith}
 use lib.ListN.{length, get_or, set}
 use Rattle.model.specs.Definitions.Commands.{TreeCommand, opens, tree_command}
 use Rattle.model.specs.Definitions.Characters.{allowed}
-use Rattle.model.specs.Theorems.Reading.{raw_at, tree_reads}
+use Rattle.model.proofs.Theorems.Reading.{raw_at, tree_reads}
 use Rattle.loaded_table.specs.Loaded.{types_in}
 use Rattle.tree_form.specs.Commands.{ReadsCommand}
 use Rattle.tree_form.proofs.Commands.{opens_at}

@@ -15,8 +15,8 @@ use Rattle.model.specs.Definitions.Commands.{needed, optional}
 use Rattle.model.specs.Definitions.Table.{Kind, text, empty, sequence, choice, list, members_of}
 use Rattle.model.specs.Definitions.Operations.{members_written, with_at_least, where_none, where_one, type_in}
 use Rattle.model.specs.Definitions.ValidTable.{member_bytes, kind_bytes}
-use Rattle.model.specs.Theorems.Tools.{true_false}
-use Rattle.model.specs.Theorems.Operations.{type_in_exactly}
+use Rattle.model.proofs.Theorems.Tools.{true_false}
+use Rattle.model.proofs.Theorems.Operations.{type_in_exactly}
 use Rattle.loaded_table.specs.Kinds.{code_of}
 use Rattle.type_commands.specs.Types.{is_one_type, or_empty, type_written, MembersThere, code_begun, first_operand}
 

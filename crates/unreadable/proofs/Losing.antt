@@ -12,8 +12,8 @@ use Rattle.model.specs.Definitions.Content.{Content, end, elem}
 use Rattle.model.specs.Definitions.Embedding.{target_of, paths_of, first_path}
 use Rattle.model.specs.Definitions.Image.{Setting}
 use Rattle.model.specs.Definitions.Inverse.{Located, opened_at, follow_at, Parts, done, broken, part, unbroken, kind_parts, child_parts, Reading, yields, missing, with_rest, with_element, read_parts, read_unbroken, read_characters, read_children, read_kind, read_to}
-use Rattle.model.specs.Theorems.Tools.{true_false}
-use Rattle.model.specs.Theorems.ReadsPlain.{by_children}
+use Rattle.model.proofs.Theorems.Tools.{true_false}
+use Rattle.model.proofs.Theorems.ReadsPlain.{by_children}
 use Rattle.loaded_table.specs.Loaded.{types_in, kinds_of}
 use Rattle.loaded_embedding.specs.Loaded.{targets_of}
 use Rattle.loaded_setting.specs.Ready.{setting_in, Ready}

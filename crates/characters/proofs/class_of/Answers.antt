@@ -3,7 +3,7 @@
 use mathlib.Core.Path.{sym}
 use borrow.Author.Rules.{rules}
 use Rattle.model.specs.Definitions.Characters.{as_entity}
-use Rattle.model.specs.Theorems.Characters.{class_of}
+use Rattle.model.proofs.Theorems.Characters.{class_of}
 use Rattle.characters.proofs.Ranges.{from_tab, printed, accents, below_tab, below_space, below_accents}
 use Rattle.characters.proofs.class_of.Goals as goal
 

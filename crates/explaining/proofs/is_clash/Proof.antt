@@ -8,7 +8,7 @@ use Rattle.answers.specs.declared.Fault.{Fault}
 use Rattle.answers.specs.contracts.Fault.{enum}
 use Rattle.answers.specs.Answers.{fault}
 use Rattle.model.specs.Definitions.Refusals.{fault_number}
-use Rattle.model.specs.Theorems.Arms.{in_arm}
+use Rattle.model.proofs.Theorems.Arms.{in_arm}
 use Rattle.explaining.proofs.is_clash.Statement.{statement}
 use Rattle.explaining.proofs.is_clash.Tie as tie
 

@@ -6,7 +6,7 @@ use native.Mathlib.Omega.{arith}
 use borrow.Author.Rules.{rules}
 use borrow.Fn.Kinds.{In}
 use borrow.Fn.PlainCycle.{Measures, is, falls, and}
-use Rattle.model.specs.Theorems.Tools.{some_none}
+use Rattle.model.proofs.Theorems.Tools.{some_none}
 use Rattle.writing.specs.Laws.{writes-length}
 use Rattle.paths.specs.Edges.{small, text-follows}
 use Rattle.children.specs.Cursors.{cursor_weight}

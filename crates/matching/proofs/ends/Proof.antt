@@ -2,7 +2,7 @@
 use mathlib.Core.Path.{refl}
 use mathlib.Core.List.{[], ◌∷◌}
 use borrow.Author.Rules.{rules}
-use Rattle.model.specs.Theorems.Tools.{true_false}
+use Rattle.model.proofs.Theorems.Tools.{true_false}
 use Rattle.matching.specs.Same.{stays, goes, same_then}
 use Rattle.matching.proofs.Comparing.{same_ends}
 use Rattle.matching.proofs.ends.Statement.{statement}

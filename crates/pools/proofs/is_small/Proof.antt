@@ -1,6 +1,6 @@
 -- `is_small` meets its contract.
 use mathlib.Core.Path.{refl}
-use Rattle.model.specs.Theorems.Tools.{true_false}
+use Rattle.model.proofs.Theorems.Tools.{true_false}
 use borrow.Author.Rules.{rules}
 use Rattle.pools.proofs.is_small.Statement.{statement}
 use Rattle.pools.proofs.is_small.Tie as tie

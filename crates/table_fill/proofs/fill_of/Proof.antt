@@ -5,7 +5,7 @@ use native.Mathlib.Nat.{add-zero}
 use native.Mathlib.Omega.{arith}
 use lib.ListN.{get_or}
 use Rattle.loaded_table.specs.Loaded.{heights_of, fill_of}
-use Rattle.model.specs.Theorems.FillerLaws.{filled}
+use Rattle.model.proofs.Theorems.FillerLaws.{filled}
 use Rattle.table_heights.specs.Sections.{kind_sequence, kind_choice, kind_other}
 use Rattle.table_fill.specs.Fill.{fill_sum}
 use Rattle.table_fill.proofs.fill_of.Statement.{statement}

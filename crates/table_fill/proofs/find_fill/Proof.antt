@@ -4,7 +4,7 @@ use mathlib.Core.Logic.{inl}
 use Prim.Native.Nat.{◌-◌, ◌≤◌}
 use native.Mathlib.Omega.{arith}
 use Rattle.loaded_table.specs.Loaded.{fill_of, table_by, length_of_lem}
-use Rattle.model.specs.Theorems.Facts.{SoundTable}
+use Rattle.model.proofs.Theorems.Facts.{SoundTable}
 use Rattle.table_heights.specs.Sections.{Elsewhere, elsewhere_same, elsewhere_both, section_elsewhere, table_elsewhere, bounded_elsewhere}
 use Rattle.table_fill.specs.Fill.{FillTo, HoldsFillRound}
 use Rattle.table_fill.proofs.FillRounds.{fill_none, fill_all}

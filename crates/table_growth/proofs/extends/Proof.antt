@@ -6,7 +6,7 @@ use Prim.Native.Nat.{◌*◌, ◌<◌}
 use Rattle.loaded_table.specs.Kinds.{choice_code, choice_code_lem}
 use Rattle.loaded_table.specs.Loaded.{kinds_of, counts_of, members_in, types_in, table_by, length_of_lem, kind_of_lem}
 use Rattle.model.specs.Definitions.Table.{empty, is_choice, kind_of}
-use Rattle.model.specs.Theorems.Tools.{true_false}
+use Rattle.model.proofs.Theorems.Tools.{true_false}
 use Rattle.table_growth.proofs.extends.Statement.{statement}
 use Rattle.table_growth.proofs.extends.Tie as tie
 

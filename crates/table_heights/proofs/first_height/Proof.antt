@@ -2,7 +2,7 @@
 use mathlib.Core.Path.{sym}
 use borrow.Author.Rules.{rules}
 use borrow.Author.Tests.{lt-ltb, le-ltb}
-use Rattle.model.specs.Theorems.Tools.{pick_true, pick_false}
+use Rattle.model.proofs.Theorems.Tools.{pick_true, pick_false}
 use Rattle.table_heights.specs.Heights.{first_height}
 use Rattle.table_heights.proofs.first_height.Statement.{statement}
 use Rattle.table_heights.proofs.first_height.Tie as tie

@@ -5,7 +5,7 @@ use native.Mathlib.Omega.{arith}
 use lib.ListN.{length}
 use Rattle.loaded_table.specs.Loaded.{heights_of}
 use Rattle.model.specs.Definitions.Heights.{height_in}
-use Rattle.model.specs.Theorems.HeightLaws.{least_height}
+use Rattle.model.proofs.Theorems.HeightLaws.{least_height}
 use Rattle.table_heights.specs.Sections.{members_at, members_long}
 use Rattle.table_heights.proofs.Members.{lowest_none}
 use Rattle.table_heights.proofs.lowest.Statement.{statement}

@@ -3,7 +3,7 @@ use mathlib.Core.Bool.{false}
 use mathlib.Core.List.{[], ◌∷◌}
 use borrow.Author.Rules.{rules}
 use Rattle.answers.specs.contracts.Extension.{enum}
-use Rattle.model.specs.Theorems.Arms.{in_arm}
+use Rattle.model.proofs.Theorems.Arms.{in_arm}
 use Rattle.table_operations.specs.Operations.{is_done}
 use Rattle.table_operations.proofs.done.Statement.{statement}
 use Rattle.table_operations.proofs.done.Tie as tie

@@ -2,7 +2,7 @@
 use mathlib.Core.Path.{refl}
 use borrow.Author.Rules.{rules}
 use borrow.Author.Tests.{eqb-true}
-use Rattle.model.specs.Theorems.Tools.{true_false}
+use Rattle.model.proofs.Theorems.Tools.{true_false}
 use Rattle.tree_pass.proofs.Turns.{begun}
 use Rattle.tree_pass.proofs.begins.Statement.{statement}
 use Rattle.tree_pass.proofs.begins.Tie as tie

@@ -1,7 +1,7 @@
 -- `tree_pass::holds` meets its contract. Assumes nothing.
 use mathlib.Core.Path.{refl, sym, ◌∙◌}
 use borrow.Author.Rules.{rules}
-use Rattle.model.specs.Theorems.Tools.{true_false}
+use Rattle.model.proofs.Theorems.Tools.{true_false}
 use Rattle.tree_pass.proofs.holds.Statement.{statement}
 use Rattle.tree_pass.proofs.holds.Tie as tie
 

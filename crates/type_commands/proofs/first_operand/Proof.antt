@@ -1,7 +1,7 @@
 -- `first_operand` meets its contract: behind 14 stands its operand, behind any other first byte a 15.
 use mathlib.Core.Path.{sym}
 use borrow.Author.Tests.{eq-eqb, ne_eqb}
-use Rattle.model.specs.Theorems.Tools.{pick_true, pick_false}
+use Rattle.model.proofs.Theorems.Tools.{pick_true, pick_false}
 use Rattle.type_commands.specs.Types.{first_operand}
 use Rattle.type_commands.proofs.first_operand.Statement.{statement}
 use Rattle.type_commands.proofs.first_operand.Tie as tie

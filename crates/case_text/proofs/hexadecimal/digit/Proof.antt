@@ -2,7 +2,7 @@
 use mathlib.Core.Path.{sym}
 use borrow.Author.Rules.{rules}
 use borrow.Author.Tests.{lt-ltb, le-ltb}
-use Rattle.model.specs.Theorems.Tools.{pick_true, pick_false}
+use Rattle.model.proofs.Theorems.Tools.{pick_true, pick_false}
 use Rattle.case_text.specs.Hexadecimal.{hex_digit}
 use Rattle.case_text.proofs.hexadecimal.digit.Statement.{statement}
 use Rattle.case_text.proofs.hexadecimal.digit.Tie as tie

@@ -2,7 +2,7 @@
 use mathlib.Core.List.{[], ◌∷◌}
 use borrow.Author.Rules.{rules}
 use Rattle.model.specs.Definitions.Commands.{table_width}
-use Rattle.model.specs.Theorems.Arms.{in_arm}
+use Rattle.model.proofs.Theorems.Arms.{in_arm}
 use Rattle.table_form.specs.Read.{command}
 use Rattle.table_form.specs.contracts.command.TableCommand.{enum}
 use Rattle.table_form.proofs.command.width.Statement.{statement}

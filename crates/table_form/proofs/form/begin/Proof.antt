@@ -2,7 +2,7 @@
 use mathlib.Core.List.{[], ◌∷◌}
 use borrow.Author.Rules.{rules}
 use Rattle.model.specs.Definitions.TableChecks.{begins, table_move}
-use Rattle.model.specs.Theorems.Arms.{in_arm}
+use Rattle.model.proofs.Theorems.Arms.{in_arm}
 use Rattle.table_form.specs.Forms.{state}
 use Rattle.table_form.specs.contracts.form.State.{enum}
 use Rattle.table_form.proofs.form.begin.Statement.{statement}

@@ -3,7 +3,7 @@ use mathlib.Core.Path.{◌∙◌}
 use mathlib.Core.List.{[], ◌∷◌}
 use borrow.Author.Rules.{rules}
 use Rattle.model.specs.Definitions.TableChecks.{begins, whole, table_move, table_role, table_step}
-use Rattle.model.specs.Theorems.Arms.{in_arm}
+use Rattle.model.proofs.Theorems.Arms.{in_arm}
 use Rattle.table_form.specs.Forms.{state}
 use Rattle.table_form.specs.Read.{command}
 use Rattle.table_form.proofs.FormMachine.{unknown_stops}

@@ -6,7 +6,7 @@ use borrow.Author.Rules.{rules}
 use lib.ListN.{length}
 use Rattle.model.specs.Definitions.Basics.{goes}
 use Rattle.model.specs.Definitions.TableChecks.{table_form, table_limits}
-use Rattle.model.specs.Theorems.Tools.{true_false}
+use Rattle.model.proofs.Theorems.Tools.{true_false}
 use Rattle.table_form.specs.Forms as form
 use Rattle.table_limits.specs.Limits as limits
 use Rattle.table_form.proofs.Loop.{some_width, At, turn, passed}

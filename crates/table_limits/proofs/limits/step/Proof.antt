@@ -3,7 +3,7 @@ use mathlib.Core.Path.{◌∙◌}
 use mathlib.Core.List.{[], ◌∷◌}
 use borrow.Author.Rules.{rules}
 use Rattle.model.specs.Definitions.TableChecks.{limit_step, one_type_more}
-use Rattle.model.specs.Theorems.Arms.{in_arm}
+use Rattle.model.proofs.Theorems.Arms.{in_arm}
 use Rattle.table_limits.specs.Limits.{counts, one_member_more}
 use Rattle.table_form.specs.Read.{command}
 use Rattle.table_form.specs.contracts.command.TableCommand.{enum}

@@ -4,7 +4,7 @@ use mathlib.Core.List.{[], ◌∷◌}
 use borrow.Author.Rules.{rules}
 use Rattle.model.specs.Definitions.Basics.{goes, goes_if}
 use Rattle.model.specs.Definitions.TableChecks.{names_type}
-use Rattle.model.specs.Theorems.Arms.{in_arm}
+use Rattle.model.proofs.Theorems.Arms.{in_arm}
 use Rattle.table_form.specs.Read.{command}
 use Rattle.table_form.specs.contracts.command.TableCommand.{enum}
 use Rattle.table_operands.proofs.operands.named.Statement.{statement}

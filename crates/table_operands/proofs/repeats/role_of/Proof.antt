@@ -3,7 +3,7 @@ use mathlib.Core.List.{[], ◌∷◌}
 use borrow.Author.Rules.{rules}
 use Rattle.model.specs.Definitions.Basics.{goes}
 use Rattle.model.specs.Definitions.TableChecks.{elsewhere, among, repeat_step}
-use Rattle.model.specs.Theorems.Arms.{in_arm}
+use Rattle.model.proofs.Theorems.Arms.{in_arm}
 use Rattle.table_form.specs.Read.{command}
 use Rattle.table_form.specs.contracts.command.TableCommand.{enum}
 use Rattle.table_operands.proofs.repeats.role_of.Statement.{statement}

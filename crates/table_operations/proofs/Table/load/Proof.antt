@@ -1,7 +1,7 @@
 -- `load` meets its contract: an accepted document's table is valid.
 use Prim.Native.Nat.{ℕ}
 use lib.ListN.{length-replicate}
-use Rattle.model.specs.Theorems.ValidTables.{accepted_table_valid}
+use Rattle.model.proofs.Theorems.ValidTables.{accepted_table_valid}
 use Rattle.table_operations.proofs.Table.load.Statement.{statement}
 use Rattle.table_operations.proofs.Table.load.Tie as tie
 
