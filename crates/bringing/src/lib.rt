@@ -14,7 +14,7 @@ ghost use Rattle.model.specs.Definitions.Refusals.{max_length};
 use answers::Brought;
 use codes::MAX_BYTES;
 use comparing::is_image;
-use inverse::{Read, read_back_lem};
+use inverse::{Read, read_back};
 use loaded_embedding::MAP;
 use loaded_table::TABLE;
 use scanning::spans::{SHORT, fill_spans};
@@ -68,7 +68,7 @@ fn bring_through<'a>(
     ensures { Brings (setting_in from.now to.now map.now em.now) tr.now out.old out.new result }
 {
     fill_spans(tr, spans);
-    let read = read_back_lem(from, to, map, em, tr, &spans[..], buffer);
+    let read = read_back(from, to, map, em, tr, &spans[..], buffer);
     match read {
         Read::Nothing => Brought::NoImage,
         Read::To(n) => give(from, to, map, em, &buffer[..n], tr, spans, out),

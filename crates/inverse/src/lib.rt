@@ -163,7 +163,7 @@ fn read_element<'a>(
 
 // Reads a whole target document: writes the source document that is read from it at the start of `out`. The document has
 // fewer levels than bytes.
-pub fn read_back_lem<'a>(
+pub fn read_back<'a>(
     source: &[u16; TABLE],
     target: &[u16; TABLE],
     map: &[u16; MAP],

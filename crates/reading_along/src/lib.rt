@@ -17,7 +17,7 @@ ghost use Rattle.reading_along.specs.Along.{SourceIn, Counted, Reads};
 use answers::Reading;
 use children::Image;
 use codes::MAX_BYTES;
-use inverse::{Read, read_back_lem};
+use inverse::{Read, read_back};
 use loaded_embedding::MAP;
 use loaded_table::TABLE;
 use path_counts::count_path_elements;
@@ -72,7 +72,7 @@ fn read_source<'a>(
     ensures { SourceIn result (setting_in from.now to.now map.now em.now) tr.now buffer.new }
 {
     fill_spans(tr, spans);
-    let read = read_back_lem(from, to, map, em, tr, &spans[..], buffer);
+    let read = read_back(from, to, map, em, tr, &spans[..], buffer);
     match read {
         Read::To(n) => Source::To(n),
         Read::Nothing => Source::Missing(lost_at(from, to, map, em, tr, &spans[..])),

@@ -143,14 +143,14 @@ pub fn opening(table: &[u16; TABLE], m: usize, h: usize, x: usize) -> usize
             if h != 0 {
                 return 0;
             }
-            if member_of_lem(table, m, x) { 1 } else { 0 }
+            if member_of(table, m, x) { 1 } else { 0 }
         }
         _ => if x == member(table, m, 0) { 1 } else { 0 },
     }
 }
 
 // Whether x is among the members of type m. The loop passes members that are not x.
-fn member_of_lem(table: &[u16; TABLE], m: usize, x: usize) -> bool
+fn member_of(table: &[u16; TABLE], m: usize, x: usize) -> bool
     requires { TypeReadable table.now m }
     ensures { result ≡ member_of x (take (get_or (counts_of table.now) m 0) (drop (m * max_members) (members_in table.now))) }
 {

@@ -1,10 +1,10 @@
--- `read_back_lem` meets its contract: the root element is read, and the byte that ends the document written after it.
+-- `read_back` meets its contract: the root element is read, and the byte that ends the document written after it.
 use native.Mathlib.Omega.{arith}
 use borrow.Author.Rules.{rules}
 use Rattle.inverse.specs.Sources.{root_there, root_image}
 use Rattle.inverse.proofs.Whole.{whole-refused, whole_room, whole-no-end, whole-written}
-use Rattle.inverse.proofs.read_back_lem.Statement.{statement}
-use Rattle.inverse.proofs.read_back_lem.Tie as tie
+use Rattle.inverse.proofs.read_back.Statement.{statement}
+use Rattle.inverse.proofs.read_back.Tie as tie
 
 read-element-requires : tie.Need-read-element-requires
 read-element-requires c κs =

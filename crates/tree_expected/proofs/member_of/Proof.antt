@@ -1,4 +1,4 @@
--- `tree_expected::member_of_lem` meets its contract. The invariant: the members that are left give the answer. The measure is
+-- `tree_expected::member_of` meets its contract. The invariant: the members that are left give the answer. The measure is
 -- their number. Assumes nothing.
 use mathlib.Core.Path.{sym, ◌∙◌}
 use Prim.Native.Nat.{◌*◌, ◌-◌, ◌<◌}
@@ -7,8 +7,8 @@ use borrow.Author.Rules.{rules}
 use lib.ListN.{get_or}
 use Rattle.loaded_table.specs.Loaded.{counts_of, members_in}
 use Rattle.tree_expected.proofs.Rests.{Searching, searching_start, searching_found, searching_on, searching_end, members_within}
-use Rattle.tree_expected.proofs.member_of_lem.Statement.{statement}
-use Rattle.tree_expected.proofs.member_of_lem.Tie as tie
+use Rattle.tree_expected.proofs.member_of.Statement.{statement}
+use Rattle.tree_expected.proofs.member_of.Tie as tie
 
 abbrev invariant-loop : tie.invariant-loop
 invariant-loop table m x many i₀ i = Searching x (m * 16) (get_or (counts_of table) m 0) (members_in table) i

@@ -1,0 +1,13 @@
+-- `find` meets its contract: what was subtracted and what is left are the number.
+use mathlib.Core.Path.{◌≡◌}
+use Prim.Native.Nat.{◌+◌, ◌*◌}
+use native.Mathlib.Nat.{zero-mul}
+use native.Mathlib.Omega.{arith}
+use Rattle.decimal.proofs.Finding.{subtracted, fewer_than_ten}
+use Rattle.decimal.proofs.find.Given as goal
+
+abbrev pub invariant-loop-left : goal.invariant-loop-left
+invariant-loop-left l = l.digit * l.unit + l.left ≡ l.n
+
+abbrev pub decreases-loop-left : goal.decreases-loop-left
+decreases-loop-left l = l.left

@@ -1,0 +1,124 @@
+use mathlib.Core.Path.{◌≡◌, refl, sym, ◌∙◌}
+use Prim.Native.Nat.{ℕ, ◌-◌, ◌≤◌, ◌<◌}
+use native.Mathlib.Omega.{arith}
+use borrow.Author.Rules.{rules}
+use Rattle.loaded_table.specs.Loaded.{table_by}
+use Rattle.model.specs.Definitions.Basics.{first_found}
+use Rattle.model.specs.Definitions.Table.{kind_of, edges_of}
+use Rattle.model.specs.Definitions.Explanation.{pair_clash, clash_before}
+use Rattle.embedding_clash.specs.Ready.{map_of}
+use Rattle.embedding_clash.proofs.Arrays.{TypeAt, EdgeAt, type_at, edge_at}
+use Rattle.embedding_clash.proofs.Searching.{search_starts, search_passes, search_finds, search_ends}
+use Rattle.embedding_clash.proofs.ClashLaws.{PairCompared, pair_compared, pair_free, pair_found}
+use Rattle.embedding_clash.proofs.clash.first_clash.Goals as goal
+
+-- what is known of the source type, and of each of its edges
+type_here : (c : goal.Start) → TypeAt c.args.source.now c.args.target.now c.args.em.now c.args.map.now c.args.s
+type_here c = type_at c.requires.ready _ c.requires.type_exists
+
+edge_here : (c : goal.Start) (j : ℕ) → j < edges_of (kind_of (table_by c.args.source.now) c.args.s)
+    → EdgeAt c.args.source.now c.args.target.now c.args.em.now c.args.map.now c.args.s j
+edge_here c j h = edge_at c.requires.ready _ j c.requires.type_exists h
+
+few_before : (c : goal.Start) → c.args.i < 16
+few_before c = omega (arith, c.requires.edge_exists, (type_here c).at_most)
+
+-- the edge at hand is one of the type's
+inside : (c : goal.In-loop-j) → c.loop-j.j < edges_of (kind_of (table_by c.args.source.now) c.args.s)
+inside c = omega (arith, c.requires.edge_exists, c.loop-j-test.true)
+
+-- what was found of the two paths is what the model says of the two edges
+compared : (c : goal.After-why) → PairCompared c.requires.ready _ _ c.loop-j.j c.requires.type_exists c.requires.edge_exists (inside c) c.compare-parting.result c.why.result
+compared c =
+    pair_compared c.requires.ready _ _ _ c.requires.type_exists c.requires.edge_exists (inside c) c.kind-kind.ensures.0 c.target-from.ensures.0
+    c.steps-la.ensures.0 (c.requires.stored.path_at_lem _ (inside c)) c.steps-lb.ensures.0 (c.requires.stored.path_at_lem _ c.requires.edge_exists) c.compare-parting.ensures c.why.ensures
+
+-- the turn in which a clash is found
+abbrev foundIn : goal.In-Clashing → goal.In-loop-j
+foundIn c = c
+
+pub kind-kind-requires : goal.kind-kind-requires
+unfolding clash_before
+kind-kind-requires c = (type_here (goal.at.kind-kind-requires c).Start).few
+
+pub target-from-requires : goal.target-from-requires
+unfolding clash_before
+target-from-requires c = (type_here (goal.at.target-from-requires c).Start).few
+
+pub offset_bounds-paths-i : goal.offset_bounds-paths-i
+unfolding clash_before
+offset_bounds-paths-i c = omega (arith, few_before (goal.at.offset_bounds-paths-i c).Start)
+
+pub bounds-paths-i : goal.bounds-paths-i
+unfolding clash_before
+bounds-paths-i c = few_before (goal.at.bounds-paths-i c).Start
+
+pub overflow_mul-s : goal.overflow_mul-s
+unfolding clash_before
+overflow_mul-s c = omega (arith, (type_here (goal.at.overflow_mul-s c).Start).few)
+
+pub overflow_add-s : goal.overflow_add-s
+unfolding clash_before
+overflow_add-s c = omega (arith, (edge_here (goal.at.overflow_add-s c).Start _ c.requires.edge_exists).inside)
+
+pub steps-lb-requires : goal.steps-lb-requires
+unfolding clash_before
+steps-lb-requires c = (edge_here (goal.at.steps-lb-requires c).Start _ c.requires.edge_exists).inside
+
+pub loop-j-init : goal.loop-j-init
+unfolding clash_before
+loop-j-init c = (omega arith, search_starts _ refl)
+
+pub offset_bounds-paths-j : goal.offset_bounds-paths-j
+unfolding clash_before
+offset_bounds-paths-j c = omega (arith, inside c, (type_here (goal.at.offset_bounds-paths-j c).Start).at_most)
+
+pub bounds-paths-j : goal.bounds-paths-j
+unfolding clash_before
+bounds-paths-j c = omega (arith, inside c, (type_here (goal.at.bounds-paths-j c).Start).at_most)
+
+pub overflow_mul-s-in-loop-j : goal.overflow_mul-s-in-loop-j
+unfolding clash_before
+overflow_mul-s-in-loop-j c = omega (arith, (type_here (goal.at.overflow_mul-s-in-loop-j c).Start).few)
+
+pub overflow_add-s-in-loop-j : goal.overflow_add-s-in-loop-j
+unfolding clash_before
+overflow_add-s-in-loop-j c = omega (arith, (edge_here (goal.at.overflow_add-s-in-loop-j c).Start _ (inside (goal.at.overflow_add-s-in-loop-j c).In-loop-j)).inside)
+
+pub steps-la-requires : goal.steps-la-requires
+unfolding clash_before
+steps-la-requires c = (edge_here (goal.at.steps-la-requires c).Start _ (inside (goal.at.steps-la-requires c).In-loop-j)).inside
+
+pub compare-parting-requires : goal.compare-parting-requires
+compare-parting-requires c = record { walkable = rw (c.steps-la.ensures.0, c.requires.stored.path_at_lem _ (inside (goal.at.compare-parting-requires c).In-loop-j), c.target-from.ensures.0) (edge_here (goal.at.compare-parting-requires c).Start _ (inside (goal.at.compare-parting-requires c).In-loop-j)).walkable; lb_le_max_steps = (rw c.steps-lb.ensures.0 (edge_here (goal.at.compare-parting-requires c).Start _ c.requires.edge_exists).short, ) }
+
+pub why-requires : goal.why-requires
+unfolding clash_before
+why-requires c = tt
+
+pub overflow_add-j : goal.overflow_add-j
+unfolding clash_before
+overflow_add-j c = omega (arith, few_before (goal.at.overflow_add-j c).Start)
+
+pub loop-j-smaller : goal.loop-j-smaller
+unfolding clash_before
+loop-j-smaller c = omega arith
+
+pub loop-j-preserved : goal.loop-j-preserved
+loop-j-preserved c =
+    (omega arith, search_passes _ _ _ c.loop-j-test.taken (pair_free c.requires.ready _ _ _ c.requires.type_exists c.requires.edge_exists (inside (goal.at.loop-j-preserved c).In-loop-j) (compared (goal.at.loop-j-preserved c).After-why) c.in-Free.is) ∙ c.loop-j.invariant.1)
+
+pub clash_at-requires : goal.clash_at-requires
+clash_at-requires c =
+    let start = start_of (foundIn c) in
+    ((edge_here start _ start.pre.edge_exists).inside, omega (arith, inside (foundIn c), (type_here start).at_most))
+
+pub returns-in-Clashing : goal.returns-in-Clashing
+returns-in-Clashing c =
+    let turn = foundIn (goal.at.returns-in-Clashing c).In-Clashing in
+    let pre = turn.pre in
+    sym (search_finds _ _ _ turn.loop-test.taken (pair_found pre.ready _ _ _ pre.type_exists pre.edge_exists (inside turn) c.clash_at.result (compared (goal.at.returns-in-Clashing c).After-why) c.in-Clashing.is c.clash_at.ensures)) ∙ turn.before.loop.inv.1
+
+pub returns : goal.returns
+unfolding clash_before
+returns c = sym (search_ends _ _ _ c.loop-j-test.false) ∙ c.loop-j.invariant.1

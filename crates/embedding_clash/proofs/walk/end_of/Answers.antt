@@ -1,0 +1,38 @@
+use mathlib.Core.Path.{refl}
+use Prim.Native.Nat.{◌+◌, ◌-◌, ◌≤◌}
+use native.Mathlib.Omega.{arith}
+use mathlib.Core.List.{◌∷◌}
+use lib.ListN.{length, get_or, take, drop}
+use Rattle.loaded_table.specs.Loaded.{table_by}
+use Rattle.embedding_clash.proofs.Following.{OnTheWay, way_on, way_ends, goes_on, rest_cons, rest_none}
+use Rattle.embedding_clash.proofs.walk.end_of.Goals as goal
+
+-- the step at hand, and what is left behind it
+at_step : (c : goal.In-loop-i)
+    → OnTheWay (table_by c.args.target.now)
+    c.args.from (take c.args.count c.args.t3) c.loop-i.t
+    (get_or c.args.t3 c.loop-i.i 0 ∷ drop (c.loop-i.i + 1) (take c.args.count c.args.t3))
+at_step c =
+    let long : c.args.count ≤ length c.args.t3 = omega arith in
+    rw (rest_cons _ _ _ c.loop-i-test.true long) at c.loop-i.invariant.1
+
+pub loop-i-init : goal.loop-i-init
+loop-i-init c = (omega arith, record { walks = c.requires.walks; ends = refl })
+
+pub bounds-path-i : goal.bounds-path-i
+bounds-path-i c = omega arith
+
+pub next_type-t-requires : goal.next_type-t-requires
+next_type-t-requires c = record { bounded = c.requires.bounded; exists = (goes_on (at_step c).walks).exists }
+
+pub overflow_add-i : goal.overflow_add-i
+overflow_add-i c = omega arith
+
+pub loop-i-smaller : goal.loop-i-smaller
+loop-i-smaller c = omega arith
+
+pub loop-i-preserved : goal.loop-i-preserved
+loop-i-preserved c = (omega arith, rw c.next_type-t.ensures (way_on (at_step (goal.at.loop-i-preserved c).In-loop-i)))
+
+pub returns : goal.returns
+returns c = way_ends c.loop-i.invariant.1 (rest_none _ _ _ c.loop-i-test.false)

@@ -1,0 +1,16 @@
+-- The loop's invariant: what is left of the path goes on from the type reached, and ends where the whole ends.
+use mathlib.Core.Path.{refl}
+use Prim.Native.Nat.{◌+◌, ◌-◌, ◌≤◌}
+use native.Mathlib.Omega.{arith}
+use mathlib.Core.List.{◌∷◌}
+use lib.ListN.{length, get_or, take, drop}
+use Rattle.loaded_table.specs.Loaded.{table_by}
+use Rattle.embedding_clash.proofs.Following.{OnTheWay, way_on, way_ends, goes_on, rest_cons, rest_none}
+use Rattle.embedding_clash.proofs.walk.end_of.Given as goal
+
+abbrev pub invariant-loop-i : goal.invariant-loop-i
+invariant-loop-i l =
+    (l.i ≤ l.count) × OnTheWay (table_by l.target) l.from (take l.count l.path) l.t (drop l.i (take l.count l.path))
+
+abbrev pub decreases-loop-i : goal.decreases-loop-i
+decreases-loop-i l = l.count - l.i

@@ -1,0 +1,17 @@
+-- The loop's invariant: what was collected, with what the rest of the path leaves, is what the whole path leaves.
+use mathlib.Core.Path.{refl}
+use mathlib.Core.List.{◌∷◌}
+use Prim.Native.Nat.{◌+◌, ◌-◌, ◌≤◌}
+use native.Mathlib.Omega.{arith}
+use lib.ListN.{length, get_or, take, drop}
+use Rattle.loaded_table.specs.Loaded.{table_by}
+use Rattle.embedding_clash.proofs.Following.{StepAt, step_at, goes_on, rest_cons, rest_none}
+use Rattle.embedding_ends.proofs.StepLaws.{Leaving, leaving_in, leaving_ends}
+use Rattle.embedding_ends.proofs.steps.kinds_left.Given as goal
+
+abbrev pub invariant-loop-i : goal.invariant-loop-i
+invariant-loop-i l =
+    (l.i ≤ l.count) × Leaving (table_by l.target) l.from (take l.count l.path) l.t (drop l.i (take l.count l.path)) l.left
+
+abbrev pub decreases-loop-i : goal.decreases-loop-i
+decreases-loop-i l = l.count - l.i

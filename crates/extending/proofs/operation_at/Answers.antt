@@ -1,0 +1,34 @@
+-- `operation_at` meets its contract: the first byte and the number of those behind it tell which operation stands there.
+use mathlib.Core.Logic.{⊎_elim}
+use native.Mathlib.Omega.{arith}
+use borrow.Author.Rules.{rules}
+use borrow.Author.Tests.{ltb-true}
+use Rattle.extending.proofs.Reading.{type_read, long_type_read, member_read, none_read}
+use Rattle.extending.proofs.operation_at.Goals as goal
+
+pub bounds-ops-at-then-left-gt1 : goal.bounds-ops-at-then-left-gt1
+bounds-ops-at-then-left-gt1 c = omega (arith, ltb-true)
+
+pub returns-then-n-left : goal.returns-then-n-left
+returns-then-n-left c = type_read _ _ _ c.if-b-eq-APPEND_TYPE.true c.if-left-gt1.true c.wide-n.ensures.0 c.if-n-left.true
+
+pub returns-then-left-gt1 : goal.returns-then-left-gt1
+returns-then-left-gt1 c =
+    let args = c.args in
+    long_type_read args.ops.now args.at _ c.if-b-eq-APPEND_TYPE.true c.if-left-gt1.true c.wide-n.ensures.0 c.if-n-left.false
+
+pub bounds-ops-at-then-left-gt2 : goal.bounds-ops-at-then-left-gt2
+bounds-ops-at-then-left-gt2 c = omega (arith, ltb-true)
+
+pub bounds-ops-at-then-left-gt2-2 : goal.bounds-ops-at-then-left-gt2-2
+bounds-ops-at-then-left-gt2-2 c = omega (arith, ltb-true)
+
+pub returns-then-left-gt2 : goal.returns-then-left-gt2
+returns-then-left-gt2 c =
+    member_read _ _ _ _ c.if-b-eq-APPEND_MEMBER.true c.if-left-gt2.true c.wide.ensures.0 c.wide-then-left-gt2.ensures.0
+
+pub returns : goal.returns
+returns c =
+    none_read _ _ c.requires
+    (λ e. ⊎_elim (λ w. w.1.left) (λ w. absurd (w.left e)) c.else-b-eq-APPEND_TYPE.branch)
+    (λ e. ⊎_elim (λ w. w.1.left) (λ w. absurd (w.left e)) c.else-b-eq-APPEND_MEMBER.branch)

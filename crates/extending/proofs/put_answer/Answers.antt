@@ -1,0 +1,17 @@
+-- `put_answer` meets its contract: both numbers are bytes, and its two stores are the run of stores of the two.
+use borrow.Author.Rules.{rules}
+use Rattle.extending.proofs.Reporting.{TwoBytes, two_bytes, answer-written}
+use Rattle.extending.proofs.put_answer.Goals as goal
+
+-- the answer's two bytes
+two : (c : goal.After-extended-a) → TwoBytes c.args.e c.extended-a.result.refusal c.extended-a.result.value
+two c = two_bytes _ _ c.requires.1 c.extended-a.ensures
+
+pub overflow_cast-answers : goal.overflow_cast-answers
+overflow_cast-answers c = search (rules, (two (goal.at.overflow_cast-answers c).After-extended-a).low_refusal)
+
+pub overflow_cast-answers-2 : goal.overflow_cast-answers-2
+overflow_cast-answers-2 c = search (rules, (two (goal.at.overflow_cast-answers-2 c).After-extended-a).low_value)
+
+pub returns : goal.returns
+returns c = answer-written _ _ _ _ _ (two (goal.at.returns c).After-extended-a)

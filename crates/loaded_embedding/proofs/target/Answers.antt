@@ -1,0 +1,8 @@
+-- `target` meets its contract: a number of a section is a number of the array.
+use mathlib.Core.Path.{sym, ◌∙◌}
+use borrow.Author.Rules.{rules}
+use Rattle.loaded_table.specs.Loaded.{in_section}
+use Rattle.loaded_embedding.proofs.target.Goals as goal
+
+pub returns : goal.returns
+returns c = (c.number.ensures.0 ∙ sym (in_section 0 64 c.args.map.now c.args.s c.requires), c.number.ensures.1)

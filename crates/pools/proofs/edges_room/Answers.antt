@@ -1,0 +1,46 @@
+use mathlib.Core.Path.{◌≡◌, refl}
+use mathlib.Core.List.{List}
+use Prim.Native.Nat.{ℕ, suc, ◌+◌, ◌-◌, ◌*◌}
+use native.Mathlib.Omega.{arith}
+use lib.ListN.{get_or}
+use Rattle.loaded_embedding.specs.Loaded.{lengths_of}
+use Rattle.pools.specs.Room.{edge_room}
+use Rattle.pools.proofs.Adding.{Added, added_none, added_more, added_all}
+use Rattle.pools.proofs.edges_room.Goals as goal
+
+-- one edge more
+step-more : (map : List ℕ) (i : ℕ) {steps : ℕ} → steps ≡ get_or (lengths_of map) i 0 → (k : ℕ) → edge_room map i (suc k) ≡ 18 * steps + 4 + edge_room map (suc i) k
+unfolding edge_room
+step-more map i e k = rw e refl
+
+no_room : (map : List ℕ) (i : ℕ) → edge_room map i 0 ≡ 0
+unfolding edge_room
+no_room map i = refl
+
+pub loop-i-init : goal.loop-i-init
+loop-i-init c = added_none _ _
+
+pub steps-requires : goal.steps-requires
+steps-requires c = omega (arith, c.loop-i-test.true, c.requires)
+
+pub overflow_mul-total : goal.overflow_mul-total
+overflow_mul-total c = omega (arith, c.steps.ensures.1)
+
+pub overflow_add-total : goal.overflow_add-total
+overflow_add-total c = omega (arith, c.steps.ensures.1)
+
+pub overflow_add-total-in-loop-i : goal.overflow_add-total-in-loop-i
+overflow_add-total-in-loop-i c = omega (arith, c.steps.ensures.1, c.loop-i.invariant.small, c.loop-i-test.true, c.requires)
+
+pub overflow_add-i : goal.overflow_add-i
+overflow_add-i c = omega (arith, c.loop-i-test.true, c.requires)
+
+pub loop-i-smaller : goal.loop-i-smaller
+loop-i-smaller c = omega (arith, c.loop-i-test.true)
+
+pub loop-i-preserved : goal.loop-i-preserved
+loop-i-preserved c =
+    added_more c.loop-i.invariant c.loop-i-test.true (omega (arith, c.steps.ensures.1)) (step-more c.args.map.now c.loop-i.i c.steps.ensures.0)
+
+pub returns : goal.returns
+returns c = added_all c.loop-i.invariant c.loop-i-test.false (no_room _)

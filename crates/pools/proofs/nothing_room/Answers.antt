@@ -1,0 +1,38 @@
+use mathlib.Core.Path.{◌≡◌, refl}
+use mathlib.Core.List.{List}
+use Prim.Native.Nat.{ℕ, suc, ◌+◌, ◌-◌}
+use native.Mathlib.Omega.{arith}
+use Rattle.pools.specs.Room.{nothing_of, nothing_room}
+use Rattle.pools.proofs.Adding.{Added, added_none, added_more, added_all}
+use Rattle.pools.proofs.nothing_room.Goals as goal
+
+-- one type more
+step-more : (source map : List ℕ) (s : ℕ) {one : ℕ} → one ≡ nothing_of source map s → (k : ℕ) → nothing_room source map s (suc k) ≡ one + nothing_room source map (suc s) k
+unfolding nothing_room
+step-more source map s e k = rw e refl
+
+no_room : (source map : List ℕ) (s : ℕ) → nothing_room source map s 0 ≡ 0
+unfolding nothing_room
+no_room source map s = refl
+
+pub loop-s-init : goal.loop-s-init
+loop-s-init c = added_none _ _
+
+pub nothing_of-total-requires : goal.nothing_of-total-requires
+nothing_of-total-requires c = omega (arith, c.loop-s-test.true, c.requires)
+
+pub overflow_add-total : goal.overflow_add-total
+overflow_add-total c = omega (arith, c.nothing_of-total.ensures.1, c.loop-s.invariant.small, c.loop-s-test.true, c.requires)
+
+pub overflow_add-s : goal.overflow_add-s
+overflow_add-s c = omega (arith, c.loop-s-test.true, c.requires)
+
+pub loop-s-smaller : goal.loop-s-smaller
+loop-s-smaller c = omega (arith, c.loop-s-test.true)
+
+pub loop-s-preserved : goal.loop-s-preserved
+loop-s-preserved c =
+    added_more c.loop-s.invariant c.loop-s-test.true c.nothing_of-total.ensures.1 (step-more c.args.source.now c.args.map.now c.loop-s.s c.nothing_of-total.ensures.0)
+
+pub returns : goal.returns
+returns c = added_all c.loop-s.invariant c.loop-s-test.false (no_room _ _)

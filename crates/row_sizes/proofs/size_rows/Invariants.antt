@@ -1,0 +1,16 @@
+-- `size_rows` meets its contract: the rows of the types before a type are sized.
+use mathlib.Core.Path.{◌≡◌, refl, ◌∙◌}
+use Prim.Native.Nat.{ℕ, ◌-◌, ◌<◌}
+use native.Mathlib.Omega.{arith}
+use borrow.Author.Rules.{rules}
+use lib.ListN.{length}
+use Rattle.row_sizes.specs.Sizing.{TypeSized}
+use Rattle.row_sizes.specs.Sizes.{sized_all}
+use Rattle.row_sizes.proofs.Storing.{type_kept, below_more}
+use Rattle.row_sizes.proofs.size_rows.Given as goal
+
+abbrev pub invariant-loop-s : goal.invariant-loop-s
+invariant-loop-s l = (length l.sizes ≡ length l.initial.sizes) × ((i : ℕ) → i < l.s → TypeSized l.source l.target l.pool l.places l.sizes i)
+
+abbrev pub decreases-loop-s : goal.decreases-loop-s
+decreases-loop-s l = l.types - l.s

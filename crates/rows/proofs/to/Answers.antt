@@ -1,0 +1,6 @@
+-- `to` meets its contract: the second number of the row.
+use borrow.Author.Rules.{rules}
+use Rattle.rows.proofs.to.Goals as goal
+
+pub returns : goal.returns
+returns c = c.wide.ensures

@@ -1,0 +1,18 @@
+-- `least_member` meets its contract: the least member of those passed and of those left is the least of all.
+use mathlib.Core.Path.{◌≡◌, sym, ap, ◌∙◌}
+use mathlib.Core.Logic.{⊎_elim}
+use mathlib.Core.List.{◌∷◌}
+use Prim.Native.Nat.{◌-◌, ◌≤◌, ◌<◌}
+use native.Mathlib.Omega.{arith}
+use lib.ListN.{drop, get_or}
+use Rattle.loaded_table.specs.Loaded.{heights_of}
+use Rattle.model.specs.Definitions.Heights.{height_in, least_member}
+use Rattle.table_heights.specs.Sections.{members_at, members_long, member_is}
+use Rattle.table_heights.proofs.Members.{lesser, lesser_second, lesser_first, least_start, least_none, least_turn, least_end}
+use Rattle.table_heights.proofs.least_member.Given as goal
+
+abbrev pub invariant-loop-i : goal.invariant-loop-i
+invariant-loop-i l = (l.i ≤ l.many) × (least_member (heights_of l.table) (l.best ∷ drop l.i (members_at l.table l.t)) ≡ least_member (heights_of l.table) (members_at l.table l.t))
+
+abbrev pub decreases-loop-i : goal.decreases-loop-i
+decreases-loop-i l = l.many - l.i

@@ -1,0 +1,16 @@
+-- `settle_heights` meets its contract: after n rounds the heights of at most n are right, and no number is below its height.
+use mathlib.Core.Path.{subst}
+use Prim.Native.Nat.{◌-◌, ◌≤◌}
+use native.Mathlib.Omega.{arith}
+use lib.ListN.{length}
+use Rattle.loaded_table.specs.Loaded.{heights_of, table_by, length_of_lem, section_long}
+use Rattle.table_heights.specs.Sections.{Elsewhere, elsewhere_same, elsewhere_both, table_elsewhere, bounded_elsewhere}
+use Rattle.table_heights.specs.Heights.{HoldsRound}
+use Rattle.table_heights.proofs.Rounds.{SettledTo, settled_none, settled_more, settled_last, settled_all}
+use Rattle.table_heights.proofs.settle_heights.Given as goal
+
+abbrev pub invariant-loop-n : goal.invariant-loop-n
+invariant-loop-n l = (l.n ≤ l.all) × Elsewhere 128 64 l.initial.table l.table × SettledTo (table_by l.initial.table) l.n (heights_of l.table)
+
+abbrev pub decreases-loop-n : goal.decreases-loop-n
+decreases-loop-n l = l.all - l.n

@@ -1,0 +1,56 @@
+use mathlib.Core.Path.{◌≡◌, ◌∙◌}
+use Prim.Native.Nat.{◌+◌, ◌-◌}
+use native.Mathlib.Omega.{arith}
+use lib.ListN.{length}
+use Rattle.table_form.specs.Read.{command}
+use Rattle.table_load.specs.Loading.{loaded_in}
+use Rattle.table_load.proofs.Turns.{TableLoading, TableTurn, loading_starts, loading_few, turn, turned, loading_ends}
+use Rattle.table_load.proofs.load.Goals as goal
+
+-- what a turn needs and gives
+here : (c : goal.After-command_at-c)
+    → TableTurn c.args.t.now (loaded_in c.loop-at.types c.loop-at.table) c.loop-at.at (command c.command_at-c.result)
+here c = turn _ _ _ c.loop-at-test.true c.command_at-c.ensures c.loop-at.invariant.1
+
+-- the invariant behind the command
+again : (c : goal.After-width-at)
+    → TableLoading c.args.t.now (loaded_in c.put-types.result c.put-types.new.0) (c.loop-at.at + c.width-at.result)
+again c = turned (here c) c.put-types.ensures c.width-at.ensures
+
+pub clear_counts-requires : goal.clear_counts-requires
+clear_counts-requires c = c.requires.table_len
+
+pub loop-at-init : goal.loop-at-init
+loop-at-init c =
+    let cleared = c.clear_counts.ensures in
+    (cleared.size, loading_starts _ c.requires.t_value c.requires.t_value_2 cleared)
+
+pub command_at-c-requires : goal.command_at-c-requires
+command_at-c-requires c = c.loop-at-test.true
+
+pub put-types-requires : goal.put-types-requires
+put-types-requires c = (here (goal.at.put-types-requires c).After-command_at-c).room
+
+pub width-at-requires : goal.width-at-requires
+width-at-requires c = tt
+
+pub overflow_add-at : goal.overflow_add-at
+overflow_add-at c = record { fits = omega (arith, (again c).within, c.well_formed.0) }
+
+pub loop-at-smaller : goal.loop-at-smaller
+loop-at-smaller c =
+    let turned_by = here (goal.at.loop-at-smaller c).After-command_at-c in
+    omega (arith, (again c).within, turned_by.moves, c.width-at.ensures, c.loop-at-test.true)
+
+pub loop-at-preserved : goal.loop-at-preserved
+loop-at-preserved c = (c.put-types.ensures.same_size ∙ c.loop-at.invariant.0, again c)
+
+pub overflow_cast-types : goal.overflow_cast-types
+overflow_cast-types c = record { fits = omega (arith, loading_few c.loop-at.invariant.1) }
+
+pub set_types-requires : goal.set_types-requires
+set_types-requires c = tt
+
+pub returns : goal.returns
+returns c =
+    rw c.set_types.ensures (loading_ends c.loop-at.table c.loop-at.types c.loop-at.invariant.0 c.loop-at-test.false c.loop-at.invariant.1)

@@ -1,0 +1,20 @@
+-- `tree_pass::begins` meets its contract. Assumes nothing.
+use mathlib.Core.Path.{refl}
+use borrow.Author.Rules.{rules}
+use borrow.Author.Tests.{eqb-true}
+use Rattle.model.proofs.Theorems.Tools.{true_false}
+use Rattle.tree_pass.proofs.Turns.{begun}
+use Rattle.tree_pass.proofs.begins.Goals as goal
+
+pub returns-then-t-lt2 : goal.returns-then-t-lt2
+returns-then-t-lt2 c e = true_false e refl
+
+pub returns-then-t-gt-MAX_BYTES : goal.returns-then-t-gt-MAX_BYTES
+returns-then-t-gt-MAX_BYTES c e = true_false e refl
+
+pub returns-then-t-ne-OPENS : goal.returns-then-t-ne-OPENS
+returns-then-t-ne-OPENS c e = true_false e refl
+
+pub returns : goal.returns
+returns c e =
+    begun c.if-t-lt2.false c.if-t-gt-MAX_BYTES.false c.if-t-ne-OPENS.false (eqb-true _ _ e)

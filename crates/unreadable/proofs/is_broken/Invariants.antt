@@ -1,0 +1,15 @@
+-- `is_broken` meets its contract: what is left of the children is broken exactly where all are.
+use mathlib.Core.Path.{◌≡◌, refl}
+use borrow.Author.Rules.{rules}
+use Rattle.model.specs.Definitions.Inverse.{unbroken, child_parts}
+use Rattle.loaded_setting.specs.Ready.{setting_in}
+use Rattle.children.specs.Cursors.{cursor_weight}
+use Rattle.unreadable.proofs.Going.{Going, going_start, going_shows, going_ends, going_less, going_on}
+use Rattle.unreadable.proofs.is_broken.Given as goal
+
+abbrev pub invariant-loop-m : goal.invariant-loop-m
+invariant-loop-m l =
+    Going l.source l.target l.map l.em l.image.sigma l.tr l.image.from (λ l parts. unbroken (child_parts (setting_in l.source l.target l.map l.em) l.image.sigma l) ≡ unbroken parts) l.cursor
+
+abbrev pub decreases-loop-m : goal.decreases-loop-m
+decreases-loop-m l = cursor_weight l.tr l.cursor
