@@ -1,0 +1,16 @@
+-- `tree_expected::member_of` meets its contract. The invariant: the members that are left give the answer. The measure is
+-- their number. Assumes nothing.
+use mathlib.Core.Path.{sym, ◌∙◌}
+use Prim.Native.Nat.{◌*◌, ◌-◌, ◌<◌}
+use native.Mathlib.Omega.{arith}
+use borrow.Author.Rules.{rules}
+use lib.ListN.{get_or}
+use Rattle.loaded_table.specs.Loaded.{counts_of, members_in}
+use Rattle.tree_expected.proofs.Rests.{Searching, searching_start, searching_found, searching_on, searching_end, members_within}
+use Rattle.tree_expected.proofs.member_of.Given as goal
+
+abbrev pub invariant-loop-i : goal.invariant-loop-i
+invariant-loop-i l = Searching l.x (l.m * 16) (get_or (counts_of l.table) l.m 0) (members_in l.table) l.i
+
+abbrev pub decreases-loop-i : goal.decreases-loop-i
+decreases-loop-i l = get_or (counts_of l.table) l.m 0 - l.i
