@@ -4,7 +4,6 @@
 
 #![tactic(auto)]
 
-
 ghost use Rattle.std.specs.Prelude.{◌≡◌, ◌<◌, ◌+◌, get_or, set};
 ghost use Rattle.loaded_embedding.specs.Loaded.{targets_of, starts_of, lengths_of, edge_places, lengths_start, map_size, starts_start};
 ghost use Rattle.model.specs.Definitions.TableChecks.{max_types};

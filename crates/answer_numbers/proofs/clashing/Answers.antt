@@ -10,4 +10,4 @@ reason_number-requires c = tt
 
 pub returns : goal.returns
 unfolding explanation_numbers answer_of numbers_of fault_number fault_mark document_number
-returns c = rw c.reason_number_lem.ensures refl
+returns c = rw c.reason_number.ensures refl

@@ -11,7 +11,7 @@ slice_bounds-give-end c =
     read_within_lem (rw c.in-To.is at (c.read_back-read.ensures _ c.requires.target.form))
 
 pub slice_bounds-give-end-in-To : goal.slice_bounds-give-end-in-To
-slice_bounds-give-end-in-To c = sym (length-take-le _ _ (slice-reshare-prefix-give c))
+slice_bounds-give-end-in-To c = sym (length-take-le _ _ (slice_bounds-give-end c))
 
 pub give-requires : goal.give-requires
 give-requires c =

@@ -14,7 +14,7 @@ begin_optional-requires c = record { image = c.requires; optional = sym c.kind-k
 
 pub begin_list-requires : goal.begin_list-requires
 begin_list-requires c =
-    let rest = (opened c.in_default.in_default-own.rest) in
+    let rest = c.in_default.in_default-own.rest in
     record { image = c.requires; list = omega (arith, rest.0.0.1, rest.0.1, rest.1, c.in_default.if-kind-lt2-own.false, c.kind-kind.ensures.0) }
 
 pub returns-in-2 : goal.returns-in-2

@@ -24,7 +24,7 @@ returns-in-Ends c = rw c.in-Ends.is c.ends_right.ensures
 
 pub returns-in-Steps : goal.returns-in-Steps
 unfolding edge_right
-returns-in-Steps c = rw c.in-Steps.is c.steps_right_lem.ensures
+returns-in-Steps c = rw c.in-Steps.is c.steps_right.ensures
 
 pub returns-in-Clashes : goal.returns-in-Clashes
 unfolding edge_right

@@ -14,10 +14,10 @@ use Rattle.embedding_judge.proofs.judge_paths.Goals as goal
 
 -- where check 7 has passed
 kept : (c : goal.Else-not-root_to_root) → let a = c.args in root_to_root (embedding_by a.em.now (table_by a.source.now) a.map.now) ≡ true
-kept c = sym (c.root_to_root_lem.ensures c.args.em.now (table_by c.args.source.now) c.requires.source_formed.has_root) ∙ not-false _ c.if-not-root_to_root.false
+kept c = sym (c.root_to_root.ensures c.args.em.now (table_by c.args.source.now) c.requires.source_formed.has_root) ∙ not-false _ c.if-not-root_to_root.false
 
 pub returns-then-not-root_to_root : goal.returns-then-not-root_to_root
-returns-then-not-root_to_root c = root_moved _ _ _ (sym (c.root_to_root_lem.ensures c.args.em.now (table_by c.args.source.now) c.requires.source_formed.has_root) ∙ not-true _ c.if-not-root_to_root.true)
+returns-then-not-root_to_root c = root_moved _ _ _ (sym (c.root_to_root.ensures c.args.em.now (table_by c.args.source.now) c.requires.source_formed.has_root) ∙ not-true _ c.if-not-root_to_root.true)
 
 -- all pass at once
 pub returns-in-Passes : goal.returns-in-Passes

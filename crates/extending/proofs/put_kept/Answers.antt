@@ -6,17 +6,17 @@ use Rattle.loaded_table.specs.Loaded.{types_in, table_by}
 use Rattle.extending.proofs.Reporting.{Keeping, KeptWith, kept_with, none_kept, one_more_kept, all_kept}
 use Rattle.extending.proofs.put_kept.Goals as goal
 
+room : (turn : goal.In-loop-t) → turn.loop-t.at + 3 ≤ length turn.loop-t.out
+room turn =
+    let k = turn.loop-t.invariant in
+    omega (arith, exists turn, k.place, k.long, turn.requires.1)
+
 -- in a turn there is a type, and room for three bytes more
 exists : (turn : goal.In-loop-t) → turn.loop-t.t < types_in turn.args.numbers.now
 exists turn = omega (arith, turn.loop-t-test.true, turn.types-all.ensures.0)
 
 below : (turn : goal.In-loop-t) → turn.loop-t.t < 64
 below turn = omega (arith, exists turn, turn.requires.0.stands.bounded.few_types)
-
-room : (turn : goal.In-loop-t) → turn.loop-t.at + 3 ≤ length turn.loop-t.out
-room turn =
-    let k = turn.loop-t.invariant in
-    omega (arith, exists turn, k.place, k.long, turn.requires.1)
 
 -- what was read is what is kept with the type
 with-type : (c : goal.After-height) → KeptWith (table_by c.args.numbers.now) c.loop-t.t c.height.result c.fill-length.result

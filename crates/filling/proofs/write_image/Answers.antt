@@ -69,10 +69,10 @@ put_end-requires c =
     let closed = c.put_close-closed.ensures in
     omega (arith, inner_room f c.put_open-opened.ensures inner, closed.after, writes-length closed)
 
-pub shape_of-out : goal.shape_of-out
-shape_of-out c = writes-length (returns c _ c.requires.task.asked)
-
 pub returns : goal.returns
 returns c bs a =
     let inner = c.run-held.ensures _ (image_row a c.row_of-row.ensures) in
     rw (image_bytes a) (writes_then c.put_open-opened.ensures (writes_then (writes_then inner c.put_close-closed.ensures) c.put_end.ensures))
+
+pub shape_of-out : goal.shape_of-out
+shape_of-out c = writes-length (returns c _ c.requires.task.asked)

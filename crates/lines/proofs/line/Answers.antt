@@ -18,11 +18,11 @@ bounds-out-next c =
     room_for_end args.word.now args.values.now _ _ _ c.copy-behind.ensures c.requires _ _ c.put_numbers-next.ensures
 
 pub overflow_add-n : goal.overflow_add-n
-overflow_add-n c = search (rules, slice-write-out c)
+overflow_add-n c = search (rules, bounds-out-next c)
 
 pub slice_bounds-result-end : goal.slice_bounds-result-end
 slice_bounds-result-end c =
-    sym (length-take-le _ _ (omega (arith, slice-write-out c, length-set c.put_numbers-next.new.0 c.put_numbers-next.result 0x0A)))
+    sym (length-take-le _ _ (omega (arith, bounds-out-next c, length-set c.put_numbers-next.new.0 c.put_numbers-next.result 0x0A)))
 
 pub returns : goal.returns
 returns c =

@@ -16,7 +16,7 @@ kind-requires c = is_small c.loop-d.invariant.walk c.loop-d-test.true refl
 pub returns-then-is_choice : goal.returns-then-is_choice
 returns-then-is_choice c =
     chooses-here c.loop-d.invariant c.loop-d-test.true refl
-    (sym (ap choice_code c.kind.ensures.0) ∙ sym c.is_choice_lem.ensures ∙ c.if-is_choice.true)
+    (sym (ap choice_code c.kind.ensures.0) ∙ sym c.is_choice.ensures ∙ c.if-is_choice.true)
 
 pub step-p-requires : goal.step-p-requires
 step-p-requires c = place_within c.loop-d.invariant.walk c.loop-d-test.true
@@ -40,7 +40,7 @@ loop-d-smaller c = omega (arith, c.loop-d-test.true)
 pub loop-d-preserved : goal.loop-d-preserved
 loop-d-preserved c =
     chooses-on c.loop-d.invariant c.loop-d-test.true c.step-p.ensures.0
-    (sym (ap choice_code c.kind.ensures.0) ∙ sym c.is_choice_lem.ensures ∙ c.if-is_choice.false)
+    (sym (ap choice_code c.kind.ensures.0) ∙ sym c.is_choice.ensures ∙ c.if-is_choice.false)
     c.member-here.ensures.0
 
 pub returns : goal.returns

@@ -25,7 +25,7 @@ kind-requires c = is_small c.loop-d.invariant.walk c.loop-d-test.true c.step-p.e
 
 pub returns-then-kind-ge-LIST : goal.returns-then-kind-ge-LIST
 returns-then-kind-ge-LIST c =
-    divides-list c.loop-d.invariant c.loop-d-test.true c.step-p.ensures.0 c.member-next.ensures.0 (rw c.kind.ensures.0 c c.if-kind-ge-LIST.true)
+    divides-list c.loop-d.invariant c.loop-d-test.true c.step-p.ensures.0 c.member-next.ensures.0 (rw c.kind.ensures.0 at c.if-kind-ge-LIST.true)
 
 pub overflow_add-d : goal.overflow_add-d
 overflow_add-d c = omega (arith, c.loop-d-test.true)
@@ -35,7 +35,7 @@ loop-d-smaller c = omega (arith, c.loop-d-test.true)
 
 pub loop-d-preserved : goal.loop-d-preserved
 loop-d-preserved c =
-    divides-on c.loop-d.invariant c.loop-d-test.true c.step-p.ensures.0 c.member-next.ensures.0 (rw c.kind.ensures.0 c c.if-kind-ge-LIST.false)
+    divides-on c.loop-d.invariant c.loop-d-test.true c.step-p.ensures.0 c.member-next.ensures.0 (rw c.kind.ensures.0 at c.if-kind-ge-LIST.false)
 
 pub returns : goal.returns
 returns c = divides_none c.loop-d.invariant c.loop-d-test.false

@@ -29,9 +29,6 @@ overflow_cast-filler c = omega (arith, c.row_size-size.ensures.filler)
 pub store_size-requires : goal.store_size-requires
 store_size-requires c = c.requires.1
 
-pub shape_of-sizes : goal.shape_of-sizes
-shape_of-sizes c = (returns c).0.long
-
 pub returns : goal.returns
 returns c =
     let long = c.requires.1 in
@@ -41,3 +38,6 @@ returns c =
     let size = c.row_size-size.ensures in
     let stored = c.store_size.ensures in
     sized_more long from to depth size stored
+
+pub shape_of-sizes : goal.shape_of-sizes
+shape_of-sizes c = (returns c).0.long

@@ -43,12 +43,12 @@ choice_index-requires c = record { s_lt_max_types = (omega (arith, c.requires.bo
 
 pub returns-then-is_choice : goal.returns-then-is_choice
 returns-then-is_choice c =
-    let is_choice_lem = sym (ap choice_code c.kind.ensures.0) ∙ sym c.is_choice_lem.ensures ∙ c.if-is_choice.true in
+    let is_choice_lem = sym (ap choice_code c.kind.ensures.0) ∙ sym c.is_choice.ensures ∙ c.if-is_choice.true in
     let count = c.count-count.ensures.0 in
     let place = c.choice_index.ensures.0 ∙ ap (λ (n : ℕ). member_index (first_from c.args.t) (take n (drop (c.args.s * 16) (members_in c.args.source.now)))) count in
     choice-row c.args.source.now c.args.s (first_from c.args.t) c.choice_index.result c.requires.s_bound is_choice_lem place c.choice_index.ensures.1
 
 pub returns : goal.returns
 returns c =
-    let is-other = sym (ap choice_code c.kind.ensures.0) ∙ sym c.is_choice_lem.ensures ∙ c.if-is_choice.false in
+    let is-other = sym (ap choice_code c.kind.ensures.0) ∙ sym c.is_choice.ensures ∙ c.if-is_choice.false in
     other_row c.args.source.now c.args.s (first_from c.args.t) c.requires.s_bound is-other

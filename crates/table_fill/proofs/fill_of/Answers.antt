@@ -35,7 +35,7 @@ unfolding filled fill_sum
 returns-in-3 c =
     let rows = c.args.table.now in
     rw (kind_choice rows c.args.t c.requires.1 c.kind-code.ensures.0 c.in-3.is)
-    (c.held_sum.ensures ∙ ap (λ (n : ℕ). min 60001 (3 + n)) (c.fill_at_lem.ensures ∙ ap (λ (n : ℕ). get_or (fill_of rows) n 0) c.least_member_lem.ensures ∙ sym (add-zero _)))
+    (c.held_sum.ensures ∙ ap (λ (n : ℕ). min 60001 (3 + n)) (c.fill_at.ensures ∙ ap (λ (n : ℕ). get_or (fill_of rows) n 0) c.least_member.ensures ∙ sym (add-zero _)))
 
 pub returns-in_default : goal.returns-in_default
 unfolding filled fill_sum

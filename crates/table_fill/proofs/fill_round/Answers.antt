@@ -18,16 +18,16 @@ use Rattle.table_fill.proofs.fill_round.Goals as goal
 abbrev before : goal.At-loop-t → List ℕ
 before l = l.args.table.now
 
--- a turn's type is one of the table, and has a place
-here : (i : goal.In-loop-t) → i.loop-t.t - 1 < types_in (before i)
-here i = omega (arith, i.loop-t-test.true, i.loop-t.invariant.0)
-
 low : (i : goal.In-loop-t) → i.loop-t.t - 1 < 64
 low i = omega (arith, here i, i.requires.0.few_types)
 
 place : (i : goal.In-loop-t) → i.loop-t.t - 1 < length (fill_of i.loop-t.table)
 place i =
     rw (section_long 192 64 i.loop-t.table (omega (arith, i.loop-t.invariant.1.same_size, i.requires.0.size))) (low i)
+
+-- a turn's type is one of the table, and has a place
+here : (i : goal.In-loop-t) → i.loop-t.t - 1 < types_in (before i)
+here i = omega (arith, i.loop-t-test.true, i.loop-t.invariant.0)
 
 -- the length found is the next
 next : (c : goal.After-fill_of-length)
@@ -72,7 +72,7 @@ loop-t-smaller c = omega (arith, c.loop-t-test.true)
 pub loop-t-preserved : goal.loop-t-preserved
 loop-t-preserved c =
     let v = c.fill_of-length.result in
-    let kept : set (fill_of c.loop-t.table) (c.loop-t.t - 1) v ≡ fill_of c.loop-t.table = ap (set (fill_of c.loop-t.table) (c.loop-t.t - 1)) (sym c.if-fill_at-length.false ∙ c.fill_at_lem.ensures) ∙ set-get_or (fill_of c.loop-t.table) (c.loop-t.t - 1) 0 in (
+    let kept : set (fill_of c.loop-t.table) (c.loop-t.t - 1) v ≡ fill_of c.loop-t.table = ap (set (fill_of c.loop-t.table) (c.loop-t.t - 1)) (sym c.if-fill_at-length.false ∙ c.fill_at.ensures) ∙ set-get_or (fill_of c.loop-t.table) (c.loop-t.t - 1) 0 in (
       omega (arith, here (goal.at.loop-t-preserved c).In-loop-t),
       c.loop-t.invariant.1,
       λ s. subst (λ xs. Filling (table_by (before (goal.at.loop-t-preserved c).At-loop-t)) s (fill_of (before (goal.at.loop-t-preserved c).At-loop-t)) (c.loop-t.t - 1) xs c.loop-t.changed) kept

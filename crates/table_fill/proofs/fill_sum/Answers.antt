@@ -35,8 +35,8 @@ loop-i-preserved c =
     let fill = fill_of c.args.table.now in
     let ms = members_at c.args.table.now c.args.t in
     let here : c.loop-i.i < c.count-many.result = c.loop-i-test.true in
-    let found : c.fill_at_lem.result ≡ get_or fill (get_or ms c.loop-i.i 0) 0 =
-    c.fill_at_lem.ensures ∙ ap (λ (m : ℕ). get_or fill m 0) (member_is c.args.table.now c.args.t c.loop-i.i (omega (arith, c.count-many.ensures.0)) c.member.ensures.0) in
+    let found : c.fill_at.result ≡ get_or fill (get_or ms c.loop-i.i 0) 0 =
+    c.fill_at.ensures ∙ ap (λ (m : ℕ). get_or fill m 0) (member_is c.args.table.now c.args.t c.loop-i.i (omega (arith, c.count-many.ensures.0)) c.member.ensures.0) in
     let e : c.held_sum-total.result ≡ min 60001 (c.loop-i.total + get_or fill (get_or ms c.loop-i.i 0) 0) = c.held_sum-total.ensures ∙ ap (λ (k : ℕ). min 60001 (c.loop-i.total + k)) found in
     (omega arith, omega arith, fill_turn fill ms c.loop-i.i c.loop-i.total c.held_sum-total.result _ (rw (members_long _ _ c.requires c.count-many.ensures.0) here) e c.loop-i.invariant.2)
 

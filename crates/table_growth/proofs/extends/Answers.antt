@@ -29,7 +29,7 @@ returns c =
     let rows = c.args.table.now in
     let t = c.args.t in
     let exists : t < types_in rows = omega (arith, c.if-types-t.false, c.types.ensures.0) in (
-      c.is_choice_lem.ensures
+      c.is_choice.ensures
           ∙ ap choice_code c.kind.ensures.0
           ∙ sym (ap is_choice (kind_of_lem rows t exists) ∙ choice_code_lem (get_or (kinds_of rows) t 0) (get_or (counts_of rows) t 0) (drop (t * 16) (members_in rows))),
       λ e. exists,

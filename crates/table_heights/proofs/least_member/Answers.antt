@@ -54,7 +54,7 @@ loop-i-preserved c =
     let m = get_or ms c.loop-i.i 0 in
     let here : c.loop-i.i < c.count-many.result = c.loop-i-test.true in
     let is = member_is a.table.now a.t c.loop-i.i (omega (arith, c.count-many.ensures.0)) c.member-m.ensures.0 in
-    let new = c.height_at_lem.ensures.0 ∙ ap (height_in hs) is in
+    let new = c.height_at.ensures.0 ∙ ap (height_in hs) is in
     let old = c.height_at-in-loop-i.ensures.0 in
     let e : c.if-height_at.best ≡ lesser hs c.loop-i.best m =
     ⊎_elim

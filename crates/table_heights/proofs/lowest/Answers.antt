@@ -28,4 +28,4 @@ returns c =
     let a = c.args in
     let hs = heights_of a.table.now in
     let some : 0 < length (members_at a.table.now a.t) = omega (arith, members_long _ _ c.requires c.count.ensures.0, c.if-count-eq0.false) in
-    (c.height_at_lem.ensures.0 ∙ ap (height_in hs) c.least_member_lem.ensures ∙ least_height hs (members_at a.table.now a.t) some, c.height_at_lem.ensures.1)
+    (c.height_at.ensures.0 ∙ ap (height_in hs) c.least_member.ensures ∙ least_height hs (members_at a.table.now a.t) some, c.height_at.ensures.1)

@@ -37,7 +37,7 @@ returns-in-Fails-endless c =
     let loaded = c.load.ensures in
     let found = c.find_heights.ensures in
     endless-refused _ _ loaded _ found _ _ c.types-all.ensures.0 (operands_pass (goal.at.returns-in-Fails-endless c).In_default) (repeats_pass (goal.at.returns-in-Fails-endless c).In_default-repeats)
-    (endless-by _ _ loaded _ found c.first_endless_lem.ensures (verdict_is _ refl _ c.in-Fails-endless.is refl))
+    (endless-by _ _ loaded _ found c.first_endless.ensures (verdict_is _ refl _ c.in-Fails-endless.is refl))
 
 pub find_fill-requires : goal.find_fill-requires
 find_fill-requires c =
@@ -48,4 +48,4 @@ returns c =
     let loaded = c.load.ensures in
     let found = c.find_heights.ensures in
     all-accepted _ _ loaded _ found _ c.types-all.ensures.0 (operands_pass (goal.at.returns c).In_default) (repeats_pass (goal.at.returns c).In_default-repeats)
-    (endless-by _ _ loaded _ found c.first_endless_lem.ensures (verdict_is _ refl _ c.in_default-endless.is refl)) c.find_fill.ensures
+    (endless-by _ _ loaded _ found c.first_endless.ensures (verdict_is _ refl _ c.in_default-endless.is refl)) c.find_fill.ensures

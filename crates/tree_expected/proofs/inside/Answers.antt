@@ -26,43 +26,43 @@ loop-x-init c = inside_root _ _ _ _ c.requires.passed.bounded c.requires.root (p
 pub turn_at-c-requires : goal.turn_at-c-requires
 turn_at-c-requires c = (inside_readable c.loop-x.invariant, passed_more (passed c) c.loop-x.invariant)
 
-pub offset_bounds-opened-top : goal.offset_bounds-opened-top
-offset_bounds-opened-top c = omega (arith, (loop-again c).levels.low)
-
-pub bounds-opened-top : goal.bounds-opened-top
-bounds-opened-top c = omega (arith, (loop-again c).levels.low)
-
-pub offset_bounds-had-top : goal.offset_bounds-had-top
-offset_bounds-had-top c = omega (arith, (loop-again c).levels.low)
-
-pub bounds-had-top : goal.bounds-had-top
-bounds-had-top c = omega (arith, (loop-again c).levels.low)
-
-pub overflow_add-top : goal.overflow_add-top
-overflow_add-top c = omega (arith, (loop-again c).levels.low)
-
-pub overflow_add-at : goal.overflow_add-at
-overflow_add-at c = omega (arith, (loop-again c).form.within)
-
-pub loop-x-smaller-in-Opened : goal.loop-x-smaller-in-Opened
-loop-x-smaller-in-Opened c = omega (arith, (loop-again c).form.within)
-
 -- what is kept behind each command
 pub loop-x-preserved-in-Opened : goal.loop-x-preserved-in-Opened
 loop-x-preserved-in-Opened c =
     let o = does (goal.at.loop-x-preserved-in-Opened c).After-turn_at-c c.in-Opened.is in
     inside_opens c.loop-x.invariant o (passed-room (passed (goal.at.loop-x-preserved-in-Opened c).At-loop-x) c.loop-x.invariant o.reads) (passed-exists (passed (goal.at.loop-x-preserved-in-Opened c).At-loop-x) c.loop-x.invariant o.reads)
 
-pub overflow_add-at-in-Character : goal.overflow_add-at-in-Character
-overflow_add-at-in-Character c = omega (arith, (loop-again-2 c).form.within)
+pub offset_bounds-opened-top : goal.offset_bounds-opened-top
+offset_bounds-opened-top c = omega (arith, (loop-x-preserved-in-Opened c).levels.low)
 
-pub loop-x-smaller-in-Character : goal.loop-x-smaller-in-Character
-loop-x-smaller-in-Character c = omega (arith, (loop-again-2 c).form.within)
+pub bounds-opened-top : goal.bounds-opened-top
+bounds-opened-top c = omega (arith, (loop-x-preserved-in-Opened c).levels.low)
+
+pub offset_bounds-had-top : goal.offset_bounds-had-top
+offset_bounds-had-top c = omega (arith, (loop-x-preserved-in-Opened c).levels.low)
+
+pub bounds-had-top : goal.bounds-had-top
+bounds-had-top c = omega (arith, (loop-x-preserved-in-Opened c).levels.low)
+
+pub overflow_add-top : goal.overflow_add-top
+overflow_add-top c = omega (arith, (loop-x-preserved-in-Opened c).levels.low)
+
+pub overflow_add-at : goal.overflow_add-at
+overflow_add-at c = omega (arith, (loop-x-preserved-in-Opened c).form.within)
+
+pub loop-x-smaller-in-Opened : goal.loop-x-smaller-in-Opened
+loop-x-smaller-in-Opened c = omega (arith, (loop-x-preserved-in-Opened c).form.within)
 
 pub loop-x-preserved-in-Character : goal.loop-x-preserved-in-Character
 loop-x-preserved-in-Character c =
     let o = does (goal.at.loop-x-preserved-in-Character c).After-turn_at-c c.in-Character.is in
     inside_character c.loop-x.invariant o (passed-allowed (passed (goal.at.loop-x-preserved-in-Character c).At-loop-x) c.loop-x.invariant o.reads)
+
+pub overflow_add-at-in-Character : goal.overflow_add-at-in-Character
+overflow_add-at-in-Character c = omega (arith, (loop-x-preserved-in-Character c).form.within)
+
+pub loop-x-smaller-in-Character : goal.loop-x-smaller-in-Character
+loop-x-smaller-in-Character c = omega (arith, (loop-x-preserved-in-Character c).form.within)
 
 pub returns-then-top-eq0 : goal.returns-then-top-eq0
 returns-then-top-eq0 c = passed-outside (passed (goal.at.returns-then-top-eq0 c).At-loop-x) (outside-closes c.loop-x.invariant (does (goal.at.returns-then-top-eq0 c).After-turn_at-c c.in-Closed.is) c.if-top-eq0.true)
@@ -70,27 +70,27 @@ returns-then-top-eq0 c = passed-outside (passed (goal.at.returns-then-top-eq0 c)
 pub overflow_sub-top : goal.overflow_sub-top
 overflow_sub-top c = omega (arith, c.if-top-eq0.false)
 
-pub offset_bounds-opened-top-in-Closed : goal.offset_bounds-opened-top-in-Closed
-offset_bounds-opened-top-in-Closed c = omega (arith, (loop-again-3 c).levels.low)
-
-pub bounds-opened-top-in-Closed : goal.bounds-opened-top-in-Closed
-bounds-opened-top-in-Closed c = omega (arith, (loop-again-3 c).levels.low)
-
-pub offset_bounds-had-top-in-Closed : goal.offset_bounds-had-top-in-Closed
-offset_bounds-had-top-in-Closed c = omega (arith, (loop-again-3 c).levels.low)
-
-pub bounds-had-top-in-Closed : goal.bounds-had-top-in-Closed
-bounds-had-top-in-Closed c = omega (arith, (loop-again-3 c).levels.low)
-
-pub overflow_add-at-in-Closed : goal.overflow_add-at-in-Closed
-overflow_add-at-in-Closed c = omega (arith, (loop-again-3 c).form.within)
-
-pub loop-x-smaller : goal.loop-x-smaller
-loop-x-smaller c = omega (arith, (loop-again-3 c).form.within)
-
 pub loop-x-preserved : goal.loop-x-preserved
 loop-x-preserved c =
     inside-closes c.loop-x.invariant (does (goal.at.loop-x-preserved c).After-turn_at-c c.in-Closed.is) (omega (arith, c.if-top-eq0.false))
+
+pub offset_bounds-opened-top-in-Closed : goal.offset_bounds-opened-top-in-Closed
+offset_bounds-opened-top-in-Closed c = omega (arith, (loop-x-preserved c).levels.low)
+
+pub bounds-opened-top-in-Closed : goal.bounds-opened-top-in-Closed
+bounds-opened-top-in-Closed c = omega (arith, (loop-x-preserved c).levels.low)
+
+pub offset_bounds-had-top-in-Closed : goal.offset_bounds-had-top-in-Closed
+offset_bounds-had-top-in-Closed c = omega (arith, (loop-x-preserved c).levels.low)
+
+pub bounds-had-top-in-Closed : goal.bounds-had-top-in-Closed
+bounds-had-top-in-Closed c = omega (arith, (loop-x-preserved c).levels.low)
+
+pub overflow_add-at-in-Closed : goal.overflow_add-at-in-Closed
+overflow_add-at-in-Closed c = omega (arith, (loop-x-preserved c).form.within)
+
+pub loop-x-smaller : goal.loop-x-smaller
+loop-x-smaller c = omega (arith, (loop-x-preserved c).form.within)
 
 pub returns-in-Refused : goal.returns-in-Refused
 returns-in-Refused c = passed-refuses (passed (goal.at.returns-in-Refused c).At-loop-x) c.loop-x.invariant (does (goal.at.returns-in-Refused c).After-turn_at-c c.in-Refused.is)

@@ -18,10 +18,10 @@ pub returns-else-next-eq0 : goal.returns-else-next-eq0
 returns-else-next-eq0 c = record { reads = here (goal.at.returns-else-next-eq0 c).After-command_at-c c.in-Opens.is; opening = c.opening-next.ensures; some = omega (arith, c.if-next-eq0.false) }
 
 pub returns-then-is_text : goal.returns-then-is_text
-returns-then-is_text c = record { reads = here (goal.at.returns-then-is_text c).After-command_at-c c.in-Character.is; text = sym (c.is_text_lem.ensures c.args.h) ∙ c.if-is_text.true }
+returns-then-is_text c = record { reads = here (goal.at.returns-then-is_text c).After-command_at-c c.in-Character.is; text = sym (c.is_text.ensures c.args.h) ∙ c.if-is_text.true }
 
 pub returns-else-is_text : goal.returns-else-is_text
-returns-else-is_text c = record { met = _; reads = here (goal.at.returns-else-is_text c).After-command_at-c c.in-Character.is; unfit = sym (c.is_text_lem.ensures c.args.h) ∙ c.if-is_text.false }
+returns-else-is_text c = record { met = _; reads = here (goal.at.returns-else-is_text c).After-command_at-c c.in-Character.is; unfit = sym (c.is_text.ensures c.args.h) ∙ c.if-is_text.false }
 
 pub returns-then-complete : goal.returns-then-complete
 returns-then-complete c = record { reads = here (goal.at.returns-then-complete c).After-command_at-c c.in-Closes.is; ready = sym c.complete.ensures ∙ c.if-complete.true }

@@ -31,5 +31,5 @@ returns-in-23 c = sym (ap code_begun c.in-23.is)
 pub returns-in_default : goal.returns-in_default
 unfolding code_begun pick
 returns-in_default c =
-    let isnt = (opened c.in_default.in_default-own.rest) in
+    let isnt = c.in_default.in_default-own.rest in
     rw (ne_eqb _ _ isnt.0.0.0.0.1, ne_eqb _ _ isnt.0.0.0.1, ne_eqb _ _ isnt.0.0.1, ne_eqb _ _ isnt.0.1, ne_eqb _ _ isnt.1)

@@ -27,7 +27,7 @@ pub returns-in-16 : goal.returns-in-16
 returns-in-16 c = alone_read (bytes (goal.at.returns-in-16 c).After-shared_slice_known-2-1) c.in-16.if-b-lt16-own.false c.in-16.if-b-lt18-own.true
 
 pub returns-in_default : goal.returns-in_default
-returns-in_default c = none_read (bytes (goal.at.returns-in_default c).After-shared_slice_known-2-1) (opened c.in_default.in_default-own.rest) (inl c.in_default.if-b-lt16-own.true)
+returns-in_default c = none_read (bytes (goal.at.returns-in_default c).After-shared_slice_known-2-1) c.in_default.in_default-own.rest (inl c.in_default.if-b-lt16-own.true)
 
 pub returns-in_default-2 : goal.returns-in_default-2
-returns-in_default-2 c = none_read (bytes (goal.at.returns-in_default-2 c).After-shared_slice_known-2-1) (opened c.in_default.in_default-own.rest) (inr c.in_default.if-b-lt18-own.false)
+returns-in_default-2 c = none_read (bytes (goal.at.returns-in_default-2 c).After-shared_slice_known-2-1) c.in_default.in_default-own.rest (inr c.in_default.if-b-lt18-own.false)

@@ -12,4 +12,4 @@ slice_bounds-written_line-end-2 c = sym (length-take-le _ _ (omega (arith, c.lea
 pub written_line-text-requires : goal.written_line-text-requires
 written_line-text-requires c =
     let few : c.least-n.result ≤ 60000 = omega (arith, c.least-n.ensures, c.least.ensures) in
-    search (rules, slice-aggregate-written-line-2 c, few)
+    search (rules, slice_bounds-written_line-end-2 c, few)

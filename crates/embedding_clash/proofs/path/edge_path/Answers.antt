@@ -15,4 +15,4 @@ path_at-requires c =
     rw (c.steps.ensures.0, c.start.ensures.0) (bounded.short edge, bounded.within edge)
 
 pub returns : goal.returns
-returns c = c.path_at_lem.ensures ∙ rw (c.steps.ensures.0, c.start.ensures.0)
+returns c = c.path_at.ensures ∙ rw (c.steps.ensures.0, c.start.ensures.0)

@@ -25,7 +25,7 @@ here c = step_at (record { bounded = c.requires.walkable.bounded; exists = (goes
 
 -- the type reached is no choice
 no_choice : (c : goal.Else-is_choice) → is_choice (kind_of (table_by c.args.target.now) c.loop-i.t) ≡ false
-no_choice c = sym (choice_told (here c) c.is_choice_lem.ensures c.kind.ensures.0) ∙ c.if-is_choice.false
+no_choice c = sym (choice_told (here c) c.is_choice.ensures c.kind.ensures.0) ∙ c.if-is_choice.false
 
 -- the steps at hand of both paths
 at-steps : (c : goal.Else-i-lb)
@@ -67,7 +67,7 @@ is_choice-requires c = tt
 -- at a choice
 pub returns-then-is_choice : goal.returns-then-is_choice
 returns-then-is_choice c =
-    meet_choice c.loop-i.invariant.2 (sym (choice_told (here (goal.at.returns-then-is_choice c).In-loop-i) c.is_choice_lem.ensures c.kind.ensures.0) ∙ c.if-is_choice.true)
+    meet_choice c.loop-i.invariant.2 (sym (choice_told (here (goal.at.returns-then-is_choice c).In-loop-i) c.is_choice.ensures c.kind.ensures.0) ∙ c.if-is_choice.true)
 
 -- only the second path is at its end
 pub returns-then-i-lb : goal.returns-then-i-lb

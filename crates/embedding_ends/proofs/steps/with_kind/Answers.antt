@@ -16,7 +16,7 @@ pub returns-in-3 : goal.returns-in-3
 returns-in-3 c = rw c.in-3.is
 
 pub returns-in-4 : goal.returns-in-4
-returns-in-4 c = rw (c.optional_first_lem.ensures, c.in-4.is)
+returns-in-4 c = rw (c.optional_first.ensures, c.in-4.is)
 
 pub returns-in_default : goal.returns-in_default
-returns-in_default c = unmatched_code (λ (k : ℕ). ◌≡◌ {A = Left} (record { choice = c.args.left.choice; optional = c.args.left.optional; list = true }) (with_kind c.args.left k)) (λ code. refl) _ (opened c.in_default.in_default-own.rest)
+returns-in_default c = unmatched_code (λ (k : ℕ). ◌≡◌ {A = Left} (record { choice = c.args.left.choice; optional = c.args.left.optional; list = true }) (with_kind c.args.left k)) (λ code. refl) _ c.in_default.in_default-own.rest

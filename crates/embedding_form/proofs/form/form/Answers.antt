@@ -19,18 +19,18 @@ pub form_step-requires : goal.form_step-requires
 unfolding embedding_form
 form_step-requires c = c.requires
 
-pub overflow_add-at : goal.overflow_add-at
-unfolding embedding_form
-overflow_add-at c = let within = (loop-again c).within in omega arith
-
-pub loop-at-smaller : goal.loop-at-smaller
-loop-at-smaller c =
-    less embedding_step embedding_complete form_stops c.loop-at.invariant c.loop-at-test.true c.command_at-c.ensures c.width-at.ensures
-
 pub loop-at-preserved : goal.loop-at-preserved
 loop-at-preserved c =
     turn embedding_step embedding_complete form_stops c.loop-at.invariant c.loop-at-test.true c.command_at-c.ensures _ c.width-at.ensures
     (sym c.form_step.ensures ∙ ap (form_next _) c.in-Goes.is)
+
+pub overflow_add-at : goal.overflow_add-at
+unfolding embedding_form
+overflow_add-at c = let within = (loop-at-preserved c).within in omega arith
+
+pub loop-at-smaller : goal.loop-at-smaller
+loop-at-smaller c =
+    less embedding_step embedding_complete form_stops c.loop-at.invariant c.loop-at-test.true c.command_at-c.ensures c.width-at.ensures
 
 pub returns-in-Stops : goal.returns-in-Stops
 returns-in-Stops c =

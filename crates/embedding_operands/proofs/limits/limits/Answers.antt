@@ -15,18 +15,18 @@ pub loop-at-init : goal.loop-at-init
 unfolding embedding_limits
 loop-at-init c = record { within = omega arith; same = refl }
 
-pub overflow_add-at : goal.overflow_add-at
-unfolding embedding_limits
-overflow_add-at c = let within = (loop-again c).within in omega arith
-
-pub loop-at-smaller : goal.loop-at-smaller
-loop-at-smaller c =
-    less step_count (λ n. true) count_stops c.loop-at.invariant c.loop-at-test.true c.command_at-c.ensures c.width-at.ensures
-
 pub loop-at-preserved : goal.loop-at-preserved
 loop-at-preserved c =
     turn step_count (λ n. true) count_stops c.loop-at.invariant c.loop-at-test.true c.command_at-c.ensures _ c.width-at.ensures
     (sym c.step_count.ensures ∙ ap count_next c.in-Goes.is)
+
+pub overflow_add-at : goal.overflow_add-at
+unfolding embedding_limits
+overflow_add-at c = let within = (loop-at-preserved c).within in omega arith
+
+pub loop-at-smaller : goal.loop-at-smaller
+loop-at-smaller c =
+    less step_count (λ n. true) count_stops c.loop-at.invariant c.loop-at-test.true c.command_at-c.ensures c.width-at.ensures
 
 pub returns-in-Stops : goal.returns-in-Stops
 returns-in-Stops c =

@@ -23,15 +23,6 @@ path_step-requires c =
     let a = c.args in
     record { bounded = c.requires.bounded; here_bound = rw (length_of_lem a.target.now) at c.loop-at.invariant.1.now_in }
 
-pub overflow_add-at : goal.overflow_add-at
-overflow_add-at c = let within = (loop-again c).0.within in omega arith
-
-pub loop-at-smaller : goal.loop-at-smaller
-loop-at-smaller c =
-    let a = c.args in
-    let table = table_by a.target.now in
-    less (path_step table) (λ r. true) (reach_stops table) c.loop-at.invariant.0 c.loop-at-test.true c.command_at-c.ensures c.width-at.ensures
-
 pub loop-at-preserved : goal.loop-at-preserved
 loop-at-preserved c =
     let a = c.args in
@@ -40,6 +31,15 @@ loop-at-preserved c =
       turn (path_step table) (λ r. true) (reach_stops table) c.loop-at.invariant.0 c.loop-at-test.true c.command_at-c.ensures _ c.width-at.ensures onward,
       stays table c.requires.well_formed _ _ c.loop-at.invariant.1 _ onward,
     )
+
+pub overflow_add-at : goal.overflow_add-at
+overflow_add-at c = let within = (loop-at-preserved c).0.within in omega arith
+
+pub loop-at-smaller : goal.loop-at-smaller
+loop-at-smaller c =
+    let a = c.args in
+    let table = table_by a.target.now in
+    less (path_step table) (λ r. true) (reach_stops table) c.loop-at.invariant.0 c.loop-at-test.true c.command_at-c.ensures c.width-at.ensures
 
 pub returns-in-Stops : goal.returns-in-Stops
 returns-in-Stops c =

@@ -49,4 +49,4 @@ returns-in-31 c = bare_at _ _ 0x1F c.in-31.is refl refl
 
 pub returns-in_default : goal.returns-in_default
 unfolding takes_operand table_command pick
-returns-in_default c = other_at _ _ (opened c.in_default.in_default-own.rest)
+returns-in_default c = other_at _ _ c.in_default.in_default-own.rest

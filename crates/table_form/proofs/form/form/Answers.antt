@@ -18,18 +18,18 @@ pub enum_known-n : goal.enum_known-n
 unfolding pick table_form
 enum_known-n c = c.in-Goes.in-Goes-own.keys1
 
-pub overflow_add-at : goal.overflow_add-at
-unfolding pick table_form
-overflow_add-at c = omega (arith, (loop-again c).within, c.well_formed)
-
-pub loop-at-smaller : goal.loop-at-smaller
-unfolding pick table_form
-loop-at-smaller c = omega (arith, (loop-again c).within, some_width _ c.width-at.ensures)
-
 -- behind a command that goes on
 pub loop-at-preserved : goal.loop-at-preserved
 loop-at-preserved c =
     turn form_machine _ (goes _) c.loop-at.invariant c.loop-at-test.true c.command_at-c.ensures (sym c.step-n.ensures ∙ ap next c.in-Goes.is) _ c.width-at.ensures
+
+pub overflow_add-at : goal.overflow_add-at
+unfolding pick table_form
+overflow_add-at c = omega (arith, (loop-at-preserved c).within, c.well_formed)
+
+pub loop-at-smaller : goal.loop-at-smaller
+unfolding pick table_form
+loop-at-smaller c = omega (arith, (loop-at-preserved c).within, some_width _ c.width-at.ensures)
 
 pub enum_told-1 : goal.enum_told-1
 unfolding pick table_form

@@ -41,14 +41,6 @@ pub returns-in-Stops-counted : goal.returns-in-Stops-counted
 unfolding table_form table_limits
 returns-in-Stops-counted c e = true_false e refl
 
-pub overflow_add-at : goal.overflow_add-at
-unfolding table_form table_limits
-overflow_add-at c = omega (arith, (loop-again c).0.within, c.well_formed)
-
-pub loop-at-smaller : goal.loop-at-smaller
-unfolding table_form table_limits
-loop-at-smaller c = omega (arith, (loop-again c).0.within, some_width _ c.width-at.ensures)
-
 -- behind a command with which both go on
 pub loop-at-preserved : goal.loop-at-preserved
 loop-at-preserved c =
@@ -56,6 +48,14 @@ loop-at-preserved c =
       turn form_machine _ (goes _) inv.0 c.loop-at-test.true c.command_at-c.ensures (sym c.step-moved.ensures ∙ ap form.next c.in-Goes.is) _ c.width-at.ensures,
       turn limit_machine _ (goes _) inv.1 c.loop-at-test.true c.command_at-c.ensures (sym c.step-counted.ensures ∙ ap limits.next c.in-Goes-counted.is) _ c.width-at.ensures,
     )
+
+pub overflow_add-at : goal.overflow_add-at
+unfolding table_form table_limits
+overflow_add-at c = omega (arith, (loop-at-preserved c).0.within, c.well_formed)
+
+pub loop-at-smaller : goal.loop-at-smaller
+unfolding table_form table_limits
+loop-at-smaller c = omega (arith, (loop-at-preserved c).0.within, some_width _ c.width-at.ensures)
 
 pub returns : goal.returns
 returns c =

@@ -14,19 +14,19 @@ pub loop-at-init : goal.loop-at-init
 unfolding table_operands
 loop-at-init c = record { within = search rules; same = refl }
 
-pub overflow_add-at : goal.overflow_add-at
-unfolding table_operands
-overflow_add-at c = omega (arith, (loop-again c).within, c.well_formed)
-
-pub loop-at-smaller : goal.loop-at-smaller
-unfolding table_operands
-loop-at-smaller c = omega (arith, (loop-again c).within, some_width _ c.width-at.ensures)
-
 -- behind a command that goes on
 pub loop-at-preserved : goal.loop-at-preserved
 unfolding goes_if
 loop-at-preserved c =
     turn (names_machine _) _ (goes _) c.loop-at.invariant c.loop-at-test.true c.command_at-c.ensures (sym c.named.ensures ∙ ap (λ (b : Bool). goes_if b tt) c.if-named.true) _ c.width-at.ensures
+
+pub overflow_add-at : goal.overflow_add-at
+unfolding table_operands
+overflow_add-at c = omega (arith, (loop-at-preserved c).within, c.well_formed)
+
+pub loop-at-smaller : goal.loop-at-smaller
+unfolding table_operands
+loop-at-smaller c = omega (arith, (loop-at-preserved c).within, some_width _ c.width-at.ensures)
 
 -- a command that is refused
 pub returns-else-named : goal.returns-else-named

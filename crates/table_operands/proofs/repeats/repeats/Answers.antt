@@ -59,14 +59,6 @@ pub returns-in-Stops : goal.returns-in-Stops
 unfolding table_repeats
 returns-in-Stops c = turned (goal.at.returns-in-Stops c).After-role_of-r stops c.in-Stops.is refl
 
-pub overflow_add-at : goal.overflow_add-at
-unfolding table_repeats
-overflow_add-at c = omega (arith, (loop-again c).here.within, c.well_formed)
-
-pub loop-at-smaller : goal.loop-at-smaller
-unfolding table_repeats
-loop-at-smaller c = omega (arith, (loop-again c).here.within, some_width _ c.width-w.ensures)
-
 -- behind a command that goes on, by the arm that it came through
 pub loop-at-preserved : goal.loop-at-preserved
 loop-at-preserved c =
@@ -78,6 +70,14 @@ loop-at-preserved c =
     (⊎_elim (λ w. after (turned (goal.at.loop-at-preserved c).After-role_of-r (goes kept.state) w.1.given.1 (not_inside _ kept.stands w.3.left) _ wide) kept.stands w.4 w.5)
     (λ w. after (turned (goal.at.loop-at-preserved c).After-role_of-r (goes kept.state) w.1.given.1 refl _ wide) kept.stands w.2 w.3))))
     c.match-r.branch
+
+pub overflow_add-at : goal.overflow_add-at
+unfolding table_repeats
+overflow_add-at c = omega (arith, (loop-at-preserved c).here.within, c.well_formed)
+
+pub loop-at-smaller : goal.loop-at-smaller
+unfolding table_repeats
+loop-at-smaller c = omega (arith, (loop-at-preserved c).here.within, some_width _ c.width-w.ensures)
 
 pub returns : goal.returns
 unfolding table_repeats

@@ -20,39 +20,39 @@ loop-depth-init c = c.requires
 pub returns-then-t-at : goal.returns-then-t-at
 returns-then-t-at c = form_short _ _ _ c.if-t-at.true c.loop-depth.invariant
 
-pub overflow_add-depth : goal.overflow_add-depth
-overflow_add-depth c = omega (arith, (loop-again c).within, (loop-again c).deep)
-
-pub overflow_add-at : goal.overflow_add-at
-overflow_add-at c = omega (arith, (loop-again c).within)
-
-pub loop-depth-smaller-in-Opens : goal.loop-depth-smaller-in-Opens
-loop-depth-smaller-in-Opens c = omega (arith, (loop-again c).within)
-
 -- what is left behind each command
 pub loop-depth-preserved-in-Opens : goal.loop-depth-preserved-in-Opens
 loop-depth-preserved-in-Opens c =
     form_opens _ _ c.loop-depth-test.true c.loop-depth.invariant (here (goal.at.loop-depth-preserved-in-Opens c).After-command_at-c c.in-Opens.is)
 
-pub overflow_add-at-in-Character : goal.overflow_add-at-in-Character
-overflow_add-at-in-Character c = omega (arith, (loop-again-2 c).within)
+pub overflow_add-depth : goal.overflow_add-depth
+overflow_add-depth c = omega (arith, (loop-depth-preserved-in-Opens c).within, (loop-depth-preserved-in-Opens c).deep)
 
-pub loop-depth-smaller-in-Character : goal.loop-depth-smaller-in-Character
-loop-depth-smaller-in-Character c = omega (arith, (loop-again-2 c).within)
+pub overflow_add-at : goal.overflow_add-at
+overflow_add-at c = omega (arith, (loop-depth-preserved-in-Opens c).within)
+
+pub loop-depth-smaller-in-Opens : goal.loop-depth-smaller-in-Opens
+loop-depth-smaller-in-Opens c = omega (arith, (loop-depth-preserved-in-Opens c).within)
 
 pub loop-depth-preserved-in-Character : goal.loop-depth-preserved-in-Character
 loop-depth-preserved-in-Character c =
     form_character _ _ c.loop-depth-test.true c.loop-depth.invariant (here (goal.at.loop-depth-preserved-in-Character c).After-command_at-c c.in-Character.is)
 
-pub overflow_add-at-in-Closes : goal.overflow_add-at-in-Closes
-overflow_add-at-in-Closes c = omega (arith, (loop-again-3 c).within)
+pub overflow_add-at-in-Character : goal.overflow_add-at-in-Character
+overflow_add-at-in-Character c = omega (arith, (loop-depth-preserved-in-Character c).within)
 
-pub loop-depth-smaller : goal.loop-depth-smaller
-loop-depth-smaller c = omega (arith, (loop-again-3 c).within)
+pub loop-depth-smaller-in-Character : goal.loop-depth-smaller-in-Character
+loop-depth-smaller-in-Character c = omega (arith, (loop-depth-preserved-in-Character c).within)
 
 pub loop-depth-preserved : goal.loop-depth-preserved
 loop-depth-preserved c =
     form_closes _ _ c.loop-depth-test.true c.loop-depth.invariant (here (goal.at.loop-depth-preserved c).After-command_at-c c.in-Closes.is)
+
+pub overflow_add-at-in-Closes : goal.overflow_add-at-in-Closes
+overflow_add-at-in-Closes c = omega (arith, (loop-depth-preserved c).within)
+
+pub loop-depth-smaller : goal.loop-depth-smaller
+loop-depth-smaller c = omega (arith, (loop-depth-preserved c).within)
 
 pub returns-in-End : goal.returns-in-End
 returns-in-End c = form_end_inside _ _ c.loop-depth-test.true c.loop-depth.invariant (here (goal.at.returns-in-End c).After-command_at-c c.in-End.is)

@@ -24,46 +24,46 @@ returns-then-depth-ge-MAX_LEVELS c = levels_deep _ _ c.if-depth-ge-MAX_LEVELS.tr
 pub overflow_add-depth : goal.overflow_add-depth
 overflow_add-depth c = omega arith
 
-pub overflow_add-at : goal.overflow_add-at
-overflow_add-at c = omega (arith, (loop-again c).within)
-
-pub loop-at-smaller-in-Opens : goal.loop-at-smaller-in-Opens
-loop-at-smaller-in-Opens c = omega (arith, (loop-again c).within)
-
 -- what is left behind each command
 pub loop-at-preserved-in-Opens : goal.loop-at-preserved-in-Opens
 loop-at-preserved-in-Opens c =
     levels_opens _ _ c.if-depth-ge-MAX_LEVELS.false c.loop-at.invariant (here (goal.at.loop-at-preserved-in-Opens c).After-command_at-c c.in-Opens.is)
 
-pub overflow_add-at-in-Character : goal.overflow_add-at-in-Character
-overflow_add-at-in-Character c = omega (arith, (loop-again-2 c).within)
+pub overflow_add-at : goal.overflow_add-at
+overflow_add-at c = omega (arith, (loop-at-preserved-in-Opens c).within)
 
-pub loop-at-smaller-in-Character : goal.loop-at-smaller-in-Character
-loop-at-smaller-in-Character c = omega (arith, (loop-again-2 c).within)
+pub loop-at-smaller-in-Opens : goal.loop-at-smaller-in-Opens
+loop-at-smaller-in-Opens c = omega (arith, (loop-at-preserved-in-Opens c).within)
 
 pub loop-at-preserved-in-Character : goal.loop-at-preserved-in-Character
 loop-at-preserved-in-Character c =
     levels_character _ _ c.loop-at.invariant (here (goal.at.loop-at-preserved-in-Character c).After-command_at-c c.in-Character.is)
 
-pub overflow_add-at-in-Closes : goal.overflow_add-at-in-Closes
-overflow_add-at-in-Closes c = omega (arith, (loop-again-3 c).within)
+pub overflow_add-at-in-Character : goal.overflow_add-at-in-Character
+overflow_add-at-in-Character c = omega (arith, (loop-at-preserved-in-Character c).within)
 
-pub loop-at-smaller-in-Closes : goal.loop-at-smaller-in-Closes
-loop-at-smaller-in-Closes c = omega (arith, (loop-again-3 c).within)
+pub loop-at-smaller-in-Character : goal.loop-at-smaller-in-Character
+loop-at-smaller-in-Character c = omega (arith, (loop-at-preserved-in-Character c).within)
 
 pub loop-at-preserved-in-Closes : goal.loop-at-preserved-in-Closes
 loop-at-preserved-in-Closes c =
     levels_closes _ _ _ (⊎_elim (λ w. inl (w.0.taken, w.1)) (λ w. inr (w.0.left, w.1)) c.if-depth-gt0.branch) c.loop-at.invariant (here (goal.at.loop-at-preserved-in-Closes c).After-command_at-c c.in-Closes.is)
 
-pub overflow_add-at-in-End : goal.overflow_add-at-in-End
-overflow_add-at-in-End c = omega (arith, (loop-again-4 c).within)
+pub overflow_add-at-in-Closes : goal.overflow_add-at-in-Closes
+overflow_add-at-in-Closes c = omega (arith, (loop-at-preserved-in-Closes c).within)
 
-pub loop-at-smaller : goal.loop-at-smaller
-loop-at-smaller c = omega (arith, (loop-again-4 c).within)
+pub loop-at-smaller-in-Closes : goal.loop-at-smaller-in-Closes
+loop-at-smaller-in-Closes c = omega (arith, (loop-at-preserved-in-Closes c).within)
 
 pub loop-at-preserved : goal.loop-at-preserved
 loop-at-preserved c =
     levels_tree_end _ _ c.loop-at.invariant (here (goal.at.loop-at-preserved c).After-command_at-c c.in-End.is)
+
+pub overflow_add-at-in-End : goal.overflow_add-at-in-End
+overflow_add-at-in-End c = omega (arith, (loop-at-preserved c).within)
+
+pub loop-at-smaller : goal.loop-at-smaller
+loop-at-smaller c = omega (arith, (loop-at-preserved c).within)
 
 pub returns-in-Alien : goal.returns-in-Alien
 returns-in-Alien c = levels_at_alien _ _ c.loop-at.invariant (here (goal.at.returns-in-Alien c).After-command_at-c c.in-Alien.is)
