@@ -1,5 +1,4 @@
 -- `brought` meets its contract: each way in which bringing back ends has its numbers.
-use borrow.Author.Rules.{rules}
 use Rattle.answers.specs.Answers.{broughtResult}
 use Rattle.model.specs.Definitions.Refusals.{numbers_of, document_number}
 use Rattle.model.specs.Definitions.Entries.{answer_of}

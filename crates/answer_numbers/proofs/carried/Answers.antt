@@ -1,5 +1,4 @@
 -- `carried` meets its contract: each way in which carrying ends has its numbers.
-use borrow.Author.Rules.{rules}
 use Rattle.answers.specs.Answers.{carriedResult}
 use Rattle.model.specs.Definitions.Refusals.{numbers_of, document_number}
 use Rattle.model.specs.Definitions.Entries.{answer_of}

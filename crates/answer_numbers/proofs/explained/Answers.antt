@@ -1,6 +1,5 @@
 -- `explained` meets its contract: a clash has its numbers, and a judging answer those of judging.
 use mathlib.Core.Path.{ap, ◌∙◌}
-use borrow.Author.Rules.{rules}
 use Rattle.answer_numbers.specs.Numbers.{unexplained_numbers, explanation_in}
 use Rattle.answer_numbers.proofs.Numbering.{by_case}
 use Rattle.answer_numbers.proofs.explained.Goals as goal

@@ -1,5 +1,4 @@
 -- `extended` meets its contract: each way in which an operation ends has its numbers.
-use borrow.Author.Rules.{rules}
 use Rattle.answers.specs.Answers.{extensionResult}
 use Rattle.model.specs.Definitions.Refusals.{numbers_of, document_number}
 use Rattle.model.specs.Definitions.Entries.{answer_of}

@@ -1,5 +1,4 @@
 -- `faulting` meets its contract: each fault has its number and its mark.
-use borrow.Author.Rules.{rules}
 use Rattle.answer_numbers.proofs.Numbering.{for_fault}
 use Rattle.model.specs.Definitions.Refusals.{fault_number, fault_mark}
 use Rattle.answer_numbers.proofs.faulting.Goals as goal

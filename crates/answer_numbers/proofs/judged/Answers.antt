@@ -1,5 +1,4 @@
 -- `judged` meets its contract: each outcome of judging has its numbers.
-use borrow.Author.Rules.{rules}
 use Rattle.answer_numbers.specs.Numbers.{judging_numbers}
 use Rattle.answer_numbers.proofs.Numbering.{by_case}
 use Rattle.answer_numbers.proofs.judged.Goals as goal

@@ -1,5 +1,4 @@
 -- `read` meets its contract: each way in which reading along the paths ends has its numbers.
-use borrow.Author.Rules.{rules}
 use Rattle.answers.specs.Answers.{readingResult}
 use Rattle.model.specs.Definitions.Refusals.{numbers_of, document_number}
 use Rattle.model.specs.Definitions.Entries.{answer_of}

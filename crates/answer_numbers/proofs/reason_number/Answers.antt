@@ -1,6 +1,5 @@
 -- `reason_number` meets its contract: each reason has its number.
 use mathlib.Core.Path.{refl}
-use borrow.Author.Rules.{rules}
 use Rattle.answers.specs.Answers.{reason}
 use Rattle.model.specs.Definitions.Explanation.{reason_number}
 use Rattle.answer_numbers.proofs.Numbering.{by_case}

@@ -1,9 +1,8 @@
 use mathlib.Core.Path.{subst}
-use Prim.Native.Nat.{ℕ, ◌-◌}
+use Prim.Native.Nat.{ℕ}
 use native.Mathlib.Omega.{arith}
-use borrow.Author.Rules.{rules}
 use Rattle.decimal.specs.Digits.{Share}
-use Rattle.decimal.proofs.Spelling.{Spelled, none_spelled, next_fits, spelled_more, all_spelled}
+use Rattle.decimal.proofs.Spelling.{none_spelled, next_fits, spelled_more, all_spelled}
 use Rattle.decimal.proofs.decimal.Goals as goal
 
 pub loop-i-init : goal.loop-i-init

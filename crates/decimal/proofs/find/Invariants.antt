@@ -1,9 +1,6 @@
 -- `find` meets its contract: what was subtracted and what is left are the number.
 use mathlib.Core.Path.{◌≡◌}
 use Prim.Native.Nat.{◌+◌, ◌*◌}
-use native.Mathlib.Nat.{zero-mul}
-use native.Mathlib.Omega.{arith}
-use Rattle.decimal.proofs.Finding.{subtracted, fewer_than_ten}
 use Rattle.decimal.proofs.find.Given as goal
 
 abbrev pub invariant-loop-left : goal.invariant-loop-left

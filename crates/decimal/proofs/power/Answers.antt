@@ -2,7 +2,6 @@
 use mathlib.Core.Path.{◌∙◌}
 use Prim.Native.Nat.{◌^◌}
 use native.Mathlib.Nat.{one-mul}
-use borrow.Author.Rules.{rules}
 use Rattle.decimal.specs.Digits.{most_digits}
 use Rattle.decimal.proofs.Powers.{tenfold, in_table}
 use Rattle.decimal.proofs.power.Goals as goal

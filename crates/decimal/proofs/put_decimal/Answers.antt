@@ -1,5 +1,4 @@
 -- `put_decimal` meets its contract: what is copied is the text.
-use borrow.Author.Rules.{rules}
 use Rattle.decimal.proofs.Written.{copied}
 use Rattle.decimal.proofs.put_decimal.Goals as goal
 

@@ -1,7 +1,7 @@
 use mathlib.Core.Path.{◌≡◌}
-use Prim.Native.Nat.{◌-◌, ◌^◌, ◌<◌}
+use Prim.Native.Nat.{◌^◌, ◌<◌}
 use native.Mathlib.Omega.{arith}
-use Rattle.decimal.specs.Digits.{most_digits, Reaches}
+use Rattle.decimal.specs.Digits.{most_digits}
 use Rattle.decimal.proofs.Powers.{one_digit, reaches_more}
 use Rattle.decimal.proofs.width.Goals as goal
 

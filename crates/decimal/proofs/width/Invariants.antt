@@ -1,9 +1,6 @@
 -- `width` meets its contract: the number reaches each power of ten that was passed.
-use mathlib.Core.Path.{◌≡◌}
-use Prim.Native.Nat.{◌-◌, ◌^◌, ◌<◌}
-use native.Mathlib.Omega.{arith}
+use Prim.Native.Nat.{◌-◌}
 use Rattle.decimal.specs.Digits.{most_digits, Reaches}
-use Rattle.decimal.proofs.Powers.{one_digit, reaches_more}
 use Rattle.decimal.proofs.width.Given as goal
 
 abbrev pub invariant-loop-w : goal.invariant-loop-w

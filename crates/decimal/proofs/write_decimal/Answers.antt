@@ -1,5 +1,4 @@
 -- `write_decimal` meets its contract: what is copied is the text, where there is room for it.
-use borrow.Author.Rules.{rules}
 use Rattle.decimal.proofs.Written.{at_start, not_written}
 use Rattle.decimal.proofs.write_decimal.Goals as goal
 
