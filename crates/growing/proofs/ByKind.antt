@@ -166,6 +166,7 @@ pub grows : {target : List ℕ} → Bounded target → WellFormed (table_by targ
     → (r : Span) → MemberRange target t q r → Grows target n t ps r
 grows {target = target} bounded wf {t = t} exists [] nothing_placed q path a qs is r spans = let z : ◌≡◌ {A = ℕ} 0 1 = cc in absurd (omega arith)
 grows {target = target} bounded wf {t = t} exists (placed [] b ∷ []) right_here q path a qs is r spans = let z : ◌≡◌ {A = ℕ} 0 1 = cc in absurd (omega arith)
+grows {target = target} bounded wf {n = n} {t = t} exists (placed [] b ∷ (_ ∷ _)) fits q path a qs is r spans = elim fits [ ]
 grows {target = target} bounded wf {t = t} exists (placed (p ∷ path') b ∷ rs) (below_sequence {n = n} ms kind starts fits) q path a qs is r spans =
     let here : p ≡ q = cc in
     by-sequence bounded wf exists n p path' b rs ms kind fits r (subst (λ (s : ℕ). MemberRange target t s r) (sym here) spans)

@@ -2,4 +2,3 @@
 // There is no code in this crate.
 
 #![tactic(auto)]
-

@@ -1,6 +1,6 @@
 -- The first child of conforming content.
 use Rattle.std.specs.Prelude.{Bool, true, false, ℕ, suc, ◌<◌, length, eqb}
-use mathlib.Core.List.{List, ◌∷◌, Memᴰ}
+use mathlib.Core.List.{List, [], ◌∷◌, Memᴰ}
 use Rattle.std.proofs.Common.{arith, eq-eqb}
 use Rattle.model.specs.Definitions.Basics.{pick}
 use Rattle.model.specs.Definitions.Table.{Kind, Table}
@@ -12,6 +12,7 @@ use Rattle.rows.specs.Rows.{index_in, FirstChild, of_text, of_empty, of_sequence
 -- a member's index is below the number of members
 pub index_within : (t : ℕ) (ms : List ℕ) → Memᴰ t ms → index_in t ms < length ms
 unfolding index_in pick
+index_within t [] mem = elim mem [ ]
 index_within t (m ∷ ms) (Memᴰ.head e) = rw (eq-eqb t m e) (omega arith)
 index_within t (m ∷ ms) (Memᴰ.tail later) = go (eqb t m) (index_within t ms later)
   where

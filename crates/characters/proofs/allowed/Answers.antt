@@ -4,7 +4,7 @@ use mathlib.Core.Bool.{true, not}
 use mathlib.Core.List.{[], ◌∷◌}
 use borrow.Author.Rules.{rules}
 use Rattle.model.specs.Definitions.Characters.{is_not_allowed, allowed}
-use Rattle.model.specs.Theorems.Arms.{in_arm}
+use Rattle.model.proofs.Theorems.Arms.{in_arm}
 use Rattle.characters.specs.Classes.{class}
 use Rattle.characters.specs.contracts.CharacterClass.{enum}
 use borrow.Enum.Refused.{opened}

@@ -5,9 +5,10 @@ use Rattle.paths.specs.Edges.{small}
 use Rattle.children.proofs.Beginning.{SharedPath, optional-path, shared-path, begin_empty, begin_member}
 use Rattle.children.proofs.Finding.{found_within, missing_not, held_not}
 use Rattle.children.proofs.begin_optional.Goals as goal
+use Rattle.children.proofs.begin_optional.Goals.{After-choice_depth-depth}
 
 -- they are the first steps of the paths
-shared-here : (c : goal.After-choice_depth-depth) → let a = c.args in
+shared-here : (c : After-choice_depth-depth) → let a = c.args in
     SharedPath a.source.now a.target.now a.map.now a.em.now a.image.sigma c.start-start.result c.choice_depth-depth.result c.target-tau.result
 shared-here c =
     let i = c.requires.image in

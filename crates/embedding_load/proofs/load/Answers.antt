@@ -7,17 +7,18 @@ use Rattle.embedding_form.specs.Commands.{command}
 use Rattle.embedding_load.specs.Loading.{loaded_at}
 use Rattle.embedding_load.proofs.Sources.{source_in}
 use Rattle.embedding_load.proofs.Turns.{EmbeddingLoading, EmbeddingTurn, loading_starts, turn, turned, loading_ends}
+use Rattle.embedding_load.proofs.load.Goals.{After-command_at-c, After-width-at}
 use Rattle.embedding_load.proofs.load.Goals as goal
 
 -- what a turn needs and gives
-here : (c : goal.After-command_at-c)
+here : (c : After-command_at-c)
     → EmbeddingTurn c.args.em.now (table_by c.args.source.now) (loaded_at c.loop-at.place c.loop-at.map) c.loop-at.at (command c.command_at-c.result)
 here c = turn c.loop-at-test.true c.command_at-c.ensures c.loop-at.invariant.1
 
 -- the invariant behind the command
-again : (c : goal.After-width-at)
-    → EmbeddingLoading c.args.em.now (table_by c.args.source.now) (loaded_at c.put-place.result c.put-place.new.0) (c.loop-at.at + c.width-at.result)
-again c = turned (here c) c.put-place.ensures.put_there c.width-at.ensures
+again : (c : After-width-at)
+    → EmbeddingLoading c.args.em.now (table_by c.args.source.now) (loaded_at c.put-place.result c.put-place.new.map) (c.loop-at.at + c.width-at.result)
+again c = turned (turn c.loop-at-test.true c.command_at-c.ensures c.loop-at.invariant.1) c.put-place.ensures.put_there c.width-at.ensures
 
 pub loop-at-init : goal.loop-at-init
 loop-at-init c =

@@ -1,24 +1,21 @@
 -- `put` meets its contract: each command by what it stores.
 use mathlib.Core.Path.{refl}
 use native.Mathlib.Omega.{arith}
-use Rattle.embedding_load.specs.Loading.{MapArrays, loaded_at, TypeMayFollow, PathMayBegin, StepMayFollow, puts}
+use Rattle.embedding_load.specs.Loading.{loaded_at, TypeMayFollow, PathMayBegin, StepMayFollow, puts}
 use Rattle.embedding_load.proofs.Rooms.{told_room, told_puts, path_room, step_room, target_stored, path_stored, step_stored}
 use borrow.Author.Rules.{rules}
+use Rattle.embedding_load.proofs.put.Goals.{In-MapsTo, In-Path, In-Step}
 use Rattle.embedding_load.proofs.put.Goals as goal
 
--- what is loaded before the command
-abbrev loadedBefore : goal.Start → MapArrays
-loadedBefore c = loaded_at c.args.p c.args.map.now
-
 -- room for a map, for a path, for a step
-maps-here : (c : goal.In-MapsTo) → TypeMayFollow (loadedBefore c)
-maps-here c = told_room (loadedBefore c) c.args.at c.in-MapsTo.is c.requires
+maps-here : (c : In-MapsTo) → TypeMayFollow (loaded_at c.args.p c.args.map.now)
+maps-here c = told_room (loaded_at c.args.p c.args.map.now) c.args.at c.in-MapsTo.is c.requires
 
-begins-here : (c : goal.In-Path) → PathMayBegin (loadedBefore c) c.args.at
-begins-here c = told_room (loadedBefore c) c.args.at c.in-Path.is c.requires
+begins-here : (c : In-Path) → PathMayBegin (loaded_at c.args.p c.args.map.now) c.args.at
+begins-here c = told_room (loaded_at c.args.p c.args.map.now) c.args.at c.in-Path.is c.requires
 
-steps_here : (c : goal.In-Step) → StepMayFollow (loadedBefore c)
-steps_here c = told_room (loadedBefore c) c.args.at c.in-Step.is c.requires
+steps_here : (c : In-Step) → StepMayFollow (loaded_at c.args.p c.args.map.now)
+steps_here c = told_room (loaded_at c.args.p c.args.map.now) c.args.at c.in-Step.is c.requires
 
 pub set_target-requires : goal.set_target-requires
 set_target-requires c = (maps-here (goal.at.set_target-requires c).In-MapsTo).room
@@ -73,26 +70,26 @@ unfolding puts
 returns-in-MapsTo c =
     let is = c.in-MapsTo.is in
     let stored = target_stored c.args.map.now _ _ _ (maps-here (goal.at.returns-in-MapsTo c).In-MapsTo).room c.set_target.ensures in
-    record { same_size = stored.0; put_there = told_puts (loadedBefore (goal.at.returns-in-MapsTo c).Start) c.args.at is stored.1 }
+    record { same_size = stored.0; put_there = told_puts (loaded_at c.args.p c.args.map.now) c.args.at is stored.1 }
 
 pub returns-in-Path : goal.returns-in-Path
 unfolding puts
 returns-in-Path c =
     let is = c.in-Path.is in
     let stored = path_stored c.args.map.now _ _ _ (path_room (begins-here (goal.at.returns-in-Path c).In-Path)) c.set_start.ensures c.set_steps.ensures in
-    record { same_size = stored.0; put_there = told_puts (loadedBefore (goal.at.returns-in-Path c).Start) c.args.at is stored.1 }
+    record { same_size = stored.0; put_there = told_puts (loaded_at c.args.p c.args.map.now) c.args.at is stored.1 }
 
 pub returns-in-Step : goal.returns-in-Step
 unfolding puts
 returns-in-Step c =
     let is = c.in-Step.is in
     let stored = step_stored c.args.map.now _ _ (step_room (steps_here (goal.at.returns-in-Step c).In-Step)) c.steps-count.ensures.0 c.set_steps-in-Step.ensures in
-    record { same_size = stored.0; put_there = told_puts (loadedBefore (goal.at.returns-in-Step c).Start) c.args.at is stored.1 }
+    record { same_size = stored.0; put_there = told_puts (loaded_at c.args.p c.args.map.now) c.args.at is stored.1 }
 
 pub returns-in-End : goal.returns-in-End
 unfolding puts
-returns-in-End c = record { same_size = refl; put_there = told_puts (loadedBefore (goal.at.returns-in-End c).Start) c.args.at c.in-End.is refl }
+returns-in-End c = record { same_size = refl; put_there = told_puts (loaded_at c.args.p c.args.map.now) c.args.at c.in-End.is refl }
 
 pub returns-in-Alien : goal.returns-in-Alien
 unfolding puts
-returns-in-Alien c = record { same_size = refl; put_there = told_puts (loadedBefore (goal.at.returns-in-Alien c).Start) c.args.at c.in-Alien.is refl }
+returns-in-Alien c = record { same_size = refl; put_there = told_puts (loaded_at c.args.p c.args.map.now) c.args.at c.in-Alien.is refl }

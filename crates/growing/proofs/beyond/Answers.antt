@@ -1,11 +1,11 @@
 use mathlib.Core.Path.{sym, subst, ◌∙◌}
-use mathlib.Core.Logic.{⊎_elim}
 use Prim.Native.Nat.{◌+◌, ◌-◌}
 use native.Mathlib.Omega.{arith}
 use borrow.Author.Rules.{rules}
 use Rattle.growing.specs.declared.Edges.{Edges}
 use Rattle.growing.proofs.Following.{Follows, follows_none, follows_reads, follows_past, follows-left, follows-place, follows_on, follows_all}
 use Rattle.growing.proofs.beyond.Goals as goal
+use Rattle.growing.proofs.beyond.Goals.{then-first_step-q, else-first_step-q}
 
 pub loop-i-init : goal.loop-i-init
 loop-i-init c =
@@ -45,10 +45,10 @@ loop-i-preserved c =
     let less = c.loop-i-test.true in
     let first = c.first_step.ensures.0 in
     let next : Edges → Type 0 = λ sub. Follows c.args.em.now c.args.q c.args.e sub (loop.i + 1) in
-    ⊎_elim
-    (λ w. subst next (sym (w.2 ∙ w.1.ensures)) (follows_on c.requires.paths loop.invariant less c.requires.q_nonzero.0 (sym first ∙ w.0.taken)))
-    (λ w. subst next (sym w.1) (follows_past c.requires.paths loop.invariant less (λ e. w.0.left (first ∙ e))))
-    c.if-first_step-q.branch
+    elim c.if-first_step-q.branch [
+      | then-first_step-q w ↦ subst next (sym (w.sub-is ∙ w.pushed-sub.ensures)) (follows_on c.requires.paths loop.invariant less c.requires.q_nonzero.0 (sym first ∙ w.if-first_step-q.true))
+      | else-first_step-q w ↦ subst next (sym w.sub-is) (follows_past c.requires.paths loop.invariant less (λ e. w.if-first_step-q.false (first ∙ e)))
+    ]
 
 pub returns : goal.returns
 returns c =

@@ -9,7 +9,7 @@ use Rattle.growing.proofs.Following.{Follows, follows_none, follows_reads, follo
 use Rattle.growing.proofs.beyond.Given as goal
 
 abbrev pub invariant-loop-i : goal.invariant-loop-i
-invariant-loop-i l = Follows l.em l.q (record { l.count = l.count; l.next = l.next; l.left = l.left; l.hole = l.hole }) l.sub l.i
+invariant-loop-i l = Follows l.em l.q (record { count = l.count; next = l.next; left = l.left; hole = l.hole }) l.sub l.i
 
 abbrev pub decreases-loop-i : goal.decreases-loop-i
 decreases-loop-i l = l.count - l.i

@@ -25,7 +25,7 @@ pub returns-then-t-eq-NO_CHILD : goal.returns-then-t-eq-NO_CHILD
 returns-then-t-eq-NO_CHILD c = (behind-members c.args.s c.args.count c.args.t c.requires.bounded c.requires.s_lt_max_types.0 c.requires.s_lt_max_types.1 c.if-t-eq-NO_CHILD.true, c.requires.s_lt_max_types.1)
 
 pub index_of-requires : goal.index_of-requires
-index_of-requires c = let all = c.requires in record { s_lt_max_types = all.0; bounded = all.1 }
+index_of-requires c = c.requires
 
 pub returns : goal.returns
 returns c = (among-members _ _ c.if-t-eq-NO_CHILD.false c.index_of.ensures.0, c.index_of.ensures.1)

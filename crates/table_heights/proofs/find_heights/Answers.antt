@@ -14,7 +14,7 @@ pub settle_heights-requires : goal.settle_heights-requires
 settle_heights-requires c =
     let begun = c.begin_heights in
     let bounded = bounded_elsewhere (omega arith) (omega arith) begun.ensures.0 c.requires in
-    (bounded, first_above begun.new.0 bounded (λ t low. rw (types_elsewhere (omega arith) (omega arith) begun.ensures.0) (begun.ensures.1 t low)))
+    (bounded, first_above begun.new.table bounded (λ t low. rw (types_elsewhere (omega arith) (omega arith) begun.ensures.0) (begun.ensures.1 t low)))
 
 pub returns : goal.returns
 returns c =
@@ -22,5 +22,5 @@ returns c =
     let settled = c.settle_heights.ensures in
     record {
       elsewhere = elsewhere_both begun settled.elsewhere;
-      found = subst (λ T. HoldsHeights T (heights_of c.settle_heights.new.0)) (table_elsewhere (omega arith) (omega arith) begun) settled.found;
+      found = subst (λ T. HoldsHeights T (heights_of c.settle_heights.new.table)) (table_elsewhere (omega arith) (omega arith) begun) settled.found;
     }

@@ -7,6 +7,7 @@ use Rattle.loaded_table.specs.Loaded.{heights_of}
 use Rattle.table_heights.specs.Heights.{word, finite_bits}
 use Rattle.table_heights.proofs.Words.{bits_set, bits_clear}
 use Rattle.table_heights.proofs.finite_bits.Goals as goal
+use Rattle.table_heights.proofs.finite_bits.Goals.{then-h-all, else-h-all}
 
 pub loop-t-init : goal.loop-t-init
 unfolding word finite_bits
@@ -34,10 +35,10 @@ loop-t-preserved c =
     let is = c.height-h.ensures.0 in
     let within : c.loop-t.t < length hs = omega (arith, c.requires.0, c.requires.1) in
     let e : c.if-h-all.bits ≡ word (finite_bits c.args.all (take (c.loop-t.t + 1) hs)) =
-    ⊎_elim
-    (λ w. w.1 ∙ bits_set c.args.all hs c.loop-t.t c.loop-t.bits (omega (arith, c.requires.0)) within (omega (arith, is, w.0.taken)) c.loop-t.invariant.1)
-    (λ w. w.1 ∙ bits_clear c.args.all hs c.loop-t.t c.loop-t.bits within (omega (arith, is, w.0.left)) c.loop-t.invariant.1)
-    c.if-h-all.branch in
+    elim c.if-h-all.branch [
+      | then-h-all w ↦ w.bits-is ∙ bits_set c.args.all hs c.loop-t.t c.loop-t.bits (omega (arith, c.requires.0)) within (omega (arith, is, w.if-h-all.true)) c.loop-t.invariant.1
+      | else-h-all w ↦ w.bits-is ∙ bits_clear c.args.all hs c.loop-t.t c.loop-t.bits within (omega (arith, is, w.if-h-all.false)) c.loop-t.invariant.1
+    ] in
     (omega arith, e)
 
 pub returns : goal.returns

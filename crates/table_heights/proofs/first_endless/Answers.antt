@@ -7,9 +7,10 @@ use lib.Count.{trailing_le}
 use Rattle.loaded_table.specs.Loaded.{heights_of, table_by, section_long, length_of_lem}
 use Rattle.table_heights.proofs.Words.{endless_fails, endless_passes}
 use Rattle.table_heights.proofs.first_endless.Goals as goal
+use Rattle.table_heights.proofs.first_endless.Goals.{Start}
 
 -- the heights have all their places
-long : (c : goal.Start) → length (heights_of c.args.table.now) ≡ 64
+long : (c : Start) → length (heights_of c.args.table.now) ≡ 64
 long c = section_long 128 64 c.args.table.now (omega (arith, c.requires.0.size))
 
 pub types-all-requires : goal.types-all-requires

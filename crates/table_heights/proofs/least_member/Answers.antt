@@ -9,6 +9,7 @@ use Rattle.model.specs.Definitions.Heights.{height_in, least_member}
 use Rattle.table_heights.specs.Sections.{members_at, members_long, member_is}
 use Rattle.table_heights.proofs.Members.{lesser, lesser_second, lesser_first, least_start, least_none, least_turn, least_end}
 use Rattle.table_heights.proofs.least_member.Goals as goal
+use Rattle.table_heights.proofs.least_member.Goals.{then-height_at, else-height_at}
 
 pub count-many-requires : goal.count-many-requires
 count-many-requires c = omega (arith, c.requires.1, c.requires.0.few_types)
@@ -57,10 +58,10 @@ loop-i-preserved c =
     let new = c.height_at.ensures.0 ∙ ap (height_in hs) is in
     let old = c.height_at-in-loop-i.ensures.0 in
     let e : c.if-height_at.best ≡ lesser hs c.loop-i.best m =
-    ⊎_elim
-    (λ w. w.1 ∙ is ∙ sym (lesser_second hs c.loop-i.best m (omega (arith, w.0.taken, old, new))))
-    (λ w. w.1 ∙ sym (lesser_first hs c.loop-i.best m (omega (arith, w.0.left, old, new))))
-    c.if-height_at.branch in
+    elim c.if-height_at.branch [
+      | then-height_at w ↦ w.best-is ∙ is ∙ sym (lesser_second hs c.loop-i.best m (omega (arith, w.if-height_at.true, old, new)))
+      | else-height_at w ↦ w.best-is ∙ sym (lesser_first hs c.loop-i.best m (omega (arith, w.if-height_at.false, old, new)))
+    ] in
     (omega arith, least_turn hs ms c.loop-i.i c.loop-i.best c.if-height_at.best _ (rw (members_long _ _ c.requires c.count-many.ensures.0) here) e c.loop-i.invariant.1)
 
 pub returns : goal.returns

@@ -7,15 +7,16 @@ use Rattle.table_heights.specs.Sections.{Elsewhere, elsewhere_same, elsewhere_bo
 use Rattle.table_heights.specs.Heights.{HoldsRound}
 use Rattle.table_heights.proofs.Rounds.{SettledTo, settled_none, settled_more, settled_last, settled_all}
 use Rattle.table_heights.proofs.settle_heights.Goals as goal
+use Rattle.table_heights.proofs.settle_heights.Goals.{After-types-all, After-height_round}
 
-few : (c : goal.After-types-all) → length (table_by c.args.table.now) ≤ 64
+few : (c : After-types-all) → length (table_by c.args.table.now) ≤ 64
 few c = omega (arith, length_of_lem c.args.table.now, c.requires.0.few_types)
 
 -- a round of the table before it is one of the first table
-round : (c : goal.After-height_round)
-    → HoldsRound (table_by c.args.table.now) (heights_of c.loop-n.table) (heights_of c.height_round.new.0) c.height_round.result
+round : (c : After-height_round)
+    → HoldsRound (table_by c.args.table.now) (heights_of c.loop-n.table) (heights_of c.height_round.new.table) c.height_round.result
 round c =
-    subst (λ T. HoldsRound T (heights_of c.loop-n.table) (heights_of c.height_round.new.0) c.height_round.result) (table_elsewhere (omega arith) (omega arith) c.loop-n.invariant.1) c.height_round.ensures.1
+    subst (λ T. HoldsRound T (heights_of c.loop-n.table) (heights_of c.height_round.new.table) c.height_round.result) (table_elsewhere (omega arith) (omega arith) c.loop-n.invariant.1) c.height_round.ensures.1
 
 pub types-all-requires : goal.types-all-requires
 types-all-requires c = tt

@@ -7,13 +7,13 @@ use Rattle.unreadable.proofs.Going.{Going, going_start, going_shows, going_ends,
 use Rattle.unreadable.proofs.is_broken.Goals as goal
 
 pub begin-cursor-requires : goal.begin-cursor-requires
-begin-cursor-requires c = record { image = c.requires }
+begin-cursor-requires c = c.requires
 
 pub loop-m-init : goal.loop-m-init
-loop-m-init c = going_start _ c.requires.content c.begin-cursor.ensures (λ k a. refl)
+loop-m-init c = going_start _ c.requires.image.content c.begin-cursor.ensures (λ k a. refl)
 
 pub next-part-requires : goal.next-part-requires
-next-part-requires c = record { image = c.requires; left = going_shows c.loop-m.invariant }
+next-part-requires c = record { image = c.requires.image; left = going_shows c.loop-m.invariant }
 
 pub loop-m-smaller : goal.loop-m-smaller
 loop-m-smaller c = going_less c.loop-m.invariant (rw c.in-One.is at c.next-part.ensures)

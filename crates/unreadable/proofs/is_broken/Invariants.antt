@@ -9,7 +9,7 @@ use Rattle.unreadable.proofs.is_broken.Given as goal
 
 abbrev pub invariant-loop-m : goal.invariant-loop-m
 invariant-loop-m l =
-    Going l.source l.target l.map l.em l.image.sigma l.tr l.image.from (λ l parts. unbroken (child_parts (setting_in l.source l.target l.map l.em) l.image.sigma l) ≡ unbroken parts) l.cursor
+    Going l.source l.target l.map l.em l.image.sigma l.tr l.image.from (λ k parts. unbroken (child_parts (setting_in l.source l.target l.map l.em) l.image.sigma k) ≡ unbroken parts) l.cursor
 
 abbrev pub decreases-loop-m : goal.decreases-loop-m
 decreases-loop-m l = cursor_weight l.tr l.cursor

@@ -7,10 +7,11 @@ use Rattle.model.specs.Definitions.Basics.{is_there}
 use Rattle.embedding_clash.specs.Ready.{map_of}
 use Rattle.embedding_clash.proofs.Arrays.{type_at}
 use Rattle.embedding_clash.proofs.Searching.{clashes_found}
+use Rattle.embedding_clash.proofs.clash.clashes_before.Goals.{Start}
 use Rattle.embedding_clash.proofs.clash.clashes_before.Goals as goal
 
 -- the edge is one of the type's
-inside : (c : goal.Start) → let a = c.args in a.i ≤ length (map_of a.source.now a.em.now a.map.now a.s).edges
+inside : (c : Start) → let a = c.args in a.i ≤ length (map_of a.source.now a.em.now a.map.now a.s).edges
 inside c = omega (arith, c.requires.edge_exists, (type_at c.requires.ready _ c.requires.type_exists).edges_due_lem)
 
 pub returns-in-Nothing : goal.returns-in-Nothing

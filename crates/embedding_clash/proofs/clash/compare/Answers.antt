@@ -7,25 +7,26 @@ use lib.ListN.{length, get_or, take, drop}
 use Rattle.loaded_table.specs.Loaded.{table_by}
 use Rattle.embedding_clash.proofs.Following.{StepAt, step_at, goes_on, rest_cons}
 use Rattle.embedding_clash.proofs.ClashLaws.{Together, together_on, differ, at_end}
+use Rattle.embedding_clash.proofs.clash.compare.Goals.{In-loop-i}
 use Rattle.embedding_clash.proofs.clash.compare.Goals as goal
 
 -- the steps at hand, and what is left behind them
-at_step : (c : goal.In-loop-i)
+at_step : (c : In-loop-i)
     → let a = c.args in
-    Together (table_by a.target.now) a.from (take a.la a.t3) (take a.lb a.t5) c.loop-i.t c.loop-i.i
-    (get_or a.t3 c.loop-i.i 0 ∷ drop (c.loop-i.i + 1) (take a.la a.t3))
-    (get_or a.t5 c.loop-i.i 0 ∷ drop (c.loop-i.i + 1) (take a.lb a.t5))
+    Together (table_by a.target.now) a.from (take a.la a.a) (take a.lb a.b) c.loop-i.t c.loop-i.i
+    (get_or a.a c.loop-i.i 0 ∷ drop (c.loop-i.i + 1) (take a.la a.a))
+    (get_or a.b c.loop-i.i 0 ∷ drop (c.loop-i.i + 1) (take a.lb a.b))
 at_step c =
     let a = c.args in
     let first : c.loop-i.i < a.la = omega (arith, c.lesser-n.ensures) in
     let second : c.loop-i.i < a.lb = omega (arith, c.lesser-n.ensures) in
-    let long : a.la ≤ length a.t3 = omega arith in
-    let long2 : a.lb ≤ length a.t5 = omega arith in
+    let long : a.la ≤ length a.a = omega arith in
+    let long2 : a.lb ≤ length a.b = omega arith in
     rw (rest_cons _ _ _ first long, rest_cons _ _ _ second long2) at c.loop-i.invariant.1
 
 -- where the step is kept
-here : (c : goal.In-loop-i)
-    → StepAt c.args.target.now c.loop-i.t (get_or c.args.t3 c.loop-i.i 0)
+here : (c : In-loop-i)
+    → StepAt c.args.target.now c.loop-i.t (get_or c.args.a c.loop-i.i 0)
 here c = step_at (record { bounded = c.requires.walkable.bounded; exists = (goes_on (at_step c).walks).exists })
 
 pub lesser-n-requires : goal.lesser-n-requires

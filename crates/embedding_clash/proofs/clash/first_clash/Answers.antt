@@ -10,32 +10,29 @@ use Rattle.embedding_clash.specs.Ready.{map_of}
 use Rattle.embedding_clash.proofs.Arrays.{TypeAt, EdgeAt, type_at, edge_at}
 use Rattle.embedding_clash.proofs.Searching.{search_starts, search_passes, search_finds, search_ends}
 use Rattle.embedding_clash.proofs.ClashLaws.{PairCompared, pair_compared, pair_free, pair_found}
+use Rattle.embedding_clash.proofs.clash.first_clash.Goals.{Start, In-loop-j, After-why}
 use Rattle.embedding_clash.proofs.clash.first_clash.Goals as goal
 
 -- what is known of the source type, and of each of its edges
-type_here : (c : goal.Start) → TypeAt c.args.source.now c.args.target.now c.args.em.now c.args.map.now c.args.s
+type_here : (c : Start) → TypeAt c.args.source.now c.args.target.now c.args.em.now c.args.map.now c.args.s
 type_here c = type_at c.requires.ready _ c.requires.type_exists
 
-edge_here : (c : goal.Start) (j : ℕ) → j < edges_of (kind_of (table_by c.args.source.now) c.args.s)
+edge_here : (c : Start) (j : ℕ) → j < edges_of (kind_of (table_by c.args.source.now) c.args.s)
     → EdgeAt c.args.source.now c.args.target.now c.args.em.now c.args.map.now c.args.s j
 edge_here c j h = edge_at c.requires.ready _ j c.requires.type_exists h
 
-few_before : (c : goal.Start) → c.args.i < 16
+few_before : (c : Start) → c.args.i < 16
 few_before c = omega (arith, c.requires.edge_exists, (type_here c).at_most)
 
 -- the edge at hand is one of the type's
-inside : (c : goal.In-loop-j) → c.loop-j.j < edges_of (kind_of (table_by c.args.source.now) c.args.s)
+inside : (c : In-loop-j) → c.loop-j.j < edges_of (kind_of (table_by c.args.source.now) c.args.s)
 inside c = omega (arith, c.requires.edge_exists, c.loop-j-test.true)
 
 -- what was found of the two paths is what the model says of the two edges
-compared : (c : goal.After-why) → PairCompared c.requires.ready _ _ c.loop-j.j c.requires.type_exists c.requires.edge_exists (inside c) c.compare-parting.result c.why.result
-compared c =
-    pair_compared c.requires.ready _ _ _ c.requires.type_exists c.requires.edge_exists (inside c) c.kind-kind.ensures.0 c.target-from.ensures.0
-    c.steps-la.ensures.0 (c.requires.stored.path_at_lem _ (inside c)) c.steps-lb.ensures.0 (c.requires.stored.path_at_lem _ c.requires.edge_exists) c.compare-parting.ensures c.why.ensures
-
--- the turn in which a clash is found
-abbrev foundIn : goal.In-Clashing → goal.In-loop-j
-foundIn c = c
+compared : (c : After-why) (inside : c.loop-j.j < edges_of (kind_of (table_by c.args.source.now) c.args.s)) → PairCompared c.requires.ready _ _ c.loop-j.j c.requires.type_exists c.requires.edge_exists inside c.compare-parting.result c.why.result
+compared c inside =
+    pair_compared c.requires.ready _ _ _ c.requires.type_exists c.requires.edge_exists inside c.kind-kind.ensures.0 c.target-from.ensures.0
+    c.steps-la.ensures.0 (c.requires.stored.path_at_lem _ inside) c.steps-lb.ensures.0 (c.requires.stored.path_at_lem _ c.requires.edge_exists) c.compare-parting.ensures c.why.ensures
 
 pub kind-kind-requires : goal.kind-kind-requires
 unfolding clash_before
@@ -90,7 +87,7 @@ unfolding clash_before
 steps-la-requires c = (edge_here (goal.at.steps-la-requires c).Start _ (inside (goal.at.steps-la-requires c).In-loop-j)).inside
 
 pub compare-parting-requires : goal.compare-parting-requires
-compare-parting-requires c = record { walkable = rw (c.steps-la.ensures.0, c.requires.stored.path_at_lem _ (inside (goal.at.compare-parting-requires c).In-loop-j), c.target-from.ensures.0) (edge_here (goal.at.compare-parting-requires c).Start _ (inside (goal.at.compare-parting-requires c).In-loop-j)).walkable; lb_le_max_steps = (rw c.steps-lb.ensures.0 (edge_here (goal.at.compare-parting-requires c).Start _ c.requires.edge_exists).short, ) }
+compare-parting-requires c = record { walkable = rw (c.steps-la.ensures.0, c.requires.stored.path_at_lem _ (inside (goal.at.compare-parting-requires c).In-loop-j), c.target-from.ensures.0) (edge_here (goal.at.compare-parting-requires c).Start _ (inside (goal.at.compare-parting-requires c).In-loop-j)).walkable; lb_le_max_steps = rw c.steps-lb.ensures.0 (edge_here (goal.at.compare-parting-requires c).Start _ c.requires.edge_exists).short }
 
 pub why-requires : goal.why-requires
 unfolding clash_before
@@ -106,18 +103,17 @@ loop-j-smaller c = omega arith
 
 pub loop-j-preserved : goal.loop-j-preserved
 loop-j-preserved c =
-    (omega arith, search_passes _ _ _ c.loop-j-test.taken (pair_free c.requires.ready _ _ _ c.requires.type_exists c.requires.edge_exists (inside (goal.at.loop-j-preserved c).In-loop-j) (compared (goal.at.loop-j-preserved c).After-why) c.in-Free.is) ∙ c.loop-j.invariant.1)
+    (omega arith, search_passes _ _ _ c.loop-j-test.true (pair_free c.requires.ready _ _ _ c.requires.type_exists c.requires.edge_exists (inside (goal.at.loop-j-preserved c).In-loop-j) (compared (goal.at.loop-j-preserved c).After-why (inside (goal.at.loop-j-preserved c).In-loop-j)) c.in-Free.is) ∙ c.loop-j.invariant.1)
 
 pub clash_at-requires : goal.clash_at-requires
 clash_at-requires c =
-    let start = start_of (foundIn c) in
-    ((edge_here start _ start.pre.edge_exists).inside, omega (arith, inside (foundIn c), (type_here start).at_most))
+    let start = (goal.at.clash_at-requires c).Start in
+    ((edge_here start _ c.requires.edge_exists).inside, omega (arith, inside (goal.at.clash_at-requires c).In-loop-j, (type_here start).at_most))
 
 pub returns-in-Clashing : goal.returns-in-Clashing
 returns-in-Clashing c =
-    let turn = foundIn (goal.at.returns-in-Clashing c).In-Clashing in
-    let pre = turn.pre in
-    sym (search_finds _ _ _ turn.loop-test.taken (pair_found pre.ready _ _ _ pre.type_exists pre.edge_exists (inside turn) c.clash_at.result (compared (goal.at.returns-in-Clashing c).After-why) c.in-Clashing.is c.clash_at.ensures)) ∙ turn.before.loop.inv.1
+    let pre = c.requires in
+    sym (search_finds _ _ _ c.loop-j-test.true (pair_found pre.ready _ _ _ pre.type_exists pre.edge_exists (inside (goal.at.returns-in-Clashing c).In-loop-j) c.clash_at.result (compared (goal.at.returns-in-Clashing c).After-why (inside (goal.at.returns-in-Clashing c).In-loop-j)) c.in-Clashing.is c.clash_at.ensures)) ∙ c.loop-j.invariant.1
 
 pub returns : goal.returns
 unfolding clash_before

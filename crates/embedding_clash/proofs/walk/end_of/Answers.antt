@@ -5,15 +5,16 @@ use mathlib.Core.List.{◌∷◌}
 use lib.ListN.{length, get_or, take, drop}
 use Rattle.loaded_table.specs.Loaded.{table_by}
 use Rattle.embedding_clash.proofs.Following.{OnTheWay, way_on, way_ends, goes_on, rest_cons, rest_none}
+use Rattle.embedding_clash.proofs.walk.end_of.Goals.{In-loop-i}
 use Rattle.embedding_clash.proofs.walk.end_of.Goals as goal
 
 -- the step at hand, and what is left behind it
-at_step : (c : goal.In-loop-i)
+at_step : (c : In-loop-i)
     → OnTheWay (table_by c.args.target.now)
-    c.args.from (take c.args.count c.args.t3) c.loop-i.t
-    (get_or c.args.t3 c.loop-i.i 0 ∷ drop (c.loop-i.i + 1) (take c.args.count c.args.t3))
+    c.args.from (take c.args.count c.args.path) c.loop-i.t
+    (get_or c.args.path c.loop-i.i 0 ∷ drop (c.loop-i.i + 1) (take c.args.count c.args.path))
 at_step c =
-    let long : c.args.count ≤ length c.args.t3 = omega arith in
+    let long : c.args.count ≤ length c.args.path = omega arith in
     rw (rest_cons _ _ _ c.loop-i-test.true long) at c.loop-i.invariant.1
 
 pub loop-i-init : goal.loop-i-init

@@ -9,7 +9,7 @@ use borrow.Author.Rules.{rules}
 use Rattle.embedding_operands.proofs.operands.path_step.Goals as goal
 
 pub step_from-requires : goal.step_from-requires
-step_from-requires c = let all = c.requires in record { bounded = all.0; t_bound = all.1 }
+step_from-requires c = record { bounded = c.requires.bounded; t_bound = c.requires.here_bound }
 
 pub returns-then-t-types : goal.returns-then-t-types
 returns-then-t-types c = rw c.in-MapsTo.is (maps_known (table_by c.args.target.now) _ _ _ (omega (arith, c.if-t-types.true, c.types.ensures.0, length_of_lem c.args.target.now)))
