@@ -120,7 +120,7 @@ run-returns-then-not-one t c =
 
 pub run-loop-i-preserved : goal.run-loop-i-preserved
 run-loop-i-preserved t c =
-    let compared = run-compared t (goal.at.run-loop-i-preserved t c).run-Joined-x in
+    let compared = run-compared t (goal.at.run-loop-i-preserved t c).Joined-x in
     (row_on c.loop-i.invariant.0 c.loop-i-test.true (compare-turn (goes _ c.if-not-one.false)) compared.0, compared.1)
 
 pub run-returns : goal.run-returns
