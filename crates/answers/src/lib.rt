@@ -3,7 +3,6 @@
 
 #![tactic(auto)]
 
-
 // What a check of a whole document finds: nothing wrong, or the lowest place that is.
 #[derive(Drop)]
 pub enum Verdict {

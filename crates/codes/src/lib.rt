@@ -3,7 +3,6 @@
 
 #![tactic(auto)]
 
-
 // No document is longer, in bytes.
 pub const MAX_BYTES: usize = 60000;
 

@@ -10,13 +10,13 @@ use Rattle.embedding_checks.proofs.edge_right.Goals as goal
 pub returns-then-not-ends_right : goal.returns-then-not-ends_right
 returns-then-not-ends_right c =
     let a = c.args in
-    end_wrong a.source.now a.target.now a.em.now a.map.now _ _ c.in-All.is c.ends_right-in-All.ensures c.if-not-ends_right.true
+    end_wrong a.source.now a.target.now a.em.now a.map.now _ _ c.in-All.is c.ends_right-in-All.ensures (ap not c.if-not-ends_right.true)
 
 -- the end is right and a step is wrong
 pub returns-then-not-steps_right : goal.returns-then-not-steps_right
 returns-then-not-steps_right c =
     let a = c.args in
-    step-wrong a.source.now a.target.now a.em.now a.map.now _ _ c.in-All.is c.ends_right-in-All.ensures c.if-not-ends_right.false c.steps_right-in-All.ensures c.if-not-steps_right.true
+    step-wrong a.source.now a.target.now a.em.now a.map.now _ _ c.in-All.is c.ends_right-in-All.ensures (ap not c.if-not-ends_right.false) c.steps_right-in-All.ensures (ap not c.if-not-steps_right.true)
 
 pub returns-in-Ends : goal.returns-in-Ends
 unfolding edge_right
@@ -34,4 +34,4 @@ returns-in-Clashes c = rw c.in-Clashes.is (ap not c.clashes_before.ensures)
 pub returns-else-not-steps_right : goal.returns-else-not-steps_right
 returns-else-not-steps_right c =
     let a = c.args in
-    clash-decides a.source.now a.target.now a.em.now a.map.now _ _ c.in-All.is c.ends_right-in-All.ensures c.if-not-ends_right.false c.steps_right-in-All.ensures c.if-not-steps_right.false c.clashes_before-in-All.ensures
+    clash-decides a.source.now a.target.now a.em.now a.map.now _ _ c.in-All.is c.ends_right-in-All.ensures (ap not c.if-not-ends_right.false) c.steps_right-in-All.ensures (ap not c.if-not-steps_right.false) c.clashes_before-in-All.ensures

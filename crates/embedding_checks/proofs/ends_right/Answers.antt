@@ -29,7 +29,11 @@ end_of-end-requires c = walkable_here c.requires c.target-from.ensures.0 c.steps
 
 pub right_end-requires : goal.right_end-requires
 right_end-requires c =
-    let ends = c.end_of.ensures in
+    let ends = c.end_of-end.ensures in
     let from-there = c.target-from.ensures.0 ∙ sym (type_here c.requires).target_is in
     let steps-there = same_steps_lem c.requires.ready _ _ c.requires.type_exists c.requires.edge_exists c.steps-count.ensures.0 (path_here c.requires) in
     record { checkable = c.requires.ready; s_bound = c.requires.type_exists; i_bound = c.requires.edge_exists; end_value = rw (from-there, steps-there) at ends }
+
+pub returns : goal.returns
+unfolding edge_right
+returns c = c.right_end.ensures

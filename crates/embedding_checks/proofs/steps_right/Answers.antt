@@ -1,5 +1,6 @@
+use mathlib.Core.Bool.{not}
 -- Check 9 of an edge, on its path and, for an optional choice, on the type's first one.
-use mathlib.Core.Path.{◌≡◌, sym, ◌∙◌}
+use mathlib.Core.Path.{ap, ◌≡◌, sym, ◌∙◌}
 use native.Mathlib.Omega.{arith}
 use borrow.Author.Tests.{eq-eqb, ne_eqb}
 use Rattle.model.specs.Definitions.Table.{kind_of}
@@ -13,10 +14,11 @@ use Rattle.embedding_ends.proofs.StepLaws.{kinds_right}
 use Rattle.embedding_checks.proofs.StepsRight.{kinds_wrong, nothing_more, first-decides}
 use borrow.Author.Rules.{rules}
 use Rattle.embedding_checks.specs.Tests.{edge_right}
+use Rattle.embedding_checks.proofs.steps_right.Goals.{After-right_kinds}
 use Rattle.embedding_checks.proofs.steps_right.Goals as goal
 
 -- what was found of them
-found : (c : goal.After-right_kinds)
+found : (c : After-right_kinds)
     → let a = c.args in
     c.right_kinds.result
     ≡ right_steps (kind_of (table_by a.source.now) a.s)
@@ -42,11 +44,11 @@ kinds_left-left-requires c = walkable_here c.requires c.target-from.ensures.0 c.
 
 pub returns-then-not-right_kinds : goal.returns-then-not-right_kinds
 unfolding edge_right
-returns-then-not-right_kinds c = kinds_wrong _ _ _ _ (found (goal.at.returns-then-not-right_kinds c).After-right_kinds) c.if-not-right_kinds.true
+returns-then-not-right_kinds c = kinds_wrong _ _ _ _ (found (goal.at.returns-then-not-right_kinds c).After-right_kinds) (ap not c.if-not-right_kinds.true)
 
 pub returns-then-kind-ne-OPTIONAL : goal.returns-then-kind-ne-OPTIONAL
 unfolding edge_right
-returns-then-kind-ne-OPTIONAL c = nothing_more _ _ _ _ (found (goal.at.returns-then-kind-ne-OPTIONAL c).After-right_kinds) c.if-not-right_kinds.false (optional_here c.requires c.kind-kind.ensures.0 ∙ ne_eqb _ 4 c.if-kind-ne-OPTIONAL.true)
+returns-then-kind-ne-OPTIONAL c = nothing_more _ _ _ _ (found (goal.at.returns-then-kind-ne-OPTIONAL c).After-right_kinds) (ap not c.if-not-right_kinds.false) (optional_here c.requires c.kind-kind.ensures.0 ∙ ne_eqb _ 4 c.if-kind-ne-OPTIONAL.true)
 
 pub bounds-paths-0 : goal.bounds-paths-0
 bounds-paths-0 c = omega arith
@@ -69,4 +71,4 @@ returns c =
     let from-there = c.target-from.ensures.0 ∙ sym (type_here c.requires).target_is in
     let first_there = same_steps_lem c.requires.ready _ _ c.requires.type_exists (first_here c.requires).edge_exists (count_first c.requires c.steps-steps.ensures.0) (path_here (first_here c.requires)) in
     let steps-there = same_steps_lem c.requires.ready _ _ c.requires.type_exists c.requires.edge_exists c.steps-count.ensures.0 (path_here c.requires) in
-    first-decides _ _ _ _ (found (goal.at.returns c).After-right_kinds) c.if-not-right_kinds.false (optional_here c.requires c.kind-kind.ensures.0 ∙ eq-eqb _ 4 c.if-kind-ne-OPTIONAL.false) (rw (from-there, first_there, steps-there) at agreed)
+    first-decides _ _ _ _ (found (goal.at.returns c).After-right_kinds) (ap not c.if-not-right_kinds.false) (optional_here c.requires c.kind-kind.ensures.0 ∙ eq-eqb _ 4 c.if-kind-ne-OPTIONAL.false) (rw (from-there, first_there, steps-there) at agreed)

@@ -5,16 +5,17 @@ use Rattle.model.specs.Definitions.Basics.{passes}
 use Rattle.model.specs.Definitions.EmbeddingChecks.{embedding_form, embedding_limits, embedding_operands}
 use Rattle.embedding_judge.proofs.Checks.{verdict_is, length_refused, form_refused, limit_refused, operand_refused, paths_ready, paths-decide}
 use borrow.Author.Rules.{rules}
+use Rattle.embedding_judge.proofs.judge.Goals.{In_default, In_default-limited, In_default-right}
 use Rattle.embedding_judge.proofs.judge.Goals as goal
 
 -- where check 2, check 3 and check 4 have passed
-form_passes : (c : goal.In_default) → embedding_form (table_by c.args.source.now) c.args.em.now ≡ passes
+form_passes : (c : In_default) → embedding_form (table_by c.args.source.now) c.args.em.now ≡ passes
 form_passes c = verdict_is _ c.form-formed.ensures _ c.in_default.is refl
 
-limits_pass : (c : goal.In_default-limited) → embedding_limits c.args.em.now ≡ passes
+limits_pass : (c : In_default-limited) → embedding_limits c.args.em.now ≡ passes
 limits_pass c = verdict_is _ c.limits-limited.ensures _ c.in_default-limited.is refl
 
-operands_pass : (c : goal.In_default-right) → embedding_operands (table_by c.args.target.now) c.args.em.now ≡ passes
+operands_pass : (c : In_default-right) → embedding_operands (table_by c.args.target.now) c.args.em.now ≡ passes
 operands_pass c = verdict_is _ c.operands-right.ensures _ c.in_default-right.is refl
 
 pub returns-then-em-gt-MAX_BYTES : goal.returns-then-em-gt-MAX_BYTES

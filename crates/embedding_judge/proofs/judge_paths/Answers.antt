@@ -1,7 +1,6 @@
 -- Check 7, then all others at once or one after the other.
 use mathlib.Core.Path.{◌≡◌, refl, sym, ◌∙◌}
 use mathlib.Core.Bool.{true}
-use borrow.Author.Tests.{not-true, not-false}
 use Rattle.loaded_table.specs.Loaded.{table_by}
 use Rattle.loaded_embedding.specs.Loaded.{embedding_by}
 use Rattle.model.specs.Definitions.EmbeddingChecks.{root_to_root}
@@ -10,14 +9,15 @@ use Rattle.embedding_checks.specs.declared.Check.TheVariants.{Ends, Steps, Clash
 use Rattle.embedding_checks.proofs.Each.{all_right}
 use Rattle.embedding_judge.proofs.Checks.{verdict_is, root_moved, root_kept, paths_right}
 use borrow.Author.Rules.{rules}
+use Rattle.embedding_judge.proofs.judge_paths.Goals.{Else-not-root_to_root}
 use Rattle.embedding_judge.proofs.judge_paths.Goals as goal
 
 -- where check 7 has passed
-kept : (c : goal.Else-not-root_to_root) → let a = c.args in root_to_root (embedding_by a.em.now (table_by a.source.now) a.map.now) ≡ true
-kept c = sym (c.root_to_root.ensures c.args.em.now (table_by c.args.source.now) c.requires.source_formed.has_root) ∙ not-false _ c.if-not-root_to_root.false
+kept : (c : Else-not-root_to_root) → let a = c.args in root_to_root (embedding_by a.em.now (table_by a.source.now) a.map.now) ≡ true
+kept c = sym (c.root_to_root.ensures c.args.em.now (table_by c.args.source.now) c.requires.source_formed.has_root) ∙ c.if-not-root_to_root.false
 
 pub returns-then-not-root_to_root : goal.returns-then-not-root_to_root
-returns-then-not-root_to_root c = root_moved _ _ _ (sym (c.root_to_root.ensures c.args.em.now (table_by c.args.source.now) c.requires.source_formed.has_root) ∙ not-true _ c.if-not-root_to_root.true)
+returns-then-not-root_to_root c = root_moved _ _ _ (sym (c.root_to_root.ensures c.args.em.now (table_by c.args.source.now) c.requires.source_formed.has_root) ∙ c.if-not-root_to_root.true)
 
 -- all pass at once
 pub returns-in-Passes : goal.returns-in-Passes

@@ -3,11 +3,11 @@ use mathlib.Core.Path.{◌≡◌, sym}
 use native.Mathlib.Omega.{arith}
 use lib.ListN.{length, take}
 use lib.Seq.{length-take-le}
-use borrow.Author.Rules.{rules}
 use Rattle.lines.proofs.kept_line.Goals as goal
+use Rattle.lines.proofs.kept_line.Goals.{After-decimal-text}
 
 -- there are as many digits as are counted
-counted : (c : goal.After-decimal-text) → c.decimal-text.result.count ≡ length (take c.decimal-text.result.count c.decimal-text.result.bytes)
+counted : (c : After-decimal-text) → c.decimal-text.result.count ≡ length (take c.decimal-text.result.count c.decimal-text.result.bytes)
 counted c = sym (length-take-le _ _ c.decimal-text.ensures.bounded.0)
 
 pub decimal-text-requires : goal.decimal-text-requires

@@ -22,7 +22,9 @@ overflow_add-n c = search (rules, bounds-out-next c)
 
 pub slice_bounds-result-end : goal.slice_bounds-result-end
 slice_bounds-result-end c =
-    sym (length-take-le _ _ (omega (arith, bounds-out-next c, length-set c.put_numbers-next.new.0 c.put_numbers-next.result 0x0A)))
+    let args = c.args in
+    let room = room_for_end args.word.now args.values.now _ _ _ c.copy-behind.ensures c.requires _ _ c.put_numbers-next.ensures in
+    sym (length-take-le _ _ (omega (arith, room, length-set c.put_numbers-next.new.out c.put_numbers-next.result 0x0A)))
 
 pub returns : goal.returns
 returns c =

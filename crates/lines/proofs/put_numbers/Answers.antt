@@ -1,14 +1,15 @@
-use Prim.Native.Nat.{◌+◌, ◌-◌, ◌≤◌}
+use Prim.Native.Nat.{◌+◌, ◌≤◌}
 use native.Mathlib.Omega.{arith}
 use lib.ListN.{length}
 use borrow.Author.Rules.{rules}
 use Rattle.writing.specs.Laws.{writes-length}
 use Rattle.lines.specs.Lines.{number_bytes}
-use Rattle.lines.proofs.Numbers.{Numbered, none_written, room_for_one, room_for_digits, one_more_written, all_written}
+use Rattle.lines.proofs.Numbers.{none_written, room_for_one, room_for_digits, one_more_written, all_written}
 use Rattle.lines.proofs.put_numbers.Goals as goal
+use Rattle.lines.proofs.put_numbers.Goals.{In-loop-i}
 
 -- in a turn there is room for a blank and a number more
-room : (turn : goal.In-loop-i) → turn.loop-i.next + number_bytes ≤ length turn.loop-i.out
+room : (turn : In-loop-i) → turn.loop-i.next + number_bytes ≤ length turn.loop-i.out
 room turn = room_for_one turn.loop-i.invariant turn.loop-i-test.true turn.requires
 
 pub loop-i-init : goal.loop-i-init

@@ -1,11 +1,7 @@
 -- `put_numbers` meets its contract: the numbers so far are written.
-use Prim.Native.Nat.{◌+◌, ◌-◌, ◌≤◌}
-use native.Mathlib.Omega.{arith}
+use Prim.Native.Nat.{◌-◌}
 use lib.ListN.{length}
-use borrow.Author.Rules.{rules}
-use Rattle.writing.specs.Laws.{writes-length}
-use Rattle.lines.specs.Lines.{number_bytes}
-use Rattle.lines.proofs.Numbers.{Numbered, none_written, room_for_one, room_for_digits, one_more_written, all_written}
+use Rattle.lines.proofs.Numbers.{Numbered}
 use Rattle.lines.proofs.put_numbers.Given as goal
 
 abbrev pub invariant-loop-i : goal.invariant-loop-i

@@ -8,13 +8,14 @@ use Rattle.table_heights.specs.Sections.{Elsewhere, elsewhere_same, elsewhere_bo
 use Rattle.table_fill.specs.Fill.{FillTo, HoldsFillRound}
 use Rattle.table_fill.proofs.FillRounds.{fill_none, fill_all}
 use Rattle.table_fill.proofs.find_fill.Goals as goal
+use Rattle.table_fill.proofs.find_fill.Goals.{After-fill_round}
 
 -- a round of the table before it is one of the first table
-round : (c : goal.After-fill_round)
+round : (c : After-fill_round)
     → let T = table_by c.args.table.now in
-    SoundTable T → HoldsFillRound T (fill_of c.loop-n.table) (fill_of c.fill_round.new.0) c.fill_round.result
+    SoundTable T → HoldsFillRound T (fill_of c.loop-n.table) (fill_of c.fill_round.new.table) c.fill_round.result
 round c =
-    subst (λ T. SoundTable T → HoldsFillRound T (fill_of c.loop-n.table) (fill_of c.fill_round.new.0) c.fill_round.result) (table_elsewhere (omega arith) (omega arith) c.loop-n.invariant.1) c.fill_round.ensures.1
+    subst (λ T. SoundTable T → HoldsFillRound T (fill_of c.loop-n.table) (fill_of c.fill_round.new.table) c.fill_round.result) (table_elsewhere (omega arith) (omega arith) c.loop-n.invariant.1) c.fill_round.ensures.1
 
 pub types-all-requires : goal.types-all-requires
 types-all-requires c = tt

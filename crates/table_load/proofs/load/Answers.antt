@@ -6,16 +6,17 @@ use Rattle.table_form.specs.Read.{command}
 use Rattle.table_load.specs.Loading.{loaded_in}
 use Rattle.table_load.proofs.Turns.{TableLoading, TableTurn, loading_starts, loading_few, turn, turned, loading_ends}
 use Rattle.table_load.proofs.load.Goals as goal
+use Rattle.table_load.proofs.load.Goals.{After-command_at-c, After-width-at}
 
 -- what a turn needs and gives
-here : (c : goal.After-command_at-c)
+here : (c : After-command_at-c)
     → TableTurn c.args.t.now (loaded_in c.loop-at.types c.loop-at.table) c.loop-at.at (command c.command_at-c.result)
 here c = turn _ _ _ c.loop-at-test.true c.command_at-c.ensures c.loop-at.invariant.1
 
 -- the invariant behind the command
-again : (c : goal.After-width-at)
-    → TableLoading c.args.t.now (loaded_in c.put-types.result c.put-types.new.0) (c.loop-at.at + c.width-at.result)
-again c = turned (here c) c.put-types.ensures c.width-at.ensures
+again : (c : After-width-at)
+    → TableLoading c.args.t.now (loaded_in c.put-types.result c.put-types.new.table) (c.loop-at.at + c.width-at.result)
+again c = turned (turn _ _ _ c.loop-at-test.true c.command_at-c.ensures c.loop-at.invariant.1) c.put-types.ensures c.width-at.ensures
 
 pub clear_counts-requires : goal.clear_counts-requires
 clear_counts-requires c = c.requires.table_len
@@ -35,15 +36,15 @@ pub width-at-requires : goal.width-at-requires
 width-at-requires c = tt
 
 pub overflow_add-at : goal.overflow_add-at
-overflow_add-at c = record { fits = omega (arith, (again c).within, c.well_formed.0) }
+overflow_add-at c = record { fits = omega (arith, (again (goal.at.overflow_add-at c).After-width-at).within, c.well_formed.0) }
 
 pub loop-at-smaller : goal.loop-at-smaller
 loop-at-smaller c =
     let turned_by = here (goal.at.loop-at-smaller c).After-command_at-c in
-    omega (arith, (again c).within, turned_by.moves, c.width-at.ensures, c.loop-at-test.true)
+    omega (arith, (again (goal.at.loop-at-smaller c).After-width-at).within, turned_by.moves, c.width-at.ensures, c.loop-at-test.true)
 
 pub loop-at-preserved : goal.loop-at-preserved
-loop-at-preserved c = (c.put-types.ensures.same_size ∙ c.loop-at.invariant.0, again c)
+loop-at-preserved c = (c.put-types.ensures.same_size ∙ c.loop-at.invariant.0, again (goal.at.loop-at-preserved c).After-width-at)
 
 pub overflow_cast-types : goal.overflow_cast-types
 overflow_cast-types c = record { fits = omega (arith, loading_few c.loop-at.invariant.1) }

@@ -5,18 +5,11 @@ use Rattle.model.specs.Definitions.Commands.{needed, optional, text_type, empty_
 use Rattle.table_load.specs.Loading.{TableArrays, loaded_in, puts, TypeMayBegin, MemberMayJoin}
 use Rattle.table_load.proofs.Rooms.{told_room, told_put, join_room, list_room, begun_put, list_put, member_put}
 use Rattle.table_load.proofs.put.Goals as goal
+use Rattle.table_load.proofs.put.Goals.{Start}
 
 -- what is loaded before the command
-abbrev loaded : goal.Start → TableArrays
+abbrev loaded : Start → TableArrays
 loaded c = loaded_in c.args.types c.args.table.now
-
--- room for a list
-begins-here : (c : goal.In-List-2) → TypeMayBegin (loaded c)
-begins-here c = told_room (loaded c) c.in-List.is c.requires
-
--- room for a member
-joins-here : (c : goal.In-Member-2) → MemberMayJoin (loaded c)
-joins-here c = told_room (loaded c) c.in-Member.is c.requires
 
 pub begin-requires : goal.begin-requires
 begin-requires c = ((told_room (loaded (goal.at.begin-requires c).Start) c.in-Text.is c.requires).room, search rules)
@@ -35,18 +28,18 @@ begin-requires-in-Optional c = ((told_room (loaded (goal.at.begin-requires-in-Op
 
 pub begin-more-requires : goal.begin-more-requires
 unfolding puts
-begin-more-requires c = ((begins-here (goal.at.begin-more-requires c).In-List-2).room, search rules)
+begin-more-requires c = ((told_room (loaded_in c.args.types c.args.table.now) c.in-List.is c.requires).room, search rules)
 
 pub join-requires : goal.join-requires
 join-requires c =
-    list_room c.args.table.now c.args.types (begins-here (goal.at.join-requires c).In-List-2) c.begin-more.ensures.1
+    list_room c.args.table.now c.args.types (told_room (loaded_in c.args.types c.args.table.now) c.in-List.is c.requires) c.begin-more.ensures.1
 
 pub overflow_sub-types : goal.overflow_sub-types
 unfolding puts
-overflow_sub-types c = (joins-here (goal.at.overflow_sub-types c).In-Member-2).some
+overflow_sub-types c = (told_room (loaded_in c.args.types c.args.table.now) c.in-Member.is c.requires).some
 
 pub join-requires-in-Member : goal.join-requires-in-Member
-join-requires-in-Member c = join_room (loaded (goal.at.join-requires-in-Member c).Start) (joins-here (goal.at.join-requires-in-Member c).In-Member-2)
+join-requires-in-Member c = join_room (loaded (goal.at.join-requires-in-Member c).Start) (told_room (loaded_in c.args.types c.args.table.now) c.in-Member.is c.requires)
 
 pub returns-in-Text : goal.returns-in-Text
 unfolding puts
@@ -80,11 +73,11 @@ returns-in-Optional c =
 
 pub returns-in-List : goal.returns-in-List
 returns-in-List c =
-    told_put c.in-List.is (list_put c.args.table.now c.args.types _ (begins-here (goal.at.returns-in-List c).In-List-2) c.begin-more.ensures c.join.ensures)
+    told_put c.in-List.is (list_put c.args.table.now c.args.types _ (told_room (loaded_in c.args.types c.args.table.now) c.in-List.is c.requires) c.begin-more.ensures c.join.ensures)
 
 pub returns-in-Member : goal.returns-in-Member
 returns-in-Member c =
-    told_put c.in-Member.is (member_put c.args.table.now c.args.types _ (joins-here (goal.at.returns-in-Member c).In-Member-2) c.join-in-Member.ensures)
+    told_put c.in-Member.is (member_put c.args.table.now c.args.types _ (told_room (loaded_in c.args.types c.args.table.now) c.in-Member.is c.requires) c.join-in-Member.ensures)
 
 pub returns-in-End : goal.returns-in-End
 unfolding puts

@@ -6,10 +6,11 @@ use Rattle.tree_form.specs.declared.command.TreeCommand.{TreeCommand}
 use Rattle.tree_form.specs.Commands.{command, ReadsCommand}
 use Rattle.tree_form.proofs.Commands.{met}
 use Rattle.tree_expected.proofs.ExpectedTurns.{passed_nonempty, passed-stops, refused_root, root_begins}
+use Rattle.tree_expected.proofs.expected.Goals.{After-command_at-c}
 use Rattle.tree_expected.proofs.expected.Goals as goal
 
 -- the command that was read stands at the beginning
-here : (c : goal.After-command_at-c) {d : TreeCommand} → c.command_at-c.result ≡ d → ReadsCommand c.args.t.now 0 (command d)
+here : (c : After-command_at-c) {d : TreeCommand} → c.command_at-c.result ≡ d → ReadsCommand c.args.t.now 0 (command d)
 here c q = met _ _ (passed_nonempty c.requires) c.command_at-c.ensures q
 
 pub command_at-c-requires : goal.command_at-c-requires

@@ -5,10 +5,11 @@ use borrow.Author.Rules.{rules}
 use lib.ListN.{get_or}
 use Rattle.loaded_table.specs.Loaded.{counts_of, members_in}
 use Rattle.tree_expected.proofs.Rests.{Searching, searching_start, searching_found, searching_on, searching_end, members_within}
+use Rattle.tree_expected.proofs.member_of.Goals.{In-loop-i}
 use Rattle.tree_expected.proofs.member_of.Goals as goal
 
 -- the next place is within the members
-more : (c : goal.In-loop-i) → c.loop-i.i < get_or (counts_of c.args.table.now) c.args.m 0
+more : (c : In-loop-i) → c.loop-i.i < get_or (counts_of c.args.table.now) c.args.m 0
 more c = let same = c.count-many.ensures.0 in omega (arith, same, c.loop-i-test.true)
 
 pub loop-i-init : goal.loop-i-init

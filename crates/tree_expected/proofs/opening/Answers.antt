@@ -6,10 +6,11 @@ use borrow.Author.Rules.{rules}
 use lib.ListN.{get_or}
 use Rattle.loaded_table.specs.Loaded.{kinds_of}
 use Rattle.tree_expected.proofs.Rests.{opening_nothing, opening_past, opening_next, opening_other, opening-second, opening-member, opening-no-member, opening-item, opening-no-item}
+use Rattle.tree_expected.proofs.opening.Goals.{In-3}
 use Rattle.tree_expected.proofs.opening.Goals as goal
 
 -- a choice of either kind
-choosing : (c : goal.In-3) → let a = c.args in (3 ≤ get_or (kinds_of a.table.now) a.m 0) × (get_or (kinds_of a.table.now) a.m 0 < 5)
+choosing : (c : In-3) → let a = c.args in (3 ≤ get_or (kinds_of a.table.now) a.m 0) × (get_or (kinds_of a.table.now) a.m 0 < 5)
 choosing c =
     let same = c.kind-k.ensures.0 in
     (omega (arith, same, c.in-3.in_default-own.rest.1, c.in-3.if-k-lt2-own.false), omega (arith, same, c.in-3.if-k-lt5-own.true))

@@ -5,10 +5,11 @@ use borrow.Author.Rules.{rules}
 use Rattle.tree_form.specs.declared.command.TreeCommand.{TreeCommand}
 use Rattle.tree_form.specs.Commands.{command, ReadsCommand}
 use Rattle.tree_form.proofs.Commands.{met}
+use Rattle.tree_expected.proofs.turn_at.Goals.{After-command_at-c}
 use Rattle.tree_expected.proofs.turn_at.Goals as goal
 
 -- the command that was read stands there
-here : (c : goal.After-command_at-c) {d : TreeCommand} → c.command_at-c.result ≡ d → ReadsCommand c.args.t.now c.args.at (command d)
+here : (c : After-command_at-c) {d : TreeCommand} → c.command_at-c.result ≡ d → ReadsCommand c.args.t.now c.args.at (command d)
 here c q = met _ _ c.requires.1 c.command_at-c.ensures q
 
 pub returns-then-next-eq0 : goal.returns-then-next-eq0

@@ -15,6 +15,6 @@ inside-requires c =
     let many = c.types.ensures.0 in
     record {
       bounded = c.requires;
-      begun = c.begins.ensures (not-false _ c.if-not-begins.false);
+      begun = c.begins.ensures (c.if-not-begins.false);
       some = omega (arith, many, c.if-types-eq0.false);
     }

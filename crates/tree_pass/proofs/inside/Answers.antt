@@ -6,10 +6,11 @@ use borrow.Author.Rules.{rules}
 use Rattle.tree_expected.specs.declared.Turn.{Turn}
 use Rattle.tree_pass.specs.Passing.{Checked}
 use Rattle.tree_pass.proofs.Turns.{Passing, passing_root, innermost, passing_opens, passing_character, passing_closes, passing_ends}
+use Rattle.tree_pass.proofs.inside.Goals.{After-checked_at-c}
 use Rattle.tree_pass.proofs.inside.Goals as goal
 
 -- what the command does, by the answer that was found
-checked : (c : goal.After-checked_at-c) {d : Turn} → c.checked_at-c.result ≡ d
+checked : (c : After-checked_at-c) {d : Turn} → c.checked_at-c.result ≡ d
     → Checked c.args.table.now c.args.t.now c.loop-at.top c.loop-at.m c.loop-at.h c.loop-at.at d
 checked c q =
     let a = c.args in
@@ -79,16 +80,16 @@ loop-at-preserved c =
     passing_closes c.loop-at.invariant (checked (goal.at.loop-at-preserved c).After-checked_at-c c.in-Closed.is) (omega (arith, c.if-top-eq0.false))
 
 pub offset_bounds-opened-top-in-Closed : goal.offset_bounds-opened-top-in-Closed
-offset_bounds-opened-top-in-Closed c = omega (arith, (loop-at-preserved c).inside.levels.low)
+offset_bounds-opened-top-in-Closed c = omega (arith, c.loop-at.invariant.inside.levels.low)
 
 pub bounds-opened-top-in-Closed : goal.bounds-opened-top-in-Closed
-bounds-opened-top-in-Closed c = omega (arith, (loop-at-preserved c).inside.levels.low)
+bounds-opened-top-in-Closed c = omega (arith, c.loop-at.invariant.inside.levels.low)
 
 pub offset_bounds-had-top-in-Closed : goal.offset_bounds-had-top-in-Closed
-offset_bounds-had-top-in-Closed c = omega (arith, (loop-at-preserved c).inside.levels.low)
+offset_bounds-had-top-in-Closed c = omega (arith, c.loop-at.invariant.inside.levels.low)
 
 pub bounds-had-top-in-Closed : goal.bounds-had-top-in-Closed
-bounds-had-top-in-Closed c = omega (arith, (loop-at-preserved c).inside.levels.low)
+bounds-had-top-in-Closed c = omega (arith, c.loop-at.invariant.inside.levels.low)
 
 pub loop-at-smaller : goal.loop-at-smaller
 loop-at-smaller c = omega (arith, (loop-at-preserved c).counting.within)

@@ -8,51 +8,53 @@ use Rattle.model.specs.Definitions.Table.{kind_of, is_choice}
 use Rattle.loaded_table.specs.Loaded.{table_by}
 use Rattle.embedding_clash.proofs.Following.{StepAt, step_at, goes_on, rest_cons, rest_none}
 use Rattle.embedding_ends.proofs.AgreeLaws.{Agreeing, meet_choice, other_ended, steps_differ, agreeing-on, both_ended, first_ended, choice_told}
+use Rattle.embedding_ends.proofs.agreement.agree.Goals.{In-loop-i, Else-is_choice, Else-i-lb, Else-i-lb-2}
 use Rattle.embedding_ends.proofs.agreement.agree.Goals as goal
 
 -- the first path's step at hand, and what is left behind it
-at_step : (c : goal.In-loop-i)
-    → Agreeing (table_by c.args.target.now) c.args.from (take c.args.la c.args.t3) (take c.args.lb c.args.t5) c.loop-i.t
-    (get_or c.args.t3 c.loop-i.i 0 ∷ drop (c.loop-i.i + 1) (take c.args.la c.args.t3))
-    (drop c.loop-i.i (take c.args.lb c.args.t5))
+at_step : (c : In-loop-i)
+    → Agreeing (table_by c.args.target.now) c.args.from (take c.args.la c.args.a) (take c.args.lb c.args.b) c.loop-i.t
+    (get_or c.args.a c.loop-i.i 0 ∷ drop (c.loop-i.i + 1) (take c.args.la c.args.a))
+    (drop c.loop-i.i (take c.args.lb c.args.b))
 at_step c =
-    let long : c.args.la ≤ length c.args.t3 = omega arith in
+    let long : c.args.la ≤ length c.args.a = omega arith in
     rw (rest_cons _ _ _ c.loop-i-test.true long) at c.loop-i.invariant.2
 
 -- where it is kept
-here : (c : goal.In-loop-i) → StepAt c.args.target.now c.loop-i.t (get_or c.args.t3 c.loop-i.i 0)
+here : (c : In-loop-i) → StepAt c.args.target.now c.loop-i.t (get_or c.args.a c.loop-i.i 0)
 here c = step_at (record { bounded = c.requires.walkable.bounded; exists = (goes_on (at_step c).walks).exists })
 
 -- the type reached is no choice
-no_choice : (c : goal.Else-is_choice) → is_choice (kind_of (table_by c.args.target.now) c.loop-i.t) ≡ false
-no_choice c = sym (choice_told (here c) c.is_choice.ensures c.kind.ensures.0) ∙ c.if-is_choice.false
+no_choice : (c : Else-is_choice) → StepAt c.args.target.now c.loop-i.t (get_or c.args.a c.loop-i.i 0) → is_choice (kind_of (table_by c.args.target.now) c.loop-i.t) ≡ false
+no_choice c kept = sym (choice_told kept c.is_choice.ensures c.kind.ensures.0) ∙ c.if-is_choice.false
 
 -- the steps at hand of both paths
-at-steps : (c : goal.Else-i-lb)
+at-steps : (c : Else-i-lb)
     → let a = c.args in
-    Agreeing (table_by a.target.now) a.from (take a.la a.t3) (take a.lb a.t5) c.loop-i.t
-    (get_or a.t3 c.loop-i.i 0 ∷ drop (c.loop-i.i + 1) (take a.la a.t3))
-    (get_or a.t5 c.loop-i.i 0 ∷ drop (c.loop-i.i + 1) (take a.lb a.t5))
+    Agreeing (table_by a.target.now) a.from (take a.la a.a) (take a.lb a.b) c.loop-i.t
+    (get_or a.a c.loop-i.i 0 ∷ drop (c.loop-i.i + 1) (take a.la a.a))
+    (get_or a.b c.loop-i.i 0 ∷ drop (c.loop-i.i + 1) (take a.lb a.b))
 at-steps c =
     let a = c.args in
+    let first : a.la ≤ length a.a = omega arith in
     let second : c.loop-i.i < a.lb = omega (arith, c.loop-i.invariant.1, c.if-i-lb.false) in
-    let long : a.lb ≤ length a.t5 = omega arith in
-    rw (rest_cons _ _ _ second long) at (at_step c)
+    let long : a.lb ≤ length a.b = omega arith in
+    rw (rest_cons _ _ _ c.loop-i-test.true first, rest_cons _ _ _ second long) at c.loop-i.invariant.2
 
 -- only the first is: the second's step at hand, and where it is kept
-at_other : (c : goal.Else-i-lb-2)
+at_other : (c : Else-i-lb-2)
     → let a = c.args in
-    Agreeing (table_by a.target.now) a.from (take a.la a.t3) (take a.lb a.t5) c.loop-i.t
-    (drop c.loop-i.i (take a.la a.t3))
-    (get_or a.t5 c.loop-i.i 0 ∷ drop (c.loop-i.i + 1) (take a.lb a.t5))
+    Agreeing (table_by a.target.now) a.from (take a.la a.a) (take a.lb a.b) c.loop-i.t
+    (drop c.loop-i.i (take a.la a.a))
+    (get_or a.b c.loop-i.i 0 ∷ drop (c.loop-i.i + 1) (take a.lb a.b))
 at_other c =
     let a = c.args in
     let second : c.loop-i.i < a.lb = omega (arith, c.loop-i.invariant.1, c.if-i-lb-2.false) in
-    let long : a.lb ≤ length a.t5 = omega arith in
+    let long : a.lb ≤ length a.b = omega arith in
     rw (rest_cons _ _ _ second long) at c.loop-i.invariant.2
 
 -- the second path has a step there
-there : (c : goal.Else-i-lb-2) → StepAt c.args.target.now c.loop-i.t (get_or c.args.t5 c.loop-i.i 0)
+there : (c : Else-i-lb-2) → StepAt c.args.target.now c.loop-i.t (get_or c.args.b c.loop-i.i 0)
 there c = step_at (record { bounded = c.requires.walkable.bounded; exists = (goes_on (at_other c).other_walks).exists })
 
 pub loop-i-init : goal.loop-i-init
@@ -73,7 +75,7 @@ returns-then-is_choice c =
 pub returns-then-i-lb : goal.returns-then-i-lb
 returns-then-i-lb c =
     let ended : c.args.lb ≤ c.loop-i.i = omega (arith, c.if-i-lb.true) in
-    other_ended (at_step (goal.at.returns-then-i-lb c).In-loop-i) (no_choice (goal.at.returns-then-i-lb c).Else-is_choice) (rest_none _ _ _ ended)
+    other_ended (at_step (goal.at.returns-then-i-lb c).In-loop-i) (no_choice (goal.at.returns-then-i-lb c).Else-is_choice (here (goal.at.returns-then-i-lb c).In-loop-i)) (rest_none _ _ _ ended)
 
 pub bounds-a-i : goal.bounds-a-i
 bounds-a-i c = omega (arith, c.requires.walkable.short)
@@ -83,7 +85,7 @@ bounds-b-i c = omega (arith, c.requires.walkable.short)
 
 -- the steps differ
 pub returns-then-p-b : goal.returns-then-p-b
-returns-then-p-b c = steps_differ (at-steps (goal.at.returns-then-p-b c).Else-i-lb) (no_choice (goal.at.returns-then-p-b c).Else-is_choice) c.if-p-b.true
+returns-then-p-b c = steps_differ (at-steps (goal.at.returns-then-p-b c).Else-i-lb) (no_choice (goal.at.returns-then-p-b c).Else-is_choice (here (goal.at.returns-then-p-b c).In-loop-i)) c.if-p-b.true
 
 pub next_type-t-requires : goal.next_type-t-requires
 next_type-t-requires c =
@@ -96,12 +98,11 @@ pub loop-i-smaller : goal.loop-i-smaller
 loop-i-smaller c = omega arith
 
 pub loop-i-preserved : goal.loop-i-preserved
-loop-i-preserved c =
-    (
-      omega arith,
-      omega (arith, c.loop-i.invariant.1, c.if-i-lb.false),
-      rw c.next_type-t.ensures (agreeing-on (at-steps (goal.at.loop-i-preserved c).Else-i-lb) (no_choice (goal.at.loop-i-preserved c).Else-is_choice) c.if-p-b.false),
-    )
+loop-i-preserved c = (
+  omega arith,
+  omega (arith, c.loop-i.invariant.1, c.if-i-lb.false),
+  rw c.next_type-t.ensures (agreeing-on (at-steps (goal.at.loop-i-preserved c).Else-i-lb) (no_choice (goal.at.loop-i-preserved c).Else-is_choice (here (goal.at.loop-i-preserved c).In-loop-i)) c.if-p-b.false),
+)
 
 -- both are at their end
 pub returns-then-i-lb-2 : goal.returns-then-i-lb-2

@@ -32,4 +32,4 @@ returns-in_default c = in_arm enum (λ d. names_type c.args.types tt (command d)
 
 pub returns-in-List : goal.returns-in-List
 unfolding names_type goes_if
-returns-in-List c = ⊎_elim (λ w. rw (w.3, w.1.given.1)) (λ w. rw (w.3, w.1.given.1)) c.in-List.match-c-branch
+returns-in-List c = ⊎_elim (λ e. rw e) (λ e. rw e) c.in-List.is

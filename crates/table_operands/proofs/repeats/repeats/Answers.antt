@@ -14,13 +14,14 @@ use Rattle.table_form.proofs.Loop.{some_width, Then, turn, passed}
 use Rattle.table_operands.proofs.Machines.{repeat_machine}
 use Rattle.table_operands.proofs.Chosen.{outside, SeenKept, opened, not_inside, again_there, added, after}
 use Rattle.table_operands.proofs.repeats.repeats.Goals as goal
+use Rattle.table_operands.proofs.repeats.repeats.Goals.{After-role_of-r, in-Leaves, in-Opens, in-Joins+then-inside+else-seen-i, in-Joins+else-inside, in-Keeps}
 
 -- the model's state where a turn begins
-abbrev state-at : goal.After-role_of-r → Chosen
+abbrev state-at : After-role_of-r → Chosen
 state-at d = d.loop-at.invariant.state
 
 -- what a turn comes to, by the role that `role_of` answered and the machine's move
-turned : (d : goal.After-role_of-r) (m : Next Chosen) {r : Role} → d.role_of-r.result ≡ r → does (state-at d) r ≡ m
+turned : (d : After-role_of-r) (m : Next Chosen) {r : Role} → d.role_of-r.result ≡ r → does (state-at d) r ≡ m
     → let t = d.args.t.now in
     Then repeat_machine t d.loop-at.at (command d.command_at-c.result) (table_repeats t) m
 turned d m answered moved =
@@ -64,12 +65,16 @@ pub loop-at-preserved : goal.loop-at-preserved
 loop-at-preserved c =
     let kept = c.loop-at.invariant in
     let wide = c.width-w.ensures in
-    ⊎_elim (λ w. after (turned (goal.at.loop-at-preserved c).After-role_of-r (goes elsewhere) w.1.given.1 refl _ wide) outside w.2 w.3)
-    (⊎_elim (λ w. after (turned (goal.at.loop-at-preserved c).After-role_of-r (goes (among [])) w.1.given.1 refl _ wide) opened w.2 w.3)
-    (⊎_elim (λ w. let more = added w.1.given.0.0 (search rules) kept.stands w.3.taken w.4.left in after (turned (goal.at.loop-at-preserved c).After-role_of-r (goes more.state) w.1.given.1 more.goes_on _ wide) more.stands w.5 w.6)
-    (⊎_elim (λ w. after (turned (goal.at.loop-at-preserved c).After-role_of-r (goes kept.state) w.1.given.1 (not_inside _ kept.stands w.3.left) _ wide) kept.stands w.4 w.5)
-    (λ w. after (turned (goal.at.loop-at-preserved c).After-role_of-r (goes kept.state) w.1.given.1 refl _ wide) kept.stands w.2 w.3))))
-    c.match-r.branch
+    let so = (goal.at.loop-at-preserved c).After-role_of-r in
+    elim c.match-r.branch [
+      | in-Leaves w ↦ after (turned so (goes elsewhere) w.in-Leaves.is refl _ wide) outside w.inside-is w.seen-is
+      | in-Opens w ↦ after (turned so (goes (among [])) w.in-Opens.is refl _ wide) opened w.inside-is w.seen-is
+      | in-Joins+then-inside+else-seen-i w ↦
+          let more = added w.in-Joins.m (search rules) kept.stands w.if-inside.true w.if-seen-i.false in
+          after (turned so (goes more.state) w.in-Joins.is more.goes_on _ wide) more.stands w.inside-is w.seen-is
+      | in-Joins+else-inside w ↦ after (turned so (goes kept.state) w.in-Joins.is (not_inside _ kept.stands w.if-inside.false) _ wide) kept.stands w.inside-is w.seen-is
+      | in-Keeps w ↦ after (turned so (goes kept.state) w.in-Keeps.is refl _ wide) kept.stands w.inside-is w.seen-is
+    ]
 
 pub overflow_add-at : goal.overflow_add-at
 unfolding table_repeats

@@ -6,7 +6,6 @@ use Rattle.model.specs.Definitions.TableChecks.{elsewhere, among, repeat_step}
 use Rattle.model.proofs.Theorems.Arms.{in_arm}
 use Rattle.table_form.specs.Read.{command}
 use Rattle.table_form.specs.contracts.command.TableCommand.{enum}
-use borrow.Enum.Refused.{opened}
 use Rattle.table_operands.proofs.repeats.role_of.Goals as goal
 
 pub enum_known-c : goal.enum_known-c
@@ -39,4 +38,4 @@ returns-in-Alien c s = rw c.in-Alien.is
 
 pub returns-in_default : goal.returns-in_default
 unfolding repeat_step
-returns-in_default c s = in_arm enum (λ d. repeat_step s (command d)) (goes elsewhere) (0 ∷ 1 ∷ 2 ∷ 4 ∷ []) (search rules) c.args.c (opened c.in_default.in_default-own.keys5)
+returns-in_default c s = in_arm enum (λ d. repeat_step s (command d)) (goes elsewhere) (0 ∷ 1 ∷ 2 ∷ 4 ∷ []) (search rules) c.args.c c.in_default.in_default-own.keys5

@@ -6,10 +6,11 @@ use Rattle.tree_form.specs.declared.command.TreeCommand.{TreeCommand}
 use Rattle.tree_form.specs.Commands.{command, ReadsCommand}
 use Rattle.tree_form.proofs.Commands.{met}
 use Rattle.tree_form.proofs.FormTurns.{form_short, form_root_stops, form_root_end}
+use Rattle.tree_form.proofs.form.after_root.Goals.{After-command_at-c}
 use Rattle.tree_form.proofs.form.after_root.Goals as goal
 
 -- the command that was read stands there
-here : (c : goal.After-command_at-c) {d : TreeCommand} → c.command_at-c.result ≡ d → ReadsCommand c.args.t.now c.args.at (command d)
+here : (c : After-command_at-c) {d : TreeCommand} → c.command_at-c.result ≡ d → ReadsCommand c.args.t.now c.args.at (command d)
 here c q = met _ _ c.if-t-at.false c.command_at-c.ensures q
 
 pub returns-then-t-at : goal.returns-then-t-at

@@ -6,10 +6,11 @@ use Rattle.tree_form.specs.declared.command.TreeCommand.{TreeCommand}
 use Rattle.tree_form.specs.Commands.{command, ReadsCommand}
 use Rattle.tree_form.proofs.Commands.{met}
 use Rattle.tree_form.proofs.FormTurns.{form_empty, form_first, form_first_stops}
+use Rattle.tree_form.proofs.form.form.Goals.{After-command_at-c}
 use Rattle.tree_form.proofs.form.form.Goals as goal
 
 -- the command that was read stands at the beginning
-here : (c : goal.After-command_at-c) {d : TreeCommand} → c.command_at-c.result ≡ d → ReadsCommand c.args.t.now 0 (command d)
+here : (c : After-command_at-c) {d : TreeCommand} → c.command_at-c.result ≡ d → ReadsCommand c.args.t.now 0 (command d)
 here c q = met _ _ (search rules) c.command_at-c.ensures q
 
 pub returns-then-t-eq0 : goal.returns-then-t-eq0

@@ -8,10 +8,11 @@ use Rattle.tree_form.specs.Commands.{command, ReadsCommand}
 use Rattle.tree_form.specs.Form.{InForm}
 use Rattle.tree_form.proofs.Commands.{met}
 use Rattle.tree_form.proofs.FormTurns.{form_short, form_root_closed, form_opens, form_character, form_closes, form_end_inside, form_alien_inside}
+use Rattle.tree_form.proofs.form.inside.Goals.{After-command_at-c}
 use Rattle.tree_form.proofs.form.inside.Goals as goal
 
 -- the command that was read stands there
-here : (c : goal.After-command_at-c) {d : TreeCommand} → c.command_at-c.result ≡ d → ReadsCommand c.args.t.now c.loop-depth.at (command d)
+here : (c : After-command_at-c) {d : TreeCommand} → c.command_at-c.result ≡ d → ReadsCommand c.args.t.now c.loop-depth.at (command d)
 here c q = met _ _ c.if-t-at.false c.command_at-c.ensures q
 
 pub loop-depth-init : goal.loop-depth-init

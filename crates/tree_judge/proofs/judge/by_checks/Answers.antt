@@ -8,10 +8,11 @@ use Rattle.loaded_table.specs.Loaded.{table_by}
 use Rattle.tree_levels.proofs.Elements.{opens_counted}
 use Rattle.tree_judge.specs.Judging.{judged_before}
 use Rattle.tree_judge.proofs.Judging.{told_verdict, told_judged, by_types, fault_before, fault_not_sound, passed_before, judged_unexpected, judged_expected}
+use Rattle.tree_judge.proofs.judge.by_checks.Goals.{After-checks-before}
 use Rattle.tree_judge.proofs.judge.by_checks.Goals as goal
 
 -- what checks 1 to 4 found, by the number of types
-checked : (c : goal.After-checks-before) {j : Judged} → c.checks-before.result ≡ j → judged j ≡ judged_before (length (table_by c.args.table.now)) c.args.t.now
+checked : (c : After-checks-before) {j : Judged} → c.checks-before.result ≡ j → judged j ≡ judged_before (length (table_by c.args.table.now)) c.args.t.now
 checked c q = by_types c.args.table.now _ c.types.ensures.0 (told_judged q c.checks-before.ensures)
 
 pub expected-e-requires : goal.expected-e-requires

@@ -4,13 +4,14 @@ use borrow.Author.Rules.{rules}
 use Rattle.model.specs.Definitions.Basics.{passes}
 use Rattle.model.specs.Definitions.TreeChecks.{tree_form, tree_levels}
 use Rattle.tree_judge.proofs.Judging.{told_verdict, judged_long, judged-form, judged-levels, judged-operands, judged-sound}
+use Rattle.tree_judge.proofs.judge.checks.Goals.{In-Passes, In-Passes-l}
 use Rattle.tree_judge.proofs.judge.checks.Goals as goal
 
 -- a check that has passed
-formed : (c : goal.In-Passes) → passes ≡ tree_form c.args.t.now
+formed : (c : In-Passes) → passes ≡ tree_form c.args.t.now
 formed c = told_verdict c.in-Passes.is c.form-f.ensures
 
-leveled : (c : goal.In-Passes-l) → passes ≡ tree_levels c.args.t.now
+leveled : (c : In-Passes-l) → passes ≡ tree_levels c.args.t.now
 leveled c = told_verdict c.in-Passes-l.is c.levels-l.ensures
 
 pub returns-then-t-gt-MAX_BYTES : goal.returns-then-t-gt-MAX_BYTES

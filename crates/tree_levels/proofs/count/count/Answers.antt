@@ -7,10 +7,11 @@ use Rattle.tree_form.specs.declared.command.TreeCommand.{TreeCommand}
 use Rattle.tree_form.specs.Commands.{command, ReadsCommand}
 use Rattle.tree_form.proofs.Commands.{met}
 use Rattle.tree_levels.proofs.Elements.{Counting, counting_start, counting_end, counting_opens, counting_character, counting_closes, counting_tree_end, counting_alien}
+use Rattle.tree_levels.proofs.count.count.Goals.{After-command_at-c}
 use Rattle.tree_levels.proofs.count.count.Goals as goal
 
 -- the command that was read stands there
-here : (c : goal.After-command_at-c) {d : TreeCommand} → c.command_at-c.result ≡ d → ReadsCommand c.args.t.now c.loop-at.at (command d)
+here : (c : After-command_at-c) {d : TreeCommand} → c.command_at-c.result ≡ d → ReadsCommand c.args.t.now c.loop-at.at (command d)
 here c q = met _ _ c.loop-at-test.true c.command_at-c.ensures q
 
 pub loop-at-init : goal.loop-at-init

@@ -1,5 +1,5 @@
 use mathlib.Core.Path.{◌≡◌}
-use mathlib.Core.Logic.{⊎_elim, inl, inr}
+use mathlib.Core.Logic.{inl, inr}
 use Prim.Native.Nat.{◌-◌}
 use lib.ListN.{length}
 use native.Mathlib.Omega.{arith}
@@ -9,10 +9,11 @@ use Rattle.tree_form.specs.Commands.{command, ReadsCommand}
 use Rattle.tree_levels.specs.Levels.{InLevels}
 use Rattle.tree_form.proofs.Commands.{met}
 use Rattle.tree_levels.proofs.LevelTurns.{levels_start, levels_end, levels_opens, levels_deep, levels_character, levels_closes, levels_tree_end, levels_at_alien}
+use Rattle.tree_levels.proofs.levels.levels.Goals.{After-command_at-c, then-depth-gt0, else-depth-gt0}
 use Rattle.tree_levels.proofs.levels.levels.Goals as goal
 
 -- the command that was read stands there
-here : (c : goal.After-command_at-c) {d : TreeCommand} → c.command_at-c.result ≡ d → ReadsCommand c.args.t.now c.loop-at.at (command d)
+here : (c : After-command_at-c) {d : TreeCommand} → c.command_at-c.result ≡ d → ReadsCommand c.args.t.now c.loop-at.at (command d)
 here c q = met _ _ c.loop-at-test.true c.command_at-c.ensures q
 
 pub loop-at-init : goal.loop-at-init
@@ -47,7 +48,7 @@ loop-at-smaller-in-Character c = omega (arith, (loop-at-preserved-in-Character c
 
 pub loop-at-preserved-in-Closes : goal.loop-at-preserved-in-Closes
 loop-at-preserved-in-Closes c =
-    levels_closes _ _ _ (⊎_elim (λ w. inl (w.0.taken, w.1)) (λ w. inr (w.0.left, w.1)) c.if-depth-gt0.branch) c.loop-at.invariant (here (goal.at.loop-at-preserved-in-Closes c).After-command_at-c c.in-Closes.is)
+    levels_closes _ _ _ (elim c.if-depth-gt0.branch [ then-depth-gt0 w ↦ inl (w.if-depth-gt0.true, w.depth-is) | else-depth-gt0 w ↦ inr (w.if-depth-gt0.false, w.depth-is) ]) c.loop-at.invariant (here (goal.at.loop-at-preserved-in-Closes c).After-command_at-c c.in-Closes.is)
 
 pub overflow_add-at-in-Closes : goal.overflow_add-at-in-Closes
 overflow_add-at-in-Closes c = omega (arith, (loop-at-preserved-in-Closes c).within)

@@ -3,16 +3,16 @@ use Prim.Native.Nat.{◌-◌}
 use lib.ListN.{length}
 use native.Mathlib.Omega.{arith}
 use borrow.Author.Rules.{rules}
-use borrow.Author.Tests.{not-true, not-false}
 use Rattle.tree_form.specs.declared.command.TreeCommand.{TreeCommand}
 use Rattle.tree_form.specs.Commands.{command, ReadsCommand}
 use Rattle.tree_operands.specs.Operands.{InOperands}
 use Rattle.tree_form.proofs.Commands.{met}
 use Rattle.tree_operands.proofs.OperandTurns.{operands_start, operands_end, operands_opens, operands_no_type, operands_character, operands_not_allowed, operands_closes, operands_tree_end, operands_at_alien}
+use Rattle.tree_operands.proofs.operands.operands.Goals.{After-command_at-c}
 use Rattle.tree_operands.proofs.operands.operands.Goals as goal
 
 -- the command that was read stands there
-here : (c : goal.After-command_at-c) {d : TreeCommand} → c.command_at-c.result ≡ d → ReadsCommand c.args.t.now c.loop-at.at (command d)
+here : (c : After-command_at-c) {d : TreeCommand} → c.command_at-c.result ≡ d → ReadsCommand c.args.t.now c.loop-at.at (command d)
 here c q = met _ _ c.loop-at-test.true c.command_at-c.ensures q
 
 pub loop-at-init : goal.loop-at-init
@@ -33,11 +33,11 @@ pub loop-at-smaller-in-Opens : goal.loop-at-smaller-in-Opens
 loop-at-smaller-in-Opens c = omega (arith, (loop-at-preserved-in-Opens c).within)
 
 pub returns-then-not-allowed : goal.returns-then-not-allowed
-returns-then-not-allowed c = operands_not_allowed _ _ (sym c.allowed.ensures ∙ not-true _ c.if-not-allowed.true) c.loop-at.invariant (here (goal.at.returns-then-not-allowed c).After-command_at-c c.in-Character.is)
+returns-then-not-allowed c = operands_not_allowed _ _ (sym c.allowed.ensures ∙ c.if-not-allowed.true) c.loop-at.invariant (here (goal.at.returns-then-not-allowed c).After-command_at-c c.in-Character.is)
 
 pub loop-at-preserved-in-Character : goal.loop-at-preserved-in-Character
 loop-at-preserved-in-Character c =
-    operands_character _ _ (sym c.allowed.ensures ∙ not-false _ c.if-not-allowed.false) c.loop-at.invariant (here (goal.at.loop-at-preserved-in-Character c).After-command_at-c c.in-Character.is)
+    operands_character _ _ (sym c.allowed.ensures ∙ c.if-not-allowed.false) c.loop-at.invariant (here (goal.at.loop-at-preserved-in-Character c).After-command_at-c c.in-Character.is)
 
 pub overflow_add-at-in-Character : goal.overflow_add-at-in-Character
 overflow_add-at-in-Character c = omega (arith, (loop-at-preserved-in-Character c).within)

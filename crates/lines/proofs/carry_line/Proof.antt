@@ -1,7 +1,0 @@
--- `carry_line` meets its contract: the answer's line has the program's word and numbers.
-use borrow.Author.Rules.{rules}
-use Rattle.lines.proofs.carry_line.Statement.{statement}
-use Rattle.lines.proofs.carry_line.Tie as tie
-
-pub carry-line-spec : {M : Type 1} → statement M
-carry-line-spec = tie.close (tie.spec (λ c. search rules) (λ c. search rules) (λ c κs. search rules) (λ c. c.answer-line.ensures))
