@@ -15,4 +15,4 @@ pub returns-in-Has : goal.returns-in-Has
 returns-in-Has c = refused_answer (refusing _ _ _ _ _ _ _ c.judge-verdict.ensures c.in-Has.is)
 
 pub returns-in-Sound : goal.returns-in-Sound
-returns-in-Sound c = counted-answer _ (standing _ _ _ _ _ _ _ c.judge-verdict.ensures c.in-Sound.is) c.IsEdge-count.ensures
+returns-in-Sound c = counted-answer _ (standing _ _ _ _ _ _ _ c.judge-verdict.ensures c.in-Sound.is) c.edge_count-edges.ensures
