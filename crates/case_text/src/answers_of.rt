@@ -6,16 +6,17 @@ use crate::hexadecimal::put_hex;
 use answer_numbers::Answer;
 use codes::MAX_BYTES;
 use lines::{BLANK, LINE_BYTES, LINE_END, answer_line, put_numbers};
+use std::io;
 use writing::copy;
 
 // The room for a line with a document: `ok`, two numbers, a blank, two digits for each of 60,000 bytes, and the end.
 const DOCUMENT_LINE_BYTES: usize = 120046;
 
 // A line for an answer.
-pub fn print(a: Answer) {
+pub fn print(rt: &impl Print, a: Answer) -> io::Result<()> {
     let mut room = [0u8; LINE_BYTES];
     let text = answer_line(&mut room, a, b"ok", &[a.value, a.filler]);
-    io::write_all(1, text);
+    rt.write_all(text)
 }
 
 // The lesser of two numbers.
@@ -43,13 +44,12 @@ fn written_line<'a>(line: &'a mut [u8], a: Answer, document: &[u8]) -> &'a mut [
 }
 
 // A line for an answer of an entry that writes.
-pub fn print_written(a: Answer, out: &[u8]) {
+pub fn print_written(rt: &impl Print, a: Answer, out: &[u8]) -> io::Result<()> {
     if a.refusal != 0 {
-        print(a);
-        return;
+        return print(rt, a);
     }
     let n = least(a.value, least(out.len() as u64, MAX_BYTES));
     let mut room = [0u8; DOCUMENT_LINE_BYTES];
     let text = written_line(&mut room, a, &out[..n]);
-    io::write_all(1, text);
+    rt.write_all(text)
 }

@@ -6,6 +6,9 @@
 
 use answer_numbers::Answer;
 use case_text::{lend_output, next_entry, print, print_written, read_document};
+use console::FILE_BYTES;
+use std::io;
+use std::io::Read;
 
 // The entries by their numbers in the input; 5 brings back.
 const JUDGE_TABLE: u8 = 1;
@@ -17,30 +20,33 @@ const JUDGE_TREE: u8 = 3;
 const CARRY: u8 = 4;
 
 // A case of judging a table.
-fn table_case() {
-    let mut a = io::large_buffer();
-    let table = read_document(&mut a);
-    print(judge_entries::judge_table(table));
+fn table_case<R: Read>(rt: &impl Print, input: &mut R) -> io::Result<()> {
+    let mut a = [0u8; FILE_BYTES];
+    let table = read_document(input, &mut a)?;
+    print(rt, judge_entries::judge_table(table))
 }
 
 // A case of judging a tree.
-fn tree_case() {
-    let mut a = io::large_buffer();
-    let mut b = io::large_buffer();
-    let table = read_document(&mut a);
-    let tree = read_document(&mut b);
-    print(judge_entries::judge_tree(table, tree));
+fn tree_case<R: Read>(rt: &impl Print, input: &mut R) -> io::Result<()> {
+    let mut a = [0u8; FILE_BYTES];
+    let mut b = [0u8; FILE_BYTES];
+    let table = read_document(input, &mut a)?;
+    let tree = read_document(input, &mut b)?;
+    print(rt, judge_entries::judge_tree(table, tree))
 }
 
 // A case of judging an embedding.
-fn embedding_case() {
-    let mut a = io::large_buffer();
-    let mut b = io::large_buffer();
-    let mut c = io::large_buffer();
-    let source = read_document(&mut a);
-    let target = read_document(&mut b);
-    let embedding = read_document(&mut c);
-    print(judge_entries::judge_embedding(source, target, embedding));
+fn embedding_case<R: Read>(rt: &impl Print, input: &mut R) -> io::Result<()> {
+    let mut a = [0u8; FILE_BYTES];
+    let mut b = [0u8; FILE_BYTES];
+    let mut c = [0u8; FILE_BYTES];
+    let source = read_document(input, &mut a)?;
+    let target = read_document(input, &mut b)?;
+    let embedding = read_document(input, &mut c)?;
+    print(
+        rt,
+        judge_entries::judge_embedding(source, target, embedding),
+    )
 }
 
 // Carries, or brings back.
@@ -52,31 +58,31 @@ fn call<'a>(entry: u8, a: &[u8], b: &[u8], c: &'a [u8], d: &'a [u8], out: &mut [
 }
 
 // A case of an entry that writes.
-fn writing_case(entry: u8) {
-    let mut a = io::large_buffer();
-    let mut b = io::large_buffer();
-    let mut c = io::large_buffer();
-    let mut d = io::large_buffer();
-    let mut out = io::large_buffer();
-    let source = read_document(&mut a);
-    let target = read_document(&mut b);
-    let embedding = read_document(&mut c);
-    let tree = read_document(&mut d);
-    let output = lend_output(&mut out);
+fn writing_case<R: Read>(rt: &impl Print, input: &mut R, entry: u8) -> io::Result<()> {
+    let mut a = [0u8; FILE_BYTES];
+    let mut b = [0u8; FILE_BYTES];
+    let mut c = [0u8; FILE_BYTES];
+    let mut d = [0u8; FILE_BYTES];
+    let mut out = [0u8; FILE_BYTES];
+    let source = read_document(input, &mut a)?;
+    let target = read_document(input, &mut b)?;
+    let embedding = read_document(input, &mut c)?;
+    let tree = read_document(input, &mut d)?;
+    let output = lend_output(input, &mut out)?;
     let answer = call(entry, source, target, embedding, tree, output);
-    print_written(answer, output);
+    print_written(rt, answer, output)
 }
 
 // One case: the documents that its entry takes are read, the entry is called, its answer printed.
-fn run(entry: u8) {
+fn run<R: Read>(rt: &impl Print, input: &mut R, entry: u8) -> io::Result<()> {
     if entry == JUDGE_TABLE {
-        table_case();
+        table_case(rt, input)
     } else if entry == JUDGE_TREE {
-        tree_case();
+        tree_case(rt, input)
     } else if entry == JUDGE_EMBEDDING {
-        embedding_case();
+        embedding_case(rt, input)
     } else {
-        writing_case(entry);
+        writing_case(rt, input, entry)
     }
 }
 
@@ -84,14 +90,16 @@ fn run(entry: u8) {
 const MOST: u32 = 1000;
 
 // All cases.
-fn main() {
+fn main(rt: HostRuntime) -> io::Result<()> {
+    let mut input = rt.reader();
     let mut left: u32 = MOST;
     while 0 < left {
-        let entry = next_entry();
+        let entry = next_entry(&mut input)?;
         if entry == 0 {
-            return;
+            return Ok(());
         }
-        run(entry);
+        run(&rt, &mut input, entry)?;
         left -= 1;
     }
+    Ok(())
 }

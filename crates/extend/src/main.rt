@@ -9,9 +9,10 @@ ghost use Rattle.model.specs.Definitions.Refusals.{max_length};
 
 use answer_numbers::Answer;
 use codes::SOURCE_TABLE;
-use console::{front, read_file};
+use console::{FILE_BYTES, front, read_file};
 use extending::REPORT_BYTES;
 use lines::{LINE_BYTES, kept_line, operation_line};
+use std::io;
 
 // The bytes that a report has of an operation, and of a type.
 const ANSWER_BYTES: usize = 2;
@@ -26,10 +27,10 @@ fn wide(b: u8) -> u64
 }
 
 // Prints the line of an answer.
-fn print(a: Answer) {
+fn print(rt: &impl Print, a: Answer) -> io::Result<()> {
     let mut room = [0u8; LINE_BYTES];
     let text = operation_line(&mut room, a);
-    io::write_all(1, text);
+    rt.write_all(text)
 }
 
 // The answer to an operation, by its two bytes of a report.
@@ -49,59 +50,60 @@ fn answer(refusal: u8, types: u8) -> Answer {
 }
 
 // Prints a line for each operation, of bytes that have their answers from an offset on. The second byte of the next stands at `at`.
-fn print_answers(report: &[u8], from: usize)
+fn print_answers(rt: &impl Print, report: &[u8], from: usize) -> io::Result<()>
     requires { from ≤ max_length }
 {
     let mut at = from + 1;
     while at < report.len() {
-        print(answer(report[at - 1], report[at]));
+        print(rt, answer(report[at - 1], report[at]))?;
         at += ANSWER_BYTES;
     }
+    Ok(())
 }
 
 // Prints the line of a type, by its height and the two bytes of its filler's length.
-fn print_type(height: u8, high: u8, low: u8) {
+fn print_type(rt: &impl Print, height: u8, high: u8, low: u8) -> io::Result<()> {
     let mut room = [0u8; LINE_BYTES];
     let text = kept_line(&mut room, wide(height), wide(high) * 256 + wide(low));
-    io::write_all(1, text);
+    rt.write_all(text)
 }
 
 // Prints a line for each of so many types, of bytes that have what is kept with them behind the first.
-fn print_types(report: &[u8], types: usize)
+fn print_types(rt: &impl Print, report: &[u8], types: usize) -> io::Result<()>
     requires { types ≤ 255 }
 {
     let mut t = 0;
     while t < types {
         let at = KEPT_BYTES * t + KEPT_BYTES;
         if at < report.len() {
-            print_type(report[at - 2], report[at - 1], report[at]);
+            print_type(rt, report[at - 2], report[at - 1], report[at])?;
         }
         t += 1;
     }
+    Ok(())
 }
 
 // Prints what a report says.
-fn print_report(report: &[u8]) {
+fn print_report(rt: &impl Print, report: &[u8]) -> io::Result<()> {
     if report.len() == 0 {
-        return;
+        return Ok(());
     }
     let types = wide(report[0]) as usize;
-    print_answers(report, KEPT_BYTES * types + 1);
-    print_types(report, types);
+    print_answers(rt, report, KEPT_BYTES * types + 1)?;
+    print_types(rt, report, types)
 }
 
 // Extends by the files' contents, and prints.
-fn main() {
-    let mut s = io::large_buffer();
-    let mut o = io::large_buffer();
-    let table = read_file(b"s1", &mut s);
-    let operations = read_file(b"op", &mut o);
+fn main(rt: HostRuntime) -> io::Result<()> {
+    let mut s = [0u8; FILE_BYTES];
+    let mut o = [0u8; FILE_BYTES];
+    let table = read_file(&rt, "s1", &mut s)?;
+    let operations = read_file(&rt, "op", &mut o)?;
     let mut out = [0u8; REPORT_BYTES];
     let a = extending::extend(table, operations, &mut out);
     if 0 < a.refusal {
-        print(a);
-        return;
+        return print(&rt, a);
     }
     let report = front(&mut out, a.value as usize);
-    print_report(report);
+    print_report(&rt, report)
 }

@@ -70,7 +70,7 @@ item_asked {source} {pool} {places} {r} l {tr} {o} {inner} {rest} there holds =
       there = at_part o (subst (λ (n : ℕ). ContentAt tr n (elem l.item inner rest)) (sym (add-zero o)) there);
       is_type = l.is_type;
       row_of = item_row_lem l.is_list_lem refl holds l.is_row;
-      is = filled-same (λ h. writes X₁ l.item inner) (held_by X₁ l.type (elem l.item inner rest)) (only_child X₁ l.type l.item inner rest)
+      is = filled-same _ (λ h. writes X₁ l.item inner) (held_by X₁ l.type (elem l.item inner rest)) (only_child X₁ l.type l.item inner rest)
           (item_symbols X₁ l.prepared.ready.valid l.type l.item l.is_type l.is_list_lem)
           ∙ ap (filled_row X₁.target (held_by X₁ l.type (elem l.item inner rest)))
           (sym (ap (row_at pool places) l.is_row ∙ l.prepared.rows.item_at l.type l.item l.is_type l.is_list_lem));

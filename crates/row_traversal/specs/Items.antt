@@ -2,7 +2,7 @@
 use Rattle.std.specs.Prelude.{◌≡◌, refl, List, [], ◌++◌, ℕ, ◌+◌, ◌<◌, length, get_or}
 use Rattle.std.proofs.Common.{sym, ap, ◌∙◌, subst, arith}
 use Rattle.model.specs.Definitions.Table.{list, kind_of}
-use Rattle.model.specs.Definitions.Content.{Content, end, elem, bytes}
+use Rattle.model.specs.Definitions.Content.{Content, end, char, elem, bytes}
 use Rattle.model.specs.Definitions.Conformance.{Holds, no_item, one_item}
 use Rattle.loaded_table.specs.Loaded.{table_by}
 use Rattle.scanning.specs.Scanning.{ContentAt}
@@ -42,6 +42,7 @@ module _ {source pool places tr : List ℕ} {r : ℕ} {bs : List ℕ} {a : Items
     where
       go : (k : Content) → l.rest ≡ k → Holds (table_by source) (list a.listed.item) k → ContentAt tr o k → OneItem l
       go end e no_item there = absurd (omega (arith, end_first there))
+      go (char c k) e h there = elim h [ ]
       go (elem t k rest) e (one_item h later) there =
           record { inside = k; next = rest; there = there; holds = h; later = later; more = ap (item_bytes a.listed) e ∙ items_more a.listed a.listed.item k rest }
 

@@ -30,14 +30,14 @@ use Rattle.row_traversal.specs.RowNumbers.{index_small, rank, list_rank}
 -- ---- the symbols of a row
 
 -- rows whose holes hold the same write the same
-pub filled-same : {T : Table} {Ok : Hole → Type 0} {row : List Symbol} (held other : Hole → List ℕ) → ((h : Hole) → Ok h → held h ≡ other h) → All (Allowed T Ok) row
+pub filled-same : (T : Table) {Ok : Hole → Type 0} {row : List Symbol} (held other : Hole → List ℕ) → ((h : Hole) → Ok h → held h ≡ other h) → All (Allowed T Ok) row
     → filled_row T held row ≡ filled_row T other row
 unfolding filled_row
-filled-same held other same all_none = refl
-filled-same held other same (all_more {a = opening t} ok later) = ap (λ (bs : List ℕ). 0x30 ∷ t ∷ bs) (filled-same held other same later)
-filled-same held other same (all_more {a = closing} ok later) = ap (λ (bs : List ℕ). 0x32 ∷ bs) (filled-same held other same later)
-filled-same {T} held other same (all_more {a = filler t} ok later) = ap (λ (bs : List ℕ). filler_bytes T t ++ bs) (filled-same held other same later)
-filled-same held other same (all_more {a = hole h} ok later) = rw (same h ok, filled-same held other same later)
+filled-same T held other same all_none = refl
+filled-same T held other same (all_more {a = opening t} ok later) = ap (λ (bs : List ℕ). 0x30 ∷ t ∷ bs) (filled-same T held other same later)
+filled-same T held other same (all_more {a = closing} ok later) = ap (λ (bs : List ℕ). 0x32 ∷ bs) (filled-same T held other same later)
+filled-same T held other same (all_more {a = filler t} ok later) = ap (λ (bs : List ℕ). filler_bytes T t ++ bs) (filled-same T held other same later)
+filled-same T held other same (all_more {a = hole h} ok later) = rw (same h ok, filled-same T held other same later)
 
 -- a choice without a child holds no bytes
 nothing_characters : {S : Table} {need : Need} {ms : List ℕ} {k : Content} → first_in k ≡ none → Holds S (choice need ms) k → characters_of k ≡ bytes k

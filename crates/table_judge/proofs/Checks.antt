@@ -46,7 +46,7 @@ refusing bs f after g = record { judgement = sym g; loaded = λ accepted whole. 
 module _ (bs rows : List ℕ) (loaded : TableLoaded bs rows) where
   -- the loaded table's types are the document's
   loaded_types : types_in rows ≡ length (table_of bs)
-  loaded_types = sym (length_of_lem rows) ∙ ap length (loaded .same_table)
+  loaded_types = sym (length_of_lem rows) ∙ ap length (loaded.same_table)
 
   -- the operands were judged by the number of types loaded
   operands_by : {all : ℕ} {v : model.Verdict} → all ≡ types_in rows → table_operands all bs ≡ v → table_operands (length (table_of bs)) bs ≡ v
@@ -66,11 +66,11 @@ module _ (bs rows : List ℕ) (loaded : TableLoaded bs rows) where
     -- what finding endless types and filler lengths requires
     pub ready : Bounded mid × HoldsHeights (loaded_table.table_by mid) (heights_of mid)
     ready =
-        (bounded_elsewhere (omega arith) (omega arith) heights.elsewhere (loaded .bounded), subst (λ T. HoldsHeights T (heights_of mid)) (sym same_mid) heights.found)
+        (bounded_elsewhere (omega arith) (omega arith) heights.elsewhere (loaded.bounded), subst (λ T. HoldsHeights T (heights_of mid)) (sym same_mid) heights.found)
 
     -- the verdict on endless types is the document's
     pub endless-by : {v w : model.Verdict} → v ≡ endless_type (loaded_table.table_by mid) → v ≡ w → endless_type (table_of bs) ≡ w
-    endless-by p q = ap endless_type (sym (same_mid ∙ loaded .same_table)) ∙ sym p ∙ q
+    endless-by p q = ap endless_type (sym (same_mid ∙ loaded.same_table)) ∙ sym p ∙ q
 
     pub endless-refused : (after : List ℕ) (at : ℕ) {all : ℕ} → all ≡ types_in rows → table_operands all bs ≡ passes → table_repeats bs ≡ passes → endless_type (table_of bs) ≡ fails at
         → AfterLimits bs (Judged.Has (Fault.NoFiniteInstance at)) after
@@ -86,7 +86,7 @@ module _ (bs rows : List ℕ) (loaded : TableLoaded bs rows) where
         }
       where
         same : loaded_table.table_by mid ≡ table_of bs
-        same = same_mid ∙ loaded .same_table
+        same = same_mid ∙ loaded.same_table
 
         same_after : loaded_table.table_by after ≡ loaded_table.table_by mid
         same_after = table_elsewhere (omega arith) (omega arith) fill.elsewhere

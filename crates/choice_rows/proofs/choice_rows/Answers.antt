@@ -7,7 +7,7 @@ use Rattle.choice_rows.proofs.Members.{nothing_next, needed_rows}
 use Rattle.choice_rows.proofs.choice_rows.Goals as goal
 
 pub member_rows-end-requires : goal.member_rows-end-requires
-member_rows-end-requires c = let all = c.requires in record { next = all.0; s_value = all.1 }
+member_rows-end-requires c = c.requires
 
 pub kind-requires : goal.kind-requires
 kind-requires c = omega (arith, few_of_type c.requires.next.makeable)

@@ -12,9 +12,10 @@ use Rattle.own_rows.specs.Progress.{few_of_type}
 use Rattle.own_rows.specs.Steps.{RowEdges, row-needs, row_more, progress-end}
 use Rattle.choice_rows.proofs.Nothing.{nothing-follows, nothing_found, nothing_small}
 use Rattle.choice_rows.proofs.nothing_row.Goals as goal
+use Rattle.choice_rows.proofs.nothing_row.Goals.{After-one_path-path}
 
 -- it is what the row of nothing is made of
-path-made : (c : goal.After-one_path-path) → let a = c.args in
+path-made : (c : After-one_path-path) → let a = c.args in
     RowEdges a.source.now a.target.now a.map.now a.em.now a.s (get_or (counts_of a.source.now) a.s 0) (nothing_of a.source.now a.map.now a.s) c.one_path-path.result
 path-made c =
     let can = c.requires.next.makeable in

@@ -1,5 +1,4 @@
 -- `front` meets its contract: the first n bytes of as many or fewer are all of them.
-use borrow.Author.Rules.{rules}
 use lib.Seq.{length-take-le, take_all}
 use mathlib.Core.Path.{sym}
 use native.Mathlib.Omega.{arith}

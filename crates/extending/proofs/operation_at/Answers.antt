@@ -2,7 +2,7 @@
 use mathlib.Core.Logic.{⊎_elim}
 use native.Mathlib.Omega.{arith}
 use borrow.Author.Rules.{rules}
-use borrow.Author.Tests.{ltb-true}
+use borrow.Author.Tests.{ltb-true, lt-ltb, le-ltb}
 use Rattle.extending.proofs.Reading.{type_read, long_type_read, member_read, none_read}
 use Rattle.extending.proofs.operation_at.Goals as goal
 
@@ -10,12 +10,12 @@ pub bounds-ops-at-then-left-gt1 : goal.bounds-ops-at-then-left-gt1
 bounds-ops-at-then-left-gt1 c = omega (arith, ltb-true)
 
 pub returns-then-n-left : goal.returns-then-n-left
-returns-then-n-left c = type_read _ _ _ c.if-b-eq-APPEND_TYPE.true c.if-left-gt1.true c.wide-n.ensures.0 c.if-n-left.true
+returns-then-n-left c = type_read _ _ _ c.if-b-eq-APPEND_TYPE.true (lt-ltb _ _ c.if-left-gt1.true) c.wide-n.ensures.0 c.if-n-left.true
 
 pub returns-then-left-gt1 : goal.returns-then-left-gt1
 returns-then-left-gt1 c =
     let args = c.args in
-    long_type_read args.ops.now args.at _ c.if-b-eq-APPEND_TYPE.true c.if-left-gt1.true c.wide-n.ensures.0 c.if-n-left.false
+    long_type_read args.ops.now args.at _ c.if-b-eq-APPEND_TYPE.true (lt-ltb _ _ c.if-left-gt1.true) c.wide-n.ensures.0 c.if-n-left.false
 
 pub bounds-ops-at-then-left-gt2 : goal.bounds-ops-at-then-left-gt2
 bounds-ops-at-then-left-gt2 c = omega (arith, ltb-true)
@@ -25,10 +25,10 @@ bounds-ops-at-then-left-gt2-2 c = omega (arith, ltb-true)
 
 pub returns-then-left-gt2 : goal.returns-then-left-gt2
 returns-then-left-gt2 c =
-    member_read _ _ _ _ c.if-b-eq-APPEND_MEMBER.true c.if-left-gt2.true c.wide.ensures.0 c.wide-then-left-gt2.ensures.0
+    member_read _ _ _ _ c.if-b-eq-APPEND_MEMBER.true (lt-ltb _ _ c.if-left-gt2.true) c.wide.ensures.0 c.wide-then-left-gt2.ensures.0
 
 pub returns : goal.returns
 returns c =
     none_read _ _ c.requires
-    (λ e. ⊎_elim (λ w. w.1.left) (λ w. absurd (w.left e)) c.else-b-eq-APPEND_TYPE.branch)
-    (λ e. ⊎_elim (λ w. w.1.left) (λ w. absurd (w.left e)) c.else-b-eq-APPEND_MEMBER.branch)
+    (λ e. ⊎_elim (λ w. le-ltb _ _ w.1) (λ w. absurd (w e)) c.else-b-eq-APPEND_TYPE.either)
+    (λ e. ⊎_elim (λ w. le-ltb _ _ w.1) (λ w. absurd (w e)) c.else-b-eq-APPEND_MEMBER.either)

@@ -2,9 +2,10 @@
 use borrow.Author.Rules.{rules}
 use Rattle.extending.proofs.Reporting.{TwoBytes, two_bytes, answer-written}
 use Rattle.extending.proofs.put_answer.Goals as goal
+use Rattle.extending.proofs.put_answer.Goals.{After-extended-a}
 
 -- the answer's two bytes
-two : (c : goal.After-extended-a) → TwoBytes c.args.e c.extended-a.result.refusal c.extended-a.result.value
+two : (c : After-extended-a) → TwoBytes c.args.e c.extended-a.result.refusal c.extended-a.result.value
 two c = two_bytes _ _ c.requires.1 c.extended-a.ensures
 
 pub overflow_cast-answers : goal.overflow_cast-answers

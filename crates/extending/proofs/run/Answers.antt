@@ -6,13 +6,14 @@ use Rattle.model.specs.Definitions.Refusals.{max_length}
 use Rattle.extending.specs.Extending.{Performs, Small}
 use Rattle.extending.proofs.Running.{Ran, none_ran, goes_on, room_for_answer, stop-answered, one-more-ran, answers_room, answers_there, report_answered}
 use Rattle.extending.proofs.run.Goals as goal
+use Rattle.extending.proofs.run.Goals.{Else-width-eq0}
 
 -- where an operation is there, it is carried out
-went : (c : goal.Else-width-eq0) → Performs c.args.ops.now c.loop-at.at c.loop-at.table c.perform-turn.result
+went : (c : Else-width-eq0) → Performs c.args.ops.now c.loop-at.at c.loop-at.table c.perform-turn.result
 went c = goes_on c.perform-turn.ensures c.if-width-eq0.false
 
 -- and its answer has room
-room : (c : goal.Else-width-eq0) → (c.loop-at.filled + 2 ≤ max_length) × Small c.perform-turn.result.answer
+room : (c : Else-width-eq0) → (c.loop-at.filled + 2 ≤ max_length) × Small c.perform-turn.result.answer
 room c = room_for_answer c.loop-at.invariant (went c) c.requires.1
 
 pub loop-at-init : goal.loop-at-init

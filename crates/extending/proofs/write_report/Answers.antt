@@ -13,12 +13,11 @@ pub put_kept-behind-requires : goal.put_kept-behind-requires
 put_kept-behind-requires c = (c.requires.0, omega (arith, c.if-out-needed.false, c.types-all.ensures.0, length-set c.args.out.now 0 c.types-all.result))
 
 pub copy-requires : goal.copy-requires
-copy-requires c =
-    (
-      omega arith,
-      c.requires.1,
-      room-behind c.args.table.numbers c.args.out.now c.args.answers.now _ _ c.types-all.ensures.0 c.requires.1 _ _ c.put_kept-behind.ensures c.if-out-needed.false,
-    )
+copy-requires c = (
+  omega arith,
+  c.requires.1,
+  room-behind c.args.table.numbers c.args.out.now c.args.answers.now _ _ c.types-all.ensures.0 c.requires.1 _ _ c.put_kept-behind.ensures c.if-out-needed.false,
+)
 
 pub shape_of-out : goal.shape_of-out
 shape_of-out c = search (rules, writes-length c.copy.ensures, writes-length c.put_kept-behind.ensures)

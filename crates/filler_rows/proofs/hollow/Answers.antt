@@ -16,7 +16,7 @@ least_member-m-requires c = (c.requires.sound.bounded, c.requires.t_bound.0)
 
 pub put-requires : goal.put-requires
 put-requires c =
-    (omega (arith, c.requires.t_bound.1), omega (arith, least-small c.requires.sound c.requires.t_bound.0 c.kind-kind.ensures.0 c.if-kind-eq-CHOICE.true c.least_member.ensures))
+    (omega (arith, c.requires.t_bound.1), omega (arith, least-small c.requires.sound c.requires.t_bound.0 c.kind-kind.ensures.0 c.if-kind-eq-CHOICE.true c.least_member-m.ensures))
 
 pub shape_of-pool-then-kind-eq-CHOICE : goal.shape_of-pool-then-kind-eq-CHOICE
 shape_of-pool-then-kind-eq-CHOICE c = puts-length c.put.ensures
@@ -24,7 +24,7 @@ shape_of-pool-then-kind-eq-CHOICE c = puts-length c.put.ensures
 pub returns-then-kind-eq-CHOICE : goal.returns-then-kind-eq-CHOICE
 returns-then-kind-eq-CHOICE c =
     let put = c.put.ensures in
-    (puts_as (hollow-choice c.requires.sound c.requires.t_bound.0 c.kind-kind.ensures.0 c.if-kind-eq-CHOICE.true c.least_member.ensures) put, omega (arith, puts-after put))
+    (puts_as (hollow-choice c.requires.sound c.requires.t_bound.0 c.kind-kind.ensures.0 c.if-kind-eq-CHOICE.true c.least_member-m.ensures) put, omega (arith, puts-after put))
 
 pub returns-then-kind-ne-SEQUENCE : goal.returns-then-kind-ne-SEQUENCE
 returns-then-kind-ne-SEQUENCE c =

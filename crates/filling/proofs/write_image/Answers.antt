@@ -50,11 +50,14 @@ slice_bounds-run-end-2 c = omega arith
 
 pub run-held-requires : goal.run-held-requires
 run-held-requires c =
-    let f = c.requires.task in record { spans = spans_from _ c.requires.spans; task = (record {
+    let f = c.requires.task in record {
+      spans = spans_from _ c.requires.spans;
+      task = (record {
         bytes = held f.asked;
         asked = image_row f.asked c.row_of-row.ensures;
         room = omega (arith, whole_room f, c.put_open-opened.ensures.after, writes-length c.put_open-opened.ensures);
-      }, ) }
+      });
+    }
 
 pub put_close-closed-requires : goal.put_close-closed-requires
 put_close-closed-requires c =

@@ -35,7 +35,7 @@ slice_bounds-run-end-2 c = omega arith
 
 pub run-held-requires : goal.run-held-requires
 run-held-requires c =
-    let a = c.requires.task.1 in record { spans = spans_from _ c.requires.spans; task = (record { bytes = held a; asked = image_row a c.row_of-row.ensures; room = c.same_open-opened.ensures.within (goes _ c.if-not-opened.false) }, ) }
+    let a = c.requires.task.1 in record { spans = spans_from _ c.requires.spans; task = (record { bytes = held a; asked = image_row a c.row_of-row.ensures; room = c.same_open-opened.ensures.within (goes _ c.if-not-opened.false) }) }
 
 pub returns-then-not-held : goal.returns-then-not-held
 returns-then-not-held c bs a =

@@ -16,6 +16,6 @@ pub returns : goal.returns
 returns c =
     let sizes = c.args.sizes.now in
     let row = c.item_row.ensures in
-    let size = c.type_size.ensures in
+    let size = c.size_of.ensures in
     let all = all_around c.args.source.now c.args.s c.kind.result c.requires.s_bound.0 c.kind.ensures.0 c.if-kind-lt-LIST.false in
     record { levels = all _ _ (size.0 ∙ ap (levels_in sizes) row); bytes = all _ _ (size.1 ∙ ap (bytes_in sizes) row); filler = all _ _ (size.2 ∙ ap (filler_in sizes) row) }

@@ -8,9 +8,10 @@ use Rattle.own_rows.specs.Making.{edges_small}
 use Rattle.own_rows.specs.Progress.{few_of_type}
 use Rattle.own_rows.specs.Steps.{RowEdges, own_edges, own_small, progress-begin, row-needs, row_more, progress-end}
 use Rattle.own_rows.proofs.one_row.Goals as goal
+use Rattle.own_rows.proofs.one_row.Goals.{After-target-t}
 
 -- the paths below it are what the type's one row is made of
-paths-made : (c : goal.After-target-t) → let a = c.args in
+paths-made : (c : After-target-t) → let a = c.args in
     RowEdges a.source.now a.target.now a.map.now a.em.now a.s 0 (edge_room a.map.now (a.s * 16) 16) c.own_edges-e.result
 paths-made c = let can = c.requires.next.makeable in own_edges can.ready can.exists c.own_edges-e.ensures c.requires.s_bound
 

@@ -1,8 +1,8 @@
-use mathlib.Core.Logic.{⊎_elim}
 use Prim.Native.Nat.{◌-◌}
 use native.Mathlib.Omega.{arith}
 use Rattle.path_elements.proofs.RowCounts.{CountedTo, none_counted, all_counted, one-counted, one-passed}
 use Rattle.path_elements.proofs.openings.Goals as goal
+use Rattle.path_elements.proofs.openings.Goals.{then-pool-i-lt-FILLER, else-pool-i-lt-FILLER}
 
 pub loop-i-init : goal.loop-i-init
 loop-i-init c = none_counted _ _ _
@@ -22,9 +22,10 @@ loop-i-smaller c = omega arith
 pub loop-i-preserved : goal.loop-i-preserved
 loop-i-preserved c =
     let less = c.loop-i-test.true in
-    ⊎_elim (λ w. rw w.1 (one-counted c.loop-i.invariant less c.requires (omega (arith, w.0.taken))))
-    (λ w. rw w.1 (one-passed c.loop-i.invariant less c.requires (omega (arith, w.0.left))))
-    c.if-pool-i-lt-FILLER.branch
+    elim c.if-pool-i-lt-FILLER.branch [
+      | then-pool-i-lt-FILLER w ↦ rw w.n-is (one-counted c.loop-i.invariant less c.requires (omega (arith, w.if-pool-i-lt-FILLER.true)))
+      | else-pool-i-lt-FILLER w ↦ rw w.n-is (one-passed c.loop-i.invariant less c.requires (omega (arith, w.if-pool-i-lt-FILLER.false)))
+    ]
 
 pub returns : goal.returns
 returns c = all_counted c.loop-i.invariant c.loop-i-test.false

@@ -17,15 +17,17 @@ pub type_rows-at-requires : goal.type_rows-at-requires
 type_rows-at-requires c =
     let inv = c.loop-s.invariant in
     let fillers = c.filler_rows-at.ensures.whole in
-    record { next = record {
-      makeable = record {
-        ready = c.requires.ready;
-        exists = omega (arith, c.loop-s-test.true, c.types-types.ensures.0);
-        small = omega (arith, c.requires.arrays.short, inv.1.whole.pool_length, fillers.pool_length);
-        long = omega (arith, c.requires.arrays.long, inv.1.whole.places_length, fillers.places_length);
+    record {
+      next = record {
+        makeable = record {
+          ready = c.requires.ready;
+          exists = omega (arith, c.loop-s-test.true, c.types-types.ensures.0);
+          small = omega (arith, c.requires.arrays.short, inv.1.whole.pool_length, fillers.pool_length);
+          long = omega (arith, c.requires.arrays.long, inv.1.whole.places_length, fillers.places_length);
+        };
+        progress = progress_here inv.1;
       };
-      progress = progress_here inv.1;
-    } }
+    }
 
 pub overflow_add-s : goal.overflow_add-s
 overflow_add-s c = omega (arith, c.loop-s-test.true)

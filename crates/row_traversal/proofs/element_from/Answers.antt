@@ -1,12 +1,15 @@
-use mathlib.Core.Logic.{⊎_elim}
 use native.Mathlib.Omega.{arith}
 use Rattle.scanning.specs.Laws.{content_within}
 use Rattle.row_traversal.proofs.Finding.{ToPass, pass_all, pass_from, next_passed, pass_on, pass_none}
 use Rattle.row_traversal.proofs.element_from.Goals as goal
+use Rattle.row_traversal.proofs.element_from.Goals.{then-seen-i, else-seen-i}
 
 pub loop-left-init : goal.loop-left-init
 loop-left-init c =
-    ⊎_elim (λ w. rw (w.1, w.2) (pass_from w.0.taken c.requires.near)) (λ w. rw (w.1, w.2) pass_all) c.if-seen-i.branch
+    elim c.if-seen-i.branch [
+      | then-seen-i w ↦ rw (w.o-is, w.left-is) (pass_from w.if-seen-i.true c.requires.near)
+      | else-seen-i w ↦ rw (w.o-is, w.left-is) pass_all
+    ]
 
 pub overflow_add-o : goal.overflow_add-o
 overflow_add-o c = omega (arith, content_within (next_passed c.loop-left.invariant c.requires.content).within, c.requires.spans.short)

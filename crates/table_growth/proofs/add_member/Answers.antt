@@ -25,7 +25,7 @@ find_fill-requires c =
     let settled = c.settle_heights.ensures in
     let bounded = (ready _ _ _ c.requires c.join.ensures).0 in (
       bounded_elsewhere (omega arith) (omega arith) settled.elsewhere bounded,
-      subst (λ T. HoldsHeights T (heights_of c.settle_heights.new.0)) (sym (table_elsewhere (omega arith) (omega arith) settled.elsewhere)) settled.found,
+      subst (λ T. HoldsHeights T (heights_of c.settle_heights.new.table)) (sym (table_elsewhere (omega arith) (omega arith) settled.elsewhere)) settled.found,
     )
 
 pub returns-then-lower : goal.returns-then-lower

@@ -10,20 +10,21 @@ use Rattle.loaded_table.specs.Loaded.{types_in, counts_of, table_by}
 use Rattle.model.specs.Definitions.Table.{is_choice, kind_of}
 use Rattle.table_growth.proofs.Appending.{nothing_to_extend, too_many, unknown, repeated, may-join, joined}
 use Rattle.table_growth.proofs.grow_member.Goals as goal
+use Rattle.table_growth.proofs.grow_member.Goals.{Else-missing, Else-full, Else-all-m}
 
 -- the type is there, and is a choice
-there : (c : goal.Else-missing) → c.args.t < types_in c.args.table.now
-there c = c.extends-missing.ensures.1 (not-false _ c.if-missing.false)
+there : (c : Else-missing) → c.args.t < types_in c.args.table.now
+there c = c.extends-missing.ensures.1 c.if-missing.false
 
-chooses : (c : goal.Else-missing) → is_choice (kind_of (table_by c.args.table.now) c.args.t) ≡ true
-chooses c = sym c.extends-missing.ensures.0 ∙ not-false _ c.if-missing.false
+chooses : (c : Else-missing) → is_choice (kind_of (table_by c.args.table.now) c.args.t) ≡ true
+chooses c = sym c.extends-missing.ensures.0 ∙ c.if-missing.false
 
 -- and has room
-room : (c : goal.Else-full) → eqb (get_or (counts_of c.args.table.now) c.args.t 0) 16 ≡ false
+room : (c : Else-full) → eqb (get_or (counts_of c.args.table.now) c.args.t 0) 16 ≡ false
 room c = sym c.is_full-full.ensures ∙ c.if-full.false
 
 -- the member is a type
-known : (c : goal.Else-all-m) → c.args.m < types_in c.args.table.now
+known : (c : Else-all-m) → c.args.m < types_in c.args.table.now
 known c = omega (arith, c.if-all-m.false, c.types-all.ensures.0)
 
 pub extends-missing-requires : goal.extends-missing-requires
@@ -34,7 +35,7 @@ is_full-full-requires c = tt
 
 pub returns-then-missing : goal.returns-then-missing
 returns-then-missing c =
-    nothing_to_extend _ _ _ _ c.requires (sym c.extends-missing.ensures.0 ∙ not-true _ c.if-missing.true)
+    nothing_to_extend _ _ _ _ c.requires (sym c.extends-missing.ensures.0 ∙ c.if-missing.true)
 
 pub returns-then-full : goal.returns-then-full
 returns-then-full c =

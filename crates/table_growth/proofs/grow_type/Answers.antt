@@ -10,20 +10,21 @@ use Rattle.table_growth.specs.Growth.{TypeFits, TypeChecked}
 use Rattle.table_growth.proofs.Appending.{refused_fault}
 use Rattle.table_growth.proofs.Growing.{kept-before, grown-endless, grown-done}
 use Rattle.table_growth.proofs.grow_type.Goals as goal
+use Rattle.table_growth.proofs.grow_type.Goals.{After-types-all, In_default}
 
 -- there are as many types as a table may have, at most
-few : (c : goal.After-types-all) → c.types-all.result ≤ 64
+few : (c : After-types-all) → c.types-all.result ≤ 64
 few c = omega (arith, c.types-all.ensures.0, c.requires.stands.bounded.few_types)
 
 -- the type passes the checks
-type-fits : (c : goal.In_default) → TypeFits c.types-all.result c.args.cs.now
+type-fits : (c : In_default) → TypeFits c.types-all.result c.args.cs.now
 type-fits c = subst (TypeChecked c.types-all.result c.args.cs.now) c.in_default.is c.check_type-checked.ensures
 
 pub types-all-requires : goal.types-all-requires
 types-all-requires c = tt
 
 pub check_type-checked-requires : goal.check_type-checked-requires
-check_type-checked-requires c = few c
+check_type-checked-requires c = few (goal.at.check_type-checked-requires c).After-types-all
 
 pub returns-in-Has : goal.returns-in-Has
 unfolding operate

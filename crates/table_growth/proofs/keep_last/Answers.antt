@@ -7,14 +7,15 @@ use Rattle.model.specs.Definitions.Heights.{height_of}
 use Rattle.table_heights.specs.Sections.{types_elsewhere, bounded_elsewhere}
 use Rattle.table_growth.proofs.Keeping.{height_held, first-elsewhere, found, mid-elsewhere, bounded-mid, last-kept}
 use Rattle.table_growth.proofs.keep_last.Goals as goal
+use Rattle.table_growth.proofs.keep_last.Goals.{After-next_height-h}
 
 -- what is found is the height
-height : (c : goal.After-next_height-h) → c.next_height-h.result ≡ height_of (table_by c.args.table.now) c.args.t
+height : (c : After-next_height-h) → c.next_height-h.result ≡ height_of (table_by c.args.table.now) c.args.t
 height c =
     found _ _ c.requires.0 c.requires.1 c.set_height.ensures c.next_height-h.ensures
 
 -- it fits a number of the table
-fits : (c : goal.After-next_height-h) → c.next_height-h.result ≤ 65
+fits : (c : After-next_height-h) → c.next_height-h.result ≤ 65
 fits c =
     omega (arith, height c, height_held (table_by c.args.table.now) c.args.t, length_of_lem c.args.table.now, c.requires.1.last, c.requires.0)
 

@@ -6,21 +6,22 @@ use Rattle.model.specs.Definitions.Basics.{member_of}
 use Rattle.table_heights.specs.Sections.{members_at, members_long, member_is}
 use Rattle.table_growth.proofs.Naming.{named_here, not_named_here, named_nowhere}
 use Rattle.table_growth.proofs.names.Goals as goal
+use Rattle.table_growth.proofs.names.Goals.{After-count-many, After-member, In-loop-i}
 
 -- the members are as many as are counted
-long : (c : goal.After-count-many) → length (members_at c.args.table.now c.args.t) ≡ c.count-many.result
+long : (c : After-count-many) → length (members_at c.args.table.now c.args.t) ≡ c.count-many.result
 long c = members_long _ _ c.requires c.count-many.ensures.0
 
 -- what is asked is member i
-asked : (c : goal.After-member)
+asked : (c : After-member)
     → let a = c.args in
     c.member.result ≡ get_or (members_at a.table.now a.t) c.loop-i.i 0
 asked c =
     let a = c.args in
     member_is a.table.now a.t c.loop-i.i (omega (arith, c.loop-i-test.true, c.count-many.ensures.0)) c.member.ensures.0
 
-here : (c : goal.In-loop-i) → let a = c.args in c.loop-i.i < length (members_at a.table.now a.t)
-here c = omega (arith, c.loop-i-test.true, long c)
+here : (c : In-loop-i) → let a = c.args in c.loop-i.i < length (members_at a.table.now a.t)
+here c = omega (arith, c.loop-i-test.true, members_long _ _ c.requires c.count-many.ensures.0)
 
 pub count-many-requires : goal.count-many-requires
 count-many-requires c = omega (arith, c.requires.1, c.requires.0.few_types)

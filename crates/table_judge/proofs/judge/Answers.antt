@@ -5,13 +5,14 @@ use Rattle.model.specs.Definitions.Basics.{passes}
 use Rattle.model.specs.Definitions.TableChecks.{table_form, table_limits}
 use Rattle.table_judge.proofs.Checks.{verdict_is, length_refused, form_refused, limit_refused, later_decides}
 use Rattle.table_judge.proofs.judge.Goals as goal
+use Rattle.table_judge.proofs.judge.Goals.{In_default, In_default-limits}
 
 -- check 2 has passed
-form_passes : (c : goal.In_default) → table_form c.args.t.now ≡ passes
+form_passes : (c : In_default) → table_form c.args.t.now ≡ passes
 form_passes c = verdict_is _ c.form-form.ensures _ c.in_default.is refl
 
 -- check 3 has passed
-limits_pass : (c : goal.In_default-limits) → table_limits c.args.t.now ≡ passes
+limits_pass : (c : In_default-limits) → table_limits c.args.t.now ≡ passes
 limits_pass c = verdict_is _ c.limits-limits.ensures _ c.in_default-limits.is refl
 
 pub returns-then-t-gt-MAX_BYTES : goal.returns-then-t-gt-MAX_BYTES

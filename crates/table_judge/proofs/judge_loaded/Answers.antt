@@ -5,13 +5,14 @@ use Rattle.model.specs.Definitions.Basics.{passes}
 use Rattle.model.specs.Definitions.TableChecks.{table_operands, table_repeats}
 use Rattle.table_judge.proofs.Checks.{verdict_is, operand_refused, repeat_refused, ready, endless-by, endless-refused, all-accepted}
 use Rattle.table_judge.proofs.judge_loaded.Goals as goal
+use Rattle.table_judge.proofs.judge_loaded.Goals.{In_default, In_default-repeats}
 
 -- check 4 has passed
-operands_pass : (c : goal.In_default) → table_operands c.types-all.result c.args.t.now ≡ passes
+operands_pass : (c : In_default) → table_operands c.types-all.result c.args.t.now ≡ passes
 operands_pass c = verdict_is _ c.operands-operands.ensures _ c.in_default.is refl
 
 -- check 5 has passed
-repeats_pass : (c : goal.In_default-repeats) → table_repeats c.args.t.now ≡ passes
+repeats_pass : (c : In_default-repeats) → table_repeats c.args.t.now ≡ passes
 repeats_pass c = verdict_is _ c.repeats-repeats.ensures _ c.in_default-repeats.is refl
 
 pub types-all-requires : goal.types-all-requires
@@ -37,7 +38,7 @@ returns-in-Fails-endless c =
     let loaded = c.load.ensures in
     let found = c.find_heights.ensures in
     endless-refused _ _ loaded _ found _ _ c.types-all.ensures.0 (operands_pass (goal.at.returns-in-Fails-endless c).In_default) (repeats_pass (goal.at.returns-in-Fails-endless c).In_default-repeats)
-    (endless-by _ _ loaded _ found c.first_endless.ensures (verdict_is _ refl _ c.in-Fails-endless.is refl))
+    (endless-by _ _ loaded _ found c.first_endless-endless.ensures (verdict_is _ refl _ c.in-Fails-endless.is refl))
 
 pub find_fill-requires : goal.find_fill-requires
 find_fill-requires c =
@@ -48,4 +49,4 @@ returns c =
     let loaded = c.load.ensures in
     let found = c.find_heights.ensures in
     all-accepted _ _ loaded _ found _ c.types-all.ensures.0 (operands_pass (goal.at.returns c).In_default) (repeats_pass (goal.at.returns c).In_default-repeats)
-    (endless-by _ _ loaded _ found c.first_endless.ensures (verdict_is _ refl _ c.in_default-endless.is refl)) c.find_fill.ensures
+    (endless-by _ _ loaded _ found c.first_endless-endless.ensures (verdict_is _ refl _ c.in_default-endless.is refl)) c.find_fill.ensures

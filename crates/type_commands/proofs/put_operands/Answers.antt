@@ -8,15 +8,16 @@ use Rattle.type_commands.specs.Types.{type_written}
 use Rattle.type_commands.proofs.Reading.{TypeTold, type_told}
 use Rattle.type_commands.proofs.Storing.{Stored, none_stored, one_stored, all_stored}
 use Rattle.type_commands.proofs.put_operands.Goals as goal
+use Rattle.type_commands.proofs.put_operands.Goals.{Start, After-set_member-arg-1}
 
 -- what the bytes tell
-told : (s : goal.Start) → TypeTold s.args.cs.now
+told : (s : Start) → TypeTold s.args.cs.now
 told s = type_told _ s.requires.2
 
 -- the operand that a turn stores is within them
-within : (d : goal.After-set_member-arg-1) → d.first_operand-first.result + 2 * d.loop-i.i < length d.args.cs.now
+within : (d : After-set_member-arg-1) → d.first_operand-first.result + 2 * d.loop-i.i < length d.args.cs.now
 within d =
-    omega (arith, (told d).within d.loop-i.i d.loop-i-test.true, d.first_operand-first.ensures)
+    omega (arith, (type_told _ d.requires.2).within d.loop-i.i d.loop-i-test.true, d.first_operand-first.ensures)
 
 pub bounds-cs-0 : goal.bounds-cs-0
 bounds-cs-0 c = (told (goal.at.bounds-cs-0 c).Start).filled
@@ -28,7 +29,7 @@ pub loop-i-init : goal.loop-i-init
 loop-i-init c = none_stored _ _ _
 
 pub overflow_add-first : goal.overflow_add-first
-overflow_add-first c = omega (arith, within c)
+overflow_add-first c = omega (arith, within (goal.at.overflow_add-first c).After-set_member-arg-1)
 
 pub bounds-cs-first : goal.bounds-cs-first
 bounds-cs-first c = within (goal.at.bounds-cs-first c).After-set_member-arg-1

@@ -1,6 +1,5 @@
 -- `digit` meets its contract: below ten a figure, else a letter.
 use mathlib.Core.Path.{sym}
-use borrow.Author.Rules.{rules}
 use borrow.Author.Tests.{lt-ltb, le-ltb}
 use Rattle.model.proofs.Theorems.Tools.{pick_true, pick_false}
 use Rattle.case_text.specs.Hexadecimal.{hex_digit}

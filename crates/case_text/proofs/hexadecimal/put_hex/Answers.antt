@@ -1,13 +1,14 @@
-use Prim.Native.Nat.{◌+◌, ◌-◌, ◌≤◌}
+use Prim.Native.Nat.{◌+◌, ◌≤◌}
 use native.Mathlib.Omega.{arith}
 use lib.ListN.{length, length-set}
 use borrow.Author.Rules.{rules}
 use Rattle.writing.specs.Laws.{writes-length}
-use Rattle.case_text.proofs.DocumentLines.{Hexed, none_hexed, room_for_byte, one_more_hexed, all_hexed}
+use Rattle.case_text.proofs.DocumentLines.{none_hexed, room_for_byte, one_more_hexed, all_hexed}
 use Rattle.case_text.proofs.hexadecimal.put_hex.Goals as goal
+use Rattle.case_text.proofs.hexadecimal.put_hex.Goals.{In-loop-i}
 
 -- in a turn there is room for two digits more
-room : (turn : goal.In-loop-i) → turn.loop-i.to + 2 ≤ length turn.loop-i.line
+room : (turn : In-loop-i) → turn.loop-i.to + 2 ≤ length turn.loop-i.line
 room turn = room_for_byte turn.loop-i.invariant turn.loop-i-test.true turn.requires
 
 pub loop-i-init : goal.loop-i-init

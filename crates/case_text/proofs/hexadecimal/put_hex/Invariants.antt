@@ -1,10 +1,7 @@
 -- `put_hex` meets its contract: the bytes so far are written.
-use Prim.Native.Nat.{◌+◌, ◌-◌, ◌≤◌}
-use native.Mathlib.Omega.{arith}
-use lib.ListN.{length, length-set}
-use borrow.Author.Rules.{rules}
-use Rattle.writing.specs.Laws.{writes-length}
-use Rattle.case_text.proofs.DocumentLines.{Hexed, none_hexed, room_for_byte, one_more_hexed, all_hexed}
+use Prim.Native.Nat.{◌-◌}
+use lib.ListN.{length}
+use Rattle.case_text.proofs.DocumentLines.{Hexed}
 use Rattle.case_text.proofs.hexadecimal.put_hex.Given as goal
 
 abbrev pub invariant-loop-i : goal.invariant-loop-i

@@ -1,0 +1,35 @@
+-- A read puts its bytes behind those that are there.
+use Rattle.std.proofs.Common.{rules, arith, ◌≡◌, ◌≤◌, take, length, ℕ, ◌+◌, ◌-◌, List, ◌++◌, slice_range, sym, ap, ◌∙◌, subst, le_refl, drop_at, length-take-le}
+use Rattle.std.proofs.lemmas.Slice.{take-put_mid_below}
+use Rattle.std.specs.Io.KnownBytes.{Consumes}
+use Rattle.std.proofs.KnownBytes.{Consumes-trans}
+use borrow.Rule.Slice.PartMut.{put_mid, post_of}
+use lib.Seq.{take-add, take-append-le}
+use Rattle.console.proofs.read_full.Goals as goal
+
+-- the first a bytes, and the next n
+take_split : (a n : ℕ) (old new : List ℕ) → take a new ≡ take a old → take a old ++ slice_range new a (a + n) ≡ take (a + n) new
+take_split a n old new front =
+    let count : (a + n) - a ≡ n = omega arith in
+    ap (λ l. l ++ slice_range new a (a + n)) (sym front) ∙ rw count (sym (take-add a n new))
+
+-- what stands where bytes were put
+slice_range-put_mid : (a k n : ℕ) (xs ys : List ℕ) → a ≤ length xs → n ≤ length ys → slice_range (put_mid a k xs ys) a (a + n) ≡ take n ys
+slice_range-put_mid a k n xs ys within fits =
+    let count : (a + n) - a ≡ n = omega arith in
+    let after = post_of a k xs in
+    ap (take ((a + n) - a)) (drop_at (take a xs) (ys ++ after) a (length-take-le a xs within)) ∙ ap (λ m. take m (ys ++ after)) count ∙ take-append-le n ys after fits
+
+pub loop-done-preserved : goal.loop-done-preserved
+loop-done-preserved g c =
+    let from = c.loop-done.done in
+    let room = length c.loop-done.buffer - from in
+    let new = put_mid from room c.loop-done.buffer c.read.new.buf in
+    let within = c.loop-done.invariant.within in
+    let part = slice_range-put_mid from room c.in_ok-n.n c.loop-done.buffer c.read.new.buf within c.in_ok-n.ensures.bound.0 in
+    let joined = take_split from c.in_ok-n.n c.loop-done.buffer new (take-put_mid_below _ _ _ _ _ (le_refl _) within) in
+    record {
+      as_long = search rules;
+      within = search rules;
+      lost = subst (Consumes _ _) (ap (λ l. take from c.loop-done.buffer ++ l) (sym part) ∙ joined) (Consumes-trans _ _ _ _ _ c.loop-done.invariant.lost c.in_ok-n.ensures.bytes.0);
+    }
