@@ -64,8 +64,8 @@ module _ {s t from to : List ℕ} {j k : Judged} (h : TableJudged s j from) (fir
         record {
           source_stands = h.loaded (table_accepted h first);
           target_stands = i.loaded (table_accepted i second);
-          same_embedding = loaded .same_embedding;
-          paths_bounded = loaded .bounded;
+          same_embedding = loaded.same_embedding;
+          paths_bounded = loaded.bounded;
         }
 
     -- the embedding is refused

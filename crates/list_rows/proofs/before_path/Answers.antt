@@ -2,7 +2,6 @@
 use mathlib.Core.Path.{ap, ◌∙◌}
 use Prim.Native.Nat.{ℕ, ◌+◌}
 use Rattle.own_rows.specs.OnePath.{one_path}
-use borrow.Author.Rules.{rules}
 use Rattle.list_rows.proofs.before_path.Goals as goal
 
 pub returns : goal.returns

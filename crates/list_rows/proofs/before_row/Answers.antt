@@ -7,7 +7,6 @@ use Rattle.own_rows.specs.Making.{edges_small}
 use Rattle.own_rows.specs.Progress.{few_of_type}
 use Rattle.list_rows.specs.Lists.{depth-less}
 use Rattle.list_rows.proofs.Listing.{own-needs, own-made}
-use borrow.Author.Rules.{rules}
 use Rattle.list_rows.proofs.before_row.Goals as goal
 
 pub before_path-path-requires : goal.before_path-path-requires

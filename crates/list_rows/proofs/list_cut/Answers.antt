@@ -1,6 +1,5 @@
 -- `list_cut` meets its contract.
 use Rattle.list_rows.proofs.Listing.{follows-at, cut_at}
-use borrow.Author.Rules.{rules}
 use Rattle.list_rows.proofs.list_cut.Goals as goal
 
 pub list_depth-requires : goal.list_depth-requires

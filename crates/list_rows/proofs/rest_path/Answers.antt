@@ -1,6 +1,5 @@
 -- `rest_path` meets its contract.
 use Rattle.list_rows.proofs.Listing.{rest_path_is}
-use borrow.Author.Rules.{rules}
 use Rattle.list_rows.proofs.rest_path.Goals as goal
 
 pub returns : goal.returns

@@ -6,7 +6,6 @@ use Rattle.filler_rows.specs.Laws.{placed_length}
 use Rattle.paths.specs.Edges.{small}
 use Rattle.list_rows.specs.Lists.{depth-less}
 use Rattle.list_rows.proofs.Listing.{item-task, item-short, item-end, item-made}
-use borrow.Author.Rules.{rules}
 use Rattle.list_rows.proofs.rest_row.Goals as goal
 
 pub rest_path-path-requires : goal.rest_path-path-requires

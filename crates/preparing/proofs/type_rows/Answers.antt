@@ -6,11 +6,11 @@ use Rattle.preparing.proofs.type_rows.Goals as goal
 
 pub kind-kind-requires : goal.kind-kind-requires
 kind-kind-requires c =
-    let can = c.requires.makeable in
+    let can = c.requires.next.makeable in
     omega (arith, can.exists, can.ready.source_bounded.few_types)
 
 pub one_row-requires : goal.one_row-requires
-one_row-requires c = record { next = c.requires; s_bound = omega (arith, c.if-kind-lt-CHOICE.true, c.kind-kind.ensures.0) }
+one_row-requires c = record { next = c.requires.next; s_bound = omega (arith, c.if-kind-lt-CHOICE.true, c.kind-kind.ensures.0) }
 
 pub shape_of-pool-then-kind-lt-CHOICE : goal.shape_of-pool-then-kind-lt-CHOICE
 shape_of-pool-then-kind-lt-CHOICE c = c.one_row.ensures.whole.pool_length
@@ -22,7 +22,7 @@ pub returns-then-kind-lt-CHOICE : goal.returns-then-kind-lt-CHOICE
 returns-then-kind-lt-CHOICE c = c.one_row.ensures
 
 pub choice_rows-requires : goal.choice_rows-requires
-choice_rows-requires c = record { next = c.requires; s_value = ap choice_code (sym c.kind-kind.ensures.0) ∙ choice_between c.kind-kind.result (omega (arith, c.if-kind-lt-CHOICE.false)) (omega (arith, c.if-kind-lt-LIST.true)) }
+choice_rows-requires c = record { next = c.requires.next; s_value = ap choice_code (sym c.kind-kind.ensures.0) ∙ choice_between c.kind-kind.result (omega (arith, c.if-kind-lt-CHOICE.false)) (omega (arith, c.if-kind-lt-LIST.true)) }
 
 pub shape_of-pool-then-kind-lt-LIST : goal.shape_of-pool-then-kind-lt-LIST
 shape_of-pool-then-kind-lt-LIST c = c.choice_rows.ensures.whole.pool_length
@@ -34,7 +34,7 @@ pub returns-then-kind-lt-LIST : goal.returns-then-kind-lt-LIST
 returns-then-kind-lt-LIST c = c.choice_rows.ensures
 
 pub list_rows-requires : goal.list_rows-requires
-list_rows-requires c = record { next = c.requires; list = omega (arith, c.if-kind-lt-LIST.false, c.kind-kind.ensures.0) }
+list_rows-requires c = record { next = c.requires.next; list = omega (arith, c.if-kind-lt-LIST.false, c.kind-kind.ensures.0) }
 
 pub shape_of-pool : goal.shape_of-pool
 shape_of-pool c = c.list_rows.ensures.whole.pool_length
