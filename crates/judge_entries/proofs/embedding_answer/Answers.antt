@@ -2,7 +2,6 @@
 use mathlib.Core.Path.{refl}
 use Rattle.loaded_embedding.specs.Loaded.{cleared_map}
 use Rattle.setting_judge.specs.Laws.{standing, refusing, refused_answer, counted-answer}
-use borrow.Author.Rules.{rules}
 use Rattle.judge_entries.proofs.embedding_answer.Goals as goal
 
 pub judge-verdict-requires : goal.judge-verdict-requires
