@@ -17,7 +17,9 @@ run:
 	@tools/run
 
 staticlib:
-	@rt staticlib lafindry
+	@cd crates/lafindry && rt lib
+	@mkdir -p target/staticlib
+	@cp crates/lafindry/out/liblafindry.a target/staticlib/
 
 bench: staticlib
 	@$(CARGO) run --quiet --release --offline --manifest-path bench/Cargo.toml

@@ -6,7 +6,7 @@ use borrow.Author.Rules.{rules}
 use Rattle.extend.proofs.print_answers.Given as goal
 
 abbrev pub invariant-loop-at : goal.invariant-loop-at
-invariant-loop-at l = 0 < l.at
+invariant-loop-at g l = 0 < l.at
 
 abbrev pub decreases-loop-at : goal.decreases-loop-at
-decreases-loop-at l = length l.report - l.at
+decreases-loop-at g l = length l.report - l.at
