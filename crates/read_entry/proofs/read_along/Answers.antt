@@ -38,7 +38,7 @@ read_along-requires c =
     let h = standing _ _ _ _ _ _ _ c.judge-setting.ensures c.in_default.is in
     let judgement = c.judge-judgement.ensures in
     let is-sound = c.in_default-judged.is in
-    record { setting = standing_ready h; target = record { c = sound_tree _ _ _ h.judges.target_sound h.loaded.target_stands judgement is-sound; count_is = judgement.counted (sym judgement.same_judgement ∙ ap judged is-sound) } }
+    record { setting = standing_ready h; target = record { tree = sound_tree _ _ _ h.judges.target_sound h.loaded.target_stands judgement is-sound; count_is = judgement.counted (sym judgement.same_judgement ∙ ap judged is-sound) } }
 
 pub returns : goal.returns
 unfolding read_along

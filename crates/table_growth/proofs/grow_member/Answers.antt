@@ -39,7 +39,8 @@ returns-then-missing c =
 
 pub returns-then-full : goal.returns-then-full
 returns-then-full c =
-    too_many _ _ _ _ c.requires (there (goal.at.returns-then-full c).Else-missing) (chooses (goal.at.returns-then-full c).Else-missing) (sym c.is_full-full.ensures ∙ c.if-full.true)
+    let is : c.extends-missing.result ≡ true = cc in
+    too_many _ _ _ _ c.requires (c.extends-missing.ensures.1 is) (sym c.extends-missing.ensures.0 ∙ is) (sym c.is_full-full.ensures ∙ c.if-full.true)
 
 pub types-all-requires : goal.types-all-requires
 types-all-requires c = tt

@@ -10,14 +10,15 @@ use Rattle.embedding_clash.specs.Ready.{map_of}
 use Rattle.embedding_clash.proofs.Arrays.{TypeAt, type_at}
 use Rattle.embedding_clash.proofs.Searching.{search_starts, search_passes, search_finds, search_ends}
 use Rattle.explaining.proofs.Explaining.{nothing_found, something_found}
+use Rattle.explaining.proofs.clashes.clash_of_type.Goals.{Start, In-loop-i}
 use Rattle.explaining.proofs.clashes.clash_of_type.Goals as goal
 
 -- what is known of the source type
-type_here : (c : goal.Start) → TypeAt c.args.source.now c.args.target.now c.args.em.now c.args.map.now c.args.s
+type_here : (c : Start) → TypeAt c.args.source.now c.args.target.now c.args.em.now c.args.map.now c.args.s
 type_here c = type_at c.requires.checkable _ c.requires.s_bound
 
 -- the edge at hand is one of the type's
-inside : (c : goal.In-loop-i) → c.loop-i.i < edges_of (kind_of (table_by c.args.source.now) c.args.s)
+inside : (c : In-loop-i) → c.loop-i.i < edges_of (kind_of (table_by c.args.source.now) c.args.s)
 inside c = rw c.edges_of-n.ensures.same at c.loop-i-test.true
 
 pub edges_of-n-requires : goal.edges_of-n-requires
