@@ -1,7 +1,4 @@
-use Prim.Native.Nat.{◌-◌, ◌<◌}
 use native.Mathlib.Omega.{arith}
-use lib.ListN.{length}
-use borrow.Author.Rules.{rules}
 use Rattle.extend.proofs.print_answers.Goals as goal
 
 pub overflow_add-at-in-loop-at : goal.overflow_add-at-in-loop-at

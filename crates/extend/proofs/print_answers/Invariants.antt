@@ -1,8 +1,6 @@
 -- `print_answers` is safe and ends: the second byte of the next answer is never the first of all bytes, and comes nearer to their end.
 use Prim.Native.Nat.{◌-◌, ◌<◌}
-use native.Mathlib.Omega.{arith}
 use lib.ListN.{length}
-use borrow.Author.Rules.{rules}
 use Rattle.extend.proofs.print_answers.Given as goal
 
 abbrev pub invariant-loop-at : goal.invariant-loop-at

@@ -1,6 +1,5 @@
 -- `print_types` is safe and ends: fewer types are left after each turn.
 use Prim.Native.Nat.{◌-◌, ◌≤◌}
-use borrow.Author.Rules.{rules}
 use Rattle.extend.proofs.print_types.Given as goal
 
 abbrev pub invariant-loop-t : goal.invariant-loop-t
