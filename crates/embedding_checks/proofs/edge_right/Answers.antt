@@ -1,7 +1,6 @@
 -- Each check by its own function, and all of them one after another.
 use mathlib.Core.Path.{ap}
 use mathlib.Core.Bool.{not}
-use borrow.Author.Rules.{rules}
 use Rattle.embedding_checks.specs.Tests.{edge_right}
 use Rattle.embedding_checks.proofs.Loops.{end_wrong, step-wrong, clash-decides}
 use Rattle.embedding_checks.proofs.edge_right.Goals as goal

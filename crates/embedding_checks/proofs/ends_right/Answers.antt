@@ -3,7 +3,6 @@ use mathlib.Core.Path.{sym, ◌∙◌}
 use native.Mathlib.Omega.{arith}
 use Rattle.embedding_clash.proofs.ClashLaws.{same_steps_lem}
 use Rattle.embedding_checks.proofs.Here.{type_here, edge_here, few_before, path_here, walkable_here}
-use borrow.Author.Rules.{rules}
 use Rattle.embedding_checks.specs.Tests.{edge_right}
 use Rattle.embedding_checks.proofs.ends_right.Goals as goal
 

@@ -1,9 +1,7 @@
 use mathlib.Core.Path.{ap}
-use Prim.Native.Nat.{◌-◌}
 use native.Mathlib.Omega.{arith}
 use Rattle.answers.specs.Answers.{verdict}
-use Rattle.embedding_checks.proofs.Loops.{TypesLeft, types_start, type-passes, type-fails, types-end}
-use borrow.Author.Rules.{rules}
+use Rattle.embedding_checks.proofs.Loops.{types_start, type-passes, type-fails, types-end}
 use Rattle.embedding_checks.proofs.first_fault.Goals as goal
 
 pub types-types-requires : goal.types-types-requires

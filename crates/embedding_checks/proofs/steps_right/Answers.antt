@@ -12,7 +12,6 @@ use Rattle.embedding_clash.proofs.ClashLaws.{same_steps_lem}
 use Rattle.embedding_checks.proofs.Here.{type_here, edge_here, few_before, path_here, walkable_here, first_here, count_first, optional_here}
 use Rattle.embedding_ends.proofs.StepLaws.{kinds_right}
 use Rattle.embedding_checks.proofs.StepsRight.{kinds_wrong, nothing_more, first-decides}
-use borrow.Author.Rules.{rules}
 use Rattle.embedding_checks.specs.Tests.{edge_right}
 use Rattle.embedding_checks.proofs.steps_right.Goals.{After-right_kinds}
 use Rattle.embedding_checks.proofs.steps_right.Goals as goal

@@ -1,11 +1,11 @@
 use mathlib.Core.Path.{ap}
 use mathlib.Core.Bool.{not}
-use Prim.Native.Nat.{◌-◌, ◌<◌}
+use Prim.Native.Nat.{◌<◌}
 use native.Mathlib.Omega.{arith}
 use Rattle.loaded_table.specs.Loaded.{table_by}
 use Rattle.model.specs.Definitions.Table.{kind_of, edges_of}
 use Rattle.embedding_clash.proofs.Arrays.{TypeAt, EdgeAt, type_at, edge_at}
-use Rattle.embedding_checks.proofs.Loops.{EdgesLeft, edges_start, edge-passes, edge-fails, edges-end}
+use Rattle.embedding_checks.proofs.Loops.{edges_start, edge-passes, edge-fails, edges-end}
 use Rattle.embedding_checks.proofs.type_fault.Goals.{Start, In-loop-i}
 use Rattle.embedding_checks.proofs.type_fault.Goals as goal
 

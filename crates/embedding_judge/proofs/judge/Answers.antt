@@ -4,7 +4,6 @@ use Rattle.loaded_table.specs.Loaded.{table_by}
 use Rattle.model.specs.Definitions.Basics.{passes}
 use Rattle.model.specs.Definitions.EmbeddingChecks.{embedding_form, embedding_limits, embedding_operands}
 use Rattle.embedding_judge.proofs.Checks.{verdict_is, length_refused, form_refused, limit_refused, operand_refused, paths_ready, paths-decide}
-use borrow.Author.Rules.{rules}
 use Rattle.embedding_judge.proofs.judge.Goals.{In_default, In_default-limited, In_default-right}
 use Rattle.embedding_judge.proofs.judge.Goals as goal
 

@@ -1,7 +1,6 @@
 -- The checks in order: each is made where those before it pass.
 use mathlib.Core.Path.{refl}
 use Rattle.embedding_judge.proofs.Checks.{verdict_is, ends_wrong, steps_wrong, paths_clash, paths_right}
-use borrow.Author.Rules.{rules}
 use Rattle.embedding_judge.proofs.judge_each.Goals as goal
 
 pub returns-in-Fails : goal.returns-in-Fails

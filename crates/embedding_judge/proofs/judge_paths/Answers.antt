@@ -8,7 +8,6 @@ use Rattle.answers.specs.declared.Judged.{Judged}
 use Rattle.embedding_checks.specs.declared.Check.TheVariants.{Ends, Steps, Clashes}
 use Rattle.embedding_checks.proofs.Each.{all_right}
 use Rattle.embedding_judge.proofs.Checks.{verdict_is, root_moved, root_kept, paths_right}
-use borrow.Author.Rules.{rules}
 use Rattle.embedding_judge.proofs.judge_paths.Goals.{Else-not-root_to_root}
 use Rattle.embedding_judge.proofs.judge_paths.Goals as goal
 

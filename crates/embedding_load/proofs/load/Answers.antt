@@ -1,7 +1,6 @@
-use mathlib.Core.Path.{◌≡◌, ◌∙◌}
-use Prim.Native.Nat.{◌+◌, ◌-◌}
+use mathlib.Core.Path.{◌∙◌}
+use Prim.Native.Nat.{◌+◌}
 use native.Mathlib.Omega.{arith}
-use lib.ListN.{length}
 use Rattle.loaded_table.specs.Loaded.{table_by}
 use Rattle.embedding_form.specs.Commands.{command}
 use Rattle.embedding_load.specs.Loading.{loaded_at}

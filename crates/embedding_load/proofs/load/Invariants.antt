@@ -1,13 +1,10 @@
 -- `load` meets its contract. The invariant is `EmbeddingLoading` of Turns.antt, the measure what is left of the document.
-use mathlib.Core.Path.{◌≡◌, ◌∙◌}
-use Prim.Native.Nat.{◌+◌, ◌-◌}
-use native.Mathlib.Omega.{arith}
+use mathlib.Core.Path.{◌≡◌}
+use Prim.Native.Nat.{◌-◌}
 use lib.ListN.{length}
 use Rattle.loaded_table.specs.Loaded.{table_by}
-use Rattle.embedding_form.specs.Commands.{command}
 use Rattle.embedding_load.specs.Loading.{loaded_at}
-use Rattle.embedding_load.proofs.Sources.{source_in}
-use Rattle.embedding_load.proofs.Turns.{EmbeddingLoading, EmbeddingTurn, loading_starts, turn, turned, loading_ends}
+use Rattle.embedding_load.proofs.Turns.{EmbeddingLoading}
 use Rattle.embedding_load.proofs.load.Given as goal
 
 abbrev pub invariant-loop-at : goal.invariant-loop-at

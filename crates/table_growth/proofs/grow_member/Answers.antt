@@ -5,7 +5,6 @@ use Prim.Native.Nat.{◌<◌}
 use native.Mathlib.Omega.{arith}
 use lib.ListN.{get_or}
 use lib.Dec.{eqb}
-use borrow.Author.Tests.{not-true, not-false}
 use Rattle.loaded_table.specs.Loaded.{types_in, counts_of, table_by}
 use Rattle.model.specs.Definitions.Table.{is_choice, kind_of}
 use Rattle.table_growth.proofs.Appending.{nothing_to_extend, too_many, unknown, repeated, may-join, joined}

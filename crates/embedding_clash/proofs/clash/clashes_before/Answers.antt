@@ -1,7 +1,6 @@
 -- Whether the search finds something.
 use Prim.Native.Nat.{◌≤◌}
 use native.Mathlib.Omega.{arith}
-use borrow.Author.Rules.{rules}
 use lib.ListN.{length}
 use Rattle.model.specs.Definitions.Basics.{is_there}
 use Rattle.embedding_clash.specs.Ready.{map_of}

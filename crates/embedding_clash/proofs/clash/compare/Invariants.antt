@@ -1,13 +1,8 @@
 -- The loop's invariant: what is left of both paths compares as the whole paths do, and the steps passed are shared.
-use mathlib.Core.Path.{refl}
-use mathlib.Core.List.{◌∷◌}
-use Prim.Native.Nat.{◌+◌, ◌-◌, ◌≤◌, ◌<◌}
-use native.Mathlib.Nat.{zero-add}
-use native.Mathlib.Omega.{arith}
-use lib.ListN.{length, get_or, take, drop}
+use Prim.Native.Nat.{◌-◌, ◌≤◌}
+use lib.ListN.{take, drop}
 use Rattle.loaded_table.specs.Loaded.{table_by}
-use Rattle.embedding_clash.proofs.Following.{StepAt, step_at, goes_on, rest_cons}
-use Rattle.embedding_clash.proofs.ClashLaws.{Together, together_on, differ, at_end}
+use Rattle.embedding_clash.proofs.ClashLaws.{Together}
 use Rattle.embedding_clash.proofs.clash.compare.Given as goal
 
 abbrev pub invariant-loop-i : goal.invariant-loop-i

@@ -1,12 +1,9 @@
-use mathlib.Core.Path.{◌≡◌, refl, sym, ◌∙◌}
-use Prim.Native.Nat.{ℕ, ◌-◌, ◌≤◌, ◌<◌}
+use mathlib.Core.Path.{refl, sym, ◌∙◌}
+use Prim.Native.Nat.{ℕ, ◌<◌}
 use native.Mathlib.Omega.{arith}
-use borrow.Author.Rules.{rules}
 use Rattle.loaded_table.specs.Loaded.{table_by}
-use Rattle.model.specs.Definitions.Basics.{first_found}
 use Rattle.model.specs.Definitions.Table.{kind_of, edges_of}
-use Rattle.model.specs.Definitions.Explanation.{pair_clash, clash_before}
-use Rattle.embedding_clash.specs.Ready.{map_of}
+use Rattle.model.specs.Definitions.Explanation.{clash_before}
 use Rattle.embedding_clash.proofs.Arrays.{TypeAt, EdgeAt, type_at, edge_at}
 use Rattle.embedding_clash.proofs.Searching.{search_starts, search_passes, search_finds, search_ends}
 use Rattle.embedding_clash.proofs.ClashLaws.{PairCompared, pair_compared, pair_free, pair_found}

@@ -1,16 +1,11 @@
 -- The loop's invariant: searching the edges that are left finds what searching all before edge i does.
-use mathlib.Core.Path.{◌≡◌, refl, sym, ◌∙◌}
-use Prim.Native.Nat.{ℕ, ◌-◌, ◌≤◌, ◌<◌}
-use native.Mathlib.Omega.{arith}
-use borrow.Author.Rules.{rules}
+use mathlib.Core.Path.{◌≡◌}
+use Prim.Native.Nat.{◌-◌, ◌≤◌}
 use Rattle.loaded_table.specs.Loaded.{table_by}
 use Rattle.model.specs.Definitions.Basics.{first_found}
-use Rattle.model.specs.Definitions.Table.{kind_of, edges_of}
+use Rattle.model.specs.Definitions.Table.{kind_of}
 use Rattle.model.specs.Definitions.Explanation.{pair_clash, clash_before}
 use Rattle.embedding_clash.specs.Ready.{map_of}
-use Rattle.embedding_clash.proofs.Arrays.{TypeAt, EdgeAt, type_at, edge_at}
-use Rattle.embedding_clash.proofs.Searching.{search_starts, search_passes, search_finds, search_ends}
-use Rattle.embedding_clash.proofs.ClashLaws.{PairCompared, pair_compared, pair_free, pair_found}
 use Rattle.embedding_clash.proofs.clash.first_clash.Given as goal
 
 abbrev pub invariant-loop-j : goal.invariant-loop-j

@@ -1,6 +1,5 @@
 -- By what stands behind the shared steps.
 use mathlib.Core.List.{[]}
-use borrow.Author.Rules.{rules}
 use Rattle.loaded_table.specs.Loaded.{kind_from}
 use Rattle.model.specs.Definitions.EmbeddingChecks.{clash_reason}
 use Rattle.embedding_clash.proofs.ClashLaws.{reason_behind}

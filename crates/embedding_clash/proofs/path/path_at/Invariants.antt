@@ -1,9 +1,7 @@
 -- The loop's invariant: the path holds the steps passed, and then zeros.
-use mathlib.Core.Path.{◌≡◌, ap, ◌∙◌}
+use mathlib.Core.Path.{◌≡◌}
 use Prim.Native.Nat.{◌-◌, ◌≤◌}
-use native.Mathlib.Omega.{arith}
 use Rattle.embedding_clash.specs.Paths.{path_in}
-use Rattle.embedding_clash.proofs.Following.{path_none, path_more}
 use Rattle.embedding_clash.proofs.path.path_at.Given as goal
 
 abbrev pub invariant-loop-i : goal.invariant-loop-i

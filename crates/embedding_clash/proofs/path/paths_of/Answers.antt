@@ -1,7 +1,6 @@
 use mathlib.Core.Path.{refl}
-use Prim.Native.Nat.{◌-◌, ◌≤◌}
 use native.Mathlib.Omega.{arith}
-use Rattle.embedding_clash.proofs.ClashLaws.{PathsStored, stored_none, stored_more, stored_all}
+use Rattle.embedding_clash.proofs.ClashLaws.{stored_none, stored_more, stored_all}
 use Rattle.embedding_clash.proofs.path.paths_of.Goals as goal
 
 pub loop-i-init : goal.loop-i-init

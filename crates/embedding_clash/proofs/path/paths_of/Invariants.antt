@@ -1,8 +1,6 @@
 -- The loop's invariant: the paths stored so far are those of the edges passed.
-use mathlib.Core.Path.{refl}
 use Prim.Native.Nat.{◌-◌, ◌≤◌}
-use native.Mathlib.Omega.{arith}
-use Rattle.embedding_clash.proofs.ClashLaws.{PathsStored, stored_none, stored_more, stored_all}
+use Rattle.embedding_clash.proofs.ClashLaws.{PathsStored}
 use Rattle.embedding_clash.proofs.path.paths_of.Given as goal
 
 abbrev pub invariant-loop-i : goal.invariant-loop-i

@@ -1,11 +1,8 @@
 -- The loop's invariant: what is left of the path goes on from the type reached, and ends where the whole ends.
-use mathlib.Core.Path.{refl}
-use Prim.Native.Nat.{◌+◌, ◌-◌, ◌≤◌}
-use native.Mathlib.Omega.{arith}
-use mathlib.Core.List.{◌∷◌}
-use lib.ListN.{length, get_or, take, drop}
+use Prim.Native.Nat.{◌-◌, ◌≤◌}
+use lib.ListN.{take, drop}
 use Rattle.loaded_table.specs.Loaded.{table_by}
-use Rattle.embedding_clash.proofs.Following.{OnTheWay, way_on, way_ends, goes_on, rest_cons, rest_none}
+use Rattle.embedding_clash.proofs.Following.{OnTheWay}
 use Rattle.embedding_clash.proofs.walk.end_of.Given as goal
 
 abbrev pub invariant-loop-i : goal.invariant-loop-i

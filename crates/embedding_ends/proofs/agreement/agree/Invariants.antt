@@ -1,14 +1,8 @@
 -- The loop's invariant: what is left of both paths agrees exactly where the whole paths do.
-use mathlib.Core.Path.{◌≡◌, refl, sym, ◌∙◌}
-use mathlib.Core.Bool.{false}
-use mathlib.Core.List.{◌∷◌}
-use Prim.Native.Nat.{◌+◌, ◌-◌, ◌≤◌, ◌<◌}
-use native.Mathlib.Omega.{arith}
-use lib.ListN.{length, get_or, take, drop}
-use Rattle.model.specs.Definitions.Table.{kind_of, is_choice}
+use Prim.Native.Nat.{◌-◌, ◌≤◌}
+use lib.ListN.{take, drop}
 use Rattle.loaded_table.specs.Loaded.{table_by}
-use Rattle.embedding_clash.proofs.Following.{StepAt, step_at, goes_on, rest_cons, rest_none}
-use Rattle.embedding_ends.proofs.AgreeLaws.{Agreeing, meet_choice, other_ended, steps_differ, agreeing-on, both_ended, first_ended, choice_told}
+use Rattle.embedding_ends.proofs.AgreeLaws.{Agreeing}
 use Rattle.embedding_ends.proofs.agreement.agree.Given as goal
 
 abbrev pub invariant-loop-i : goal.invariant-loop-i

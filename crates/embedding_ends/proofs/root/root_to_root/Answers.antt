@@ -5,7 +5,6 @@ use lib.Dec.{eqb}
 use Rattle.loaded_embedding.specs.Loaded.{targets_of, starts_of, lengths_of}
 use Rattle.model.specs.Definitions.EmbeddingChecks.{root_to_root}
 use Rattle.embedding_clash.proofs.Arrays.{root_target}
-use borrow.Author.Rules.{rules}
 use Rattle.embedding_ends.proofs.root.root_to_root.Goals as goal
 
 pub returns : goal.returns

@@ -1,12 +1,8 @@
 -- The loop's invariant: what was collected, with what the rest of the path leaves, is what the whole path leaves.
-use mathlib.Core.Path.{refl}
-use mathlib.Core.List.{◌∷◌}
-use Prim.Native.Nat.{◌+◌, ◌-◌, ◌≤◌}
-use native.Mathlib.Omega.{arith}
-use lib.ListN.{length, get_or, take, drop}
+use Prim.Native.Nat.{◌-◌, ◌≤◌}
+use lib.ListN.{take, drop}
 use Rattle.loaded_table.specs.Loaded.{table_by}
-use Rattle.embedding_clash.proofs.Following.{StepAt, step_at, goes_on, rest_cons, rest_none}
-use Rattle.embedding_ends.proofs.StepLaws.{Leaving, leaving_in, leaving_ends}
+use Rattle.embedding_ends.proofs.StepLaws.{Leaving}
 use Rattle.embedding_ends.proofs.steps.kinds_left.Given as goal
 
 abbrev pub invariant-loop-i : goal.invariant-loop-i

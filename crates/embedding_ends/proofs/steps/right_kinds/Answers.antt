@@ -4,8 +4,6 @@ use mathlib.Core.Bool.{false}
 use Prim.Native.Nat.{ℕ}
 use Rattle.embedding_ends.specs.Kinds.{right_by}
 use Rattle.loaded_table.specs.Kinds.{unmatched_code}
-use borrow.Author.Rules.{rules}
-use borrow.Enum.Refused.{opened}
 use Rattle.embedding_ends.proofs.steps.right_kinds.Goals as goal
 
 pub returns-then-left-2 : goal.returns-then-left-2

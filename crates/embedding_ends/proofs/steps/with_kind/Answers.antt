@@ -5,8 +5,6 @@ use Rattle.embedding_ends.specs.declared.steps.Left.{Left}
 use Prim.Native.Nat.{ℕ}
 use Rattle.embedding_ends.specs.Kinds.{with_kind}
 use Rattle.loaded_table.specs.Kinds.{unmatched_code}
-use borrow.Author.Rules.{rules}
-use borrow.Enum.Refused.{opened}
 use Rattle.embedding_ends.proofs.steps.with_kind.Goals as goal
 
 pub optional_first-requires : goal.optional_first-requires

@@ -1,5 +1,4 @@
 -- `command_at` meets its contract: each arm knows the byte, and the test says whether its operand is there.
-use borrow.Author.Rules.{rules}
 use Rattle.embedding_form.proofs.Bytes.{at_maps, at_maps_cut, at_path, at_step, at_step_cut, at_end, at_other}
 use Rattle.embedding_form.proofs.command.command_at.Goals as goal
 

@@ -1,5 +1,4 @@
 -- `width` meets its contract, by cases on the command.
-use borrow.Author.Rules.{rules}
 use mathlib.Core.Path.{sym, ap}
 use Rattle.model.specs.Definitions.Commands.{embedding_width}
 use Rattle.embedding_form.specs.Commands.{width_of}

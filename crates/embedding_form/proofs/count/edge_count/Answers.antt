@@ -1,10 +1,7 @@
-use mathlib.Core.Path.{◌≡◌, sym, ◌∙◌}
-use Prim.Native.Nat.{◌+◌, ◌-◌, ◌*◌, ◌≤◌}
+use mathlib.Core.Path.{sym, ◌∙◌}
 use native.Mathlib.Nat.{zero-add}
 use native.Mathlib.Omega.{arith}
-use lib.ListN.{length, drop}
 use Rattle.loaded_table.specs.Loaded.{table_by, length_of_lem}
-use Rattle.model.specs.Definitions.Entries.{edge_count}
 use Rattle.embedding_form.proofs.Counts.{count_on, count_end}
 use Rattle.embedding_form.proofs.count.edge_count.Goals as goal
 

@@ -1,13 +1,10 @@
 -- `edge_count` meets its contract. The loop's invariant: the sum so far, at most 16 for each type passed, and the edges of the
 -- types to come make the whole.
-use mathlib.Core.Path.{◌≡◌, sym, ◌∙◌}
+use mathlib.Core.Path.{◌≡◌}
 use Prim.Native.Nat.{◌+◌, ◌-◌, ◌*◌, ◌≤◌}
-use native.Mathlib.Nat.{zero-add}
-use native.Mathlib.Omega.{arith}
 use lib.ListN.{length, drop}
-use Rattle.loaded_table.specs.Loaded.{table_by, length_of_lem}
+use Rattle.loaded_table.specs.Loaded.{table_by}
 use Rattle.model.specs.Definitions.Entries.{edge_count}
-use Rattle.embedding_form.proofs.Counts.{count_on, count_end}
 use Rattle.embedding_form.proofs.count.edge_count.Given as goal
 
 abbrev pub invariant-loop-t : goal.invariant-loop-t

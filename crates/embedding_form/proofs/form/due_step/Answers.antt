@@ -2,7 +2,6 @@
 use mathlib.Core.Path.{sym}
 use Rattle.embedding_form.proofs.Forms.{path_due, path_undue, step_on, step_off}
 use Rattle.embedding_form.proofs.Machines.{form_stops}
-use borrow.Author.Rules.{rules}
 use Rattle.embedding_form.proofs.form.due_step.Goals as goal
 
 pub returns-in-MapsTo : goal.returns-in-MapsTo

@@ -1,15 +1,10 @@
 -- `form` meets its contract. The loop's invariant: the verdict of what is left, from the state reached, is the verdict of the whole.
-use mathlib.Core.Path.{refl, sym, ap, ◌∙◌}
 use Prim.Native.Nat.{◌-◌}
-use native.Mathlib.Omega.{arith}
-use borrow.Author.Rules.{rules}
 use lib.ListN.{length}
 use Rattle.loaded_table.specs.Loaded.{table_by}
-use Rattle.model.specs.Definitions.Basics.{pick}
 use Rattle.model.specs.Definitions.EmbeddingChecks.{embedding_step, embedding_complete, embedding_form}
-use Rattle.embedding_form.specs.States.{form_state, form_next}
-use Rattle.embedding_form.proofs.Turns.{Runs, turn, refusal, finish, less}
-use Rattle.embedding_form.proofs.Machines.{form_stops}
+use Rattle.embedding_form.specs.States.{form_state}
+use Rattle.embedding_form.proofs.Turns.{Runs}
 use Rattle.embedding_form.proofs.form.form.Given as goal
 
 abbrev pub invariant-loop-at : goal.invariant-loop-at

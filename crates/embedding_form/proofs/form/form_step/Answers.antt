@@ -1,7 +1,6 @@
 -- `form_step` meets its contract, by cases on the state.
 use mathlib.Core.Path.{sym}
 use Rattle.embedding_form.proofs.Machines.{ended_stops}
-use borrow.Author.Rules.{rules}
 use Rattle.embedding_form.proofs.form.form_step.Goals as goal
 
 pub returns-in-Due : goal.returns-in-Due

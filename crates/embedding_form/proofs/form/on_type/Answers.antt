@@ -2,7 +2,6 @@
 use native.Mathlib.Omega.{arith}
 use Rattle.loaded_table.specs.Loaded.{table_by, length_of_lem}
 use Rattle.embedding_form.proofs.Forms.{type_early, type-next, type-none}
-use borrow.Author.Rules.{rules}
 use Rattle.embedding_form.proofs.form.on_type.Goals as goal
 
 pub returns-then-due-gt0 : goal.returns-then-due-gt0

@@ -1,13 +1,10 @@
 use mathlib.Core.Path.{refl, sym, ap, ◌∙◌}
 use mathlib.Core.Bool.{true}
-use Prim.Native.Nat.{◌-◌}
 use native.Mathlib.Omega.{arith}
-use borrow.Author.Rules.{rules}
-use lib.ListN.{length}
 use Rattle.model.specs.Definitions.Basics.{pick}
 use Rattle.model.specs.Definitions.EmbeddingChecks.{step_count, embedding_limits}
 use Rattle.embedding_operands.specs.States.{count_next}
-use Rattle.embedding_form.proofs.Turns.{Runs, turn, refusal, finish, less}
+use Rattle.embedding_form.proofs.Turns.{turn, refusal, finish, less}
 use Rattle.embedding_form.proofs.Machines.{count_stops}
 use Rattle.embedding_operands.proofs.limits.limits.Goals as goal
 

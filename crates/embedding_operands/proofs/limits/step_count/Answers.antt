@@ -1,5 +1,4 @@
 -- `step_count` meets its contract, by cases on the command.
-use borrow.Author.Rules.{rules}
 use borrow.Author.Tests.{lt-ltb, le-ltb}
 use native.Mathlib.Numerals.{add-one}
 use Rattle.model.specs.Definitions.Basics.{goes_if}

@@ -1,16 +1,13 @@
 use mathlib.Core.Path.{refl, sym, ap, ◌∙◌}
 use mathlib.Core.Bool.{true}
-use Prim.Native.Nat.{◌-◌}
 use native.Mathlib.Omega.{arith}
-use borrow.Author.Rules.{rules}
-use lib.ListN.{length}
 use Rattle.loaded_table.specs.Loaded.{table_by, length_of_lem}
 use Rattle.model.specs.Definitions.Basics.{pick}
 use Rattle.model.specs.Definitions.EmbeddingChecks.{path_step, embedding_operands}
-use Rattle.embedding_operands.specs.States.{reached, reach_next}
-use Rattle.embedding_form.proofs.Turns.{Runs, turn, refusal, finish, less}
+use Rattle.embedding_operands.specs.States.{reach_next}
+use Rattle.embedding_form.proofs.Turns.{turn, refusal, finish, less}
 use Rattle.embedding_form.proofs.Machines.{reach_stops}
-use Rattle.embedding_operands.proofs.Paths.{InTable, stays}
+use Rattle.embedding_operands.proofs.Paths.{stays}
 use Rattle.embedding_operands.proofs.operands.operands.Goals as goal
 
 pub loop-at-init : goal.loop-at-init

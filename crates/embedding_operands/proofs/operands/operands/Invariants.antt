@@ -1,18 +1,13 @@
 -- `operands` meets its contract. The loop's invariant: the verdict of what is left, from the state reached, is the verdict of the
 -- whole, and the state's two types are in the table.
-use mathlib.Core.Path.{refl, sym, ap, ◌∙◌}
 use mathlib.Core.Bool.{true}
 use Prim.Native.Nat.{◌-◌}
-use native.Mathlib.Omega.{arith}
-use borrow.Author.Rules.{rules}
 use lib.ListN.{length}
-use Rattle.loaded_table.specs.Loaded.{table_by, length_of_lem}
-use Rattle.model.specs.Definitions.Basics.{pick}
+use Rattle.loaded_table.specs.Loaded.{table_by}
 use Rattle.model.specs.Definitions.EmbeddingChecks.{path_step, embedding_operands}
-use Rattle.embedding_operands.specs.States.{reached, reach_next}
-use Rattle.embedding_form.proofs.Turns.{Runs, turn, refusal, finish, less}
-use Rattle.embedding_form.proofs.Machines.{reach_stops}
-use Rattle.embedding_operands.proofs.Paths.{InTable, stays}
+use Rattle.embedding_operands.specs.States.{reached}
+use Rattle.embedding_form.proofs.Turns.{Runs}
+use Rattle.embedding_operands.proofs.Paths.{InTable}
 use Rattle.embedding_operands.proofs.operands.operands.Given as goal
 
 abbrev pub invariant-loop-at : goal.invariant-loop-at

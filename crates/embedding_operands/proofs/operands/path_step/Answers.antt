@@ -5,7 +5,6 @@ use Rattle.loaded_table.specs.Loaded.{table_by, length_of_lem}
 use Rattle.embedding_operands.specs.States.{stepped}
 use Rattle.embedding_form.proofs.Machines.{reach_stops}
 use Rattle.embedding_operands.proofs.Paths.{maps_known, maps_unknown, path_again, end_stays, step_taken, step_missing}
-use borrow.Author.Rules.{rules}
 use Rattle.embedding_operands.proofs.operands.path_step.Goals as goal
 
 pub step_from-requires : goal.step_from-requires

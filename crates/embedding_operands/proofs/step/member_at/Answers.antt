@@ -4,7 +4,6 @@ use mathlib.Core.Option.{some}
 use native.Mathlib.Omega.{arith}
 use Rattle.embedding_operands.proofs.Steps.{member_none, member_there_lem, member_past}
 use Rattle.embedding_form.proofs.Types.{members_whole}
-use borrow.Author.Rules.{rules}
 use Rattle.embedding_operands.proofs.step.member_at.Goals as goal
 
 pub returns-then-p-eq0 : goal.returns-then-p-eq0
