@@ -1,6 +1,5 @@
 -- `explain` meets its contract: by what judging the three documents answers, and by what the search finds where that is 10.
 use mathlib.Core.Path.{refl, sym, ◌∙◌}
-use borrow.Author.Rules.{rules}
 use Rattle.loaded_embedding.specs.Loaded.{cleared_map}
 use Rattle.setting_judge.specs.Laws.{standing, refused, refusing}
 use Rattle.explaining.proofs.Explaining.{accepted_so, refused_otherwise, searchable, clash-explained, none-explained}

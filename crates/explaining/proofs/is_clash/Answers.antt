@@ -2,7 +2,6 @@
 use mathlib.Core.Path.{refl, sym, ap}
 use mathlib.Core.Bool.{Bool, false}
 use mathlib.Core.List.{[], ◌∷◌}
-use borrow.Author.Rules.{rules}
 use lib.Dec.{eqb}
 use Rattle.answers.specs.declared.Fault.{Fault}
 use Rattle.answers.specs.contracts.Fault.{enum}

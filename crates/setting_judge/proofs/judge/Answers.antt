@@ -1,6 +1,5 @@
 -- `judge` meets its contract: by what each of the three judges answers.
 use Rattle.setting_judge.proofs.Judging.{source_refused, target_refused, judgeable, embedding-refused, all-stand}
-use borrow.Author.Rules.{rules}
 use Rattle.setting_judge.proofs.judge.Goals as goal
 
 pub returns-in-Has : goal.returns-in-Has

@@ -2,7 +2,6 @@
 use mathlib.Core.Path.{sym, ap, ◌∙◌}
 use Prim.Native.Nat.{ℕ}
 use lib.Dec.{leb}
-use borrow.Author.Rules.{rules}
 use Rattle.tree_expected.proofs.Rests.{complete_sequence, complete_choice, complete_other}
 use Rattle.tree_expected.proofs.complete.Goals as goal
 

@@ -1,6 +1,5 @@
 -- `tree_expected::expected` meets its contract: the checks before say that an element comes first. Assumes nothing.
 use mathlib.Core.Path.{◌≡◌, refl}
-use borrow.Author.Rules.{rules}
 use Rattle.model.specs.Definitions.TreeChecks.{tree_step}
 use Rattle.tree_form.specs.declared.command.TreeCommand.{TreeCommand}
 use Rattle.tree_form.specs.Commands.{command, ReadsCommand}

@@ -1,10 +1,7 @@
 use mathlib.Core.Path.{◌≡◌, refl, subst}
-use Prim.Native.Nat.{◌-◌}
-use lib.ListN.{length}
 use native.Mathlib.Omega.{arith}
-use borrow.Author.Rules.{rules}
 use Rattle.tree_expected.specs.declared.Turn.{Turn}
-use Rattle.tree_expected.specs.Expected.{Does, Passed, Inside}
+use Rattle.tree_expected.specs.Expected.{Does}
 use Rattle.tree_expected.proofs.ExpectedTurns.{inside_root, inside_readable, inside_opens, inside_character, inside-closes, outside-closes, passed_root, passed_more, passed-room, passed-exists, passed-allowed, passed-refuses, passed-outside}
 use Rattle.tree_expected.proofs.inside.Goals.{After-turn_at-c}
 use Rattle.tree_expected.proofs.inside.Goals as goal

@@ -2,7 +2,6 @@
 use mathlib.Core.Path.{ap, ◌∙◌}
 use Prim.Native.Nat.{ℕ}
 use lib.Dec.{eqb}
-use borrow.Author.Rules.{rules}
 use Rattle.tree_expected.proofs.Rests.{text_here}
 use Rattle.tree_expected.proofs.is_text.Goals as goal
 

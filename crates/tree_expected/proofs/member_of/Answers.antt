@@ -1,10 +1,9 @@
 use mathlib.Core.Path.{sym, ◌∙◌}
-use Prim.Native.Nat.{◌*◌, ◌-◌, ◌<◌}
+use Prim.Native.Nat.{◌<◌}
 use native.Mathlib.Omega.{arith}
-use borrow.Author.Rules.{rules}
 use lib.ListN.{get_or}
-use Rattle.loaded_table.specs.Loaded.{counts_of, members_in}
-use Rattle.tree_expected.proofs.Rests.{Searching, searching_start, searching_found, searching_on, searching_end, members_within}
+use Rattle.loaded_table.specs.Loaded.{counts_of}
+use Rattle.tree_expected.proofs.Rests.{searching_start, searching_found, searching_on, searching_end, members_within}
 use Rattle.tree_expected.proofs.member_of.Goals.{In-loop-i}
 use Rattle.tree_expected.proofs.member_of.Goals as goal
 

@@ -1,12 +1,9 @@
 -- `tree_expected::member_of` meets its contract. The invariant: the members that are left give the answer. The measure is
 -- their number. Assumes nothing.
-use mathlib.Core.Path.{sym, ◌∙◌}
-use Prim.Native.Nat.{◌*◌, ◌-◌, ◌<◌}
-use native.Mathlib.Omega.{arith}
-use borrow.Author.Rules.{rules}
+use Prim.Native.Nat.{◌*◌, ◌-◌}
 use lib.ListN.{get_or}
 use Rattle.loaded_table.specs.Loaded.{counts_of, members_in}
-use Rattle.tree_expected.proofs.Rests.{Searching, searching_start, searching_found, searching_on, searching_end, members_within}
+use Rattle.tree_expected.proofs.Rests.{Searching}
 use Rattle.tree_expected.proofs.member_of.Given as goal
 
 abbrev pub invariant-loop-i : goal.invariant-loop-i

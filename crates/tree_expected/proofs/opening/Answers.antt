@@ -2,7 +2,6 @@
 use mathlib.Core.Path.{sym, ◌∙◌}
 use Prim.Native.Nat.{◌≤◌, ◌<◌}
 use native.Mathlib.Omega.{arith}
-use borrow.Author.Rules.{rules}
 use lib.ListN.{get_or}
 use Rattle.loaded_table.specs.Loaded.{kinds_of}
 use Rattle.tree_expected.proofs.Rests.{opening_nothing, opening_past, opening_next, opening_other, opening-second, opening-member, opening-no-member, opening-item, opening-no-item}

@@ -1,7 +1,6 @@
 -- `tree_expected::turn_at` meets its contract: each answer has its command. Assumes nothing.
 use mathlib.Core.Path.{◌≡◌, sym, ◌∙◌}
 use native.Mathlib.Omega.{arith}
-use borrow.Author.Rules.{rules}
 use Rattle.tree_form.specs.declared.command.TreeCommand.{TreeCommand}
 use Rattle.tree_form.specs.Commands.{command, ReadsCommand}
 use Rattle.tree_form.proofs.Commands.{met}

@@ -1,6 +1,5 @@
 -- `tree_pass::begins` meets its contract. Assumes nothing.
 use mathlib.Core.Path.{refl}
-use borrow.Author.Rules.{rules}
 use borrow.Author.Tests.{eqb-true}
 use Rattle.model.proofs.Theorems.Tools.{true_false}
 use Rattle.tree_pass.proofs.Turns.{begun}

@@ -1,7 +1,6 @@
 -- `tree_pass::checked_at` meets its contract: each answer but `Refused` has its command. Assumes nothing.
 use mathlib.Core.Path.{sym, ◌∙◌}
 use native.Mathlib.Omega.{arith}
-use borrow.Author.Rules.{rules}
 use Rattle.tree_form.proofs.Commands.{opens_at, character_at, closes_at}
 use Rattle.tree_pass.proofs.Turns.{stands}
 use Rattle.tree_pass.proofs.checked_at.Goals as goal

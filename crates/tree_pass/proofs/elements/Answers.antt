@@ -1,7 +1,5 @@
 -- `tree_pass::elements` meets its contract. Assumes nothing.
 use native.Mathlib.Omega.{arith}
-use borrow.Author.Rules.{rules}
-use borrow.Author.Tests.{not-false}
 use Rattle.tree_pass.proofs.elements.Goals as goal
 
 pub returns-then-not-begins : goal.returns-then-not-begins

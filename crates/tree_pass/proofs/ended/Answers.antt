@@ -1,7 +1,6 @@
 -- `tree_pass::ended` meets its contract. Assumes nothing.
 use mathlib.Core.Path.{refl}
 use native.Mathlib.Omega.{arith}
-use borrow.Author.Rules.{rules}
 use Rattle.tree_form.proofs.Commands.{end_at}
 use Rattle.tree_pass.proofs.Turns.{stands}
 use Rattle.tree_pass.proofs.ended.Goals as goal

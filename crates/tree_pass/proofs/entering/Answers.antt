@@ -1,6 +1,5 @@
 -- `tree_pass::entering` meets its contract. Assumes nothing.
 use native.Mathlib.Omega.{arith}
-use borrow.Author.Rules.{rules}
 use Rattle.tree_pass.proofs.entering.Goals as goal
 
 pub returns-then-types-x : goal.returns-then-types-x

@@ -1,6 +1,5 @@
 -- `tree_pass::holds` meets its contract. Assumes nothing.
 use mathlib.Core.Path.{refl, sym, ◌∙◌}
-use borrow.Author.Rules.{rules}
 use Rattle.model.proofs.Theorems.Tools.{true_false}
 use Rattle.tree_pass.proofs.holds.Goals as goal
 

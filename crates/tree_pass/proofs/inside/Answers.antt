@@ -1,11 +1,8 @@
 use mathlib.Core.Path.{◌≡◌, refl, subst}
-use Prim.Native.Nat.{◌-◌}
-use lib.ListN.{length}
 use native.Mathlib.Omega.{arith}
-use borrow.Author.Rules.{rules}
 use Rattle.tree_expected.specs.declared.Turn.{Turn}
 use Rattle.tree_pass.specs.Passing.{Checked}
-use Rattle.tree_pass.proofs.Turns.{Passing, passing_root, innermost, passing_opens, passing_character, passing_closes, passing_ends}
+use Rattle.tree_pass.proofs.Turns.{passing_root, innermost, passing_opens, passing_character, passing_closes, passing_ends}
 use Rattle.tree_pass.proofs.inside.Goals.{After-checked_at-c}
 use Rattle.tree_pass.proofs.inside.Goals as goal
 

@@ -1,14 +1,7 @@
-use mathlib.Core.Path.{◌≡◌, sym, ◌∙◌}
-use Prim.Native.Nat.{ℕ, ◌-◌, ◌≤◌}
+use mathlib.Core.Path.{sym, ◌∙◌}
 use native.Mathlib.Omega.{arith}
-use borrow.Author.Rules.{rules}
-use lib.ListN.{get_or}
-use Rattle.loaded_table.specs.Loaded.{table_by, length_of_lem}
-use Rattle.loaded_embedding.specs.Loaded.{embedding_by}
-use Rattle.model.specs.Definitions.Basics.{first_found}
-use Rattle.model.specs.Definitions.Table.{kind_of}
-use Rattle.model.specs.Definitions.Embedding.{no_map}
-use Rattle.model.specs.Definitions.Explanation.{clash_of_type, clash_of}
+use Rattle.loaded_table.specs.Loaded.{length_of_lem}
+use Rattle.model.specs.Definitions.Explanation.{clash_of}
 use Rattle.embedding_clash.proofs.Searching.{search_starts, search_passes, search_finds, search_ends}
 use Rattle.explaining.proofs.Explaining.{nothing_found, something_found}
 use Rattle.explaining.proofs.clashes.clash_of.Goals as goal

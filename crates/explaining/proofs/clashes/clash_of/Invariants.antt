@@ -1,17 +1,13 @@
 -- The loop's invariant: searching the source types that are left finds what searching all of them does.
-use mathlib.Core.Path.{◌≡◌, sym, ◌∙◌}
+use mathlib.Core.Path.{◌≡◌}
 use Prim.Native.Nat.{ℕ, ◌-◌, ◌≤◌}
-use native.Mathlib.Omega.{arith}
-use borrow.Author.Rules.{rules}
 use lib.ListN.{get_or}
-use Rattle.loaded_table.specs.Loaded.{table_by, length_of_lem}
+use Rattle.loaded_table.specs.Loaded.{table_by}
 use Rattle.loaded_embedding.specs.Loaded.{embedding_by}
 use Rattle.model.specs.Definitions.Basics.{first_found}
 use Rattle.model.specs.Definitions.Table.{kind_of}
 use Rattle.model.specs.Definitions.Embedding.{no_map}
 use Rattle.model.specs.Definitions.Explanation.{clash_of_type, clash_of}
-use Rattle.embedding_clash.proofs.Searching.{search_starts, search_passes, search_finds, search_ends}
-use Rattle.explaining.proofs.Explaining.{nothing_found, something_found}
 use Rattle.explaining.proofs.clashes.clash_of.Given as goal
 
 abbrev pub invariant-loop-s : goal.invariant-loop-s

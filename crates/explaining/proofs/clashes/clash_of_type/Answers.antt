@@ -1,12 +1,9 @@
-use mathlib.Core.Path.{◌≡◌, sym, ◌∙◌}
-use Prim.Native.Nat.{◌-◌, ◌≤◌, ◌<◌}
+use mathlib.Core.Path.{sym, ◌∙◌}
+use Prim.Native.Nat.{◌<◌}
 use native.Mathlib.Omega.{arith}
-use borrow.Author.Rules.{rules}
 use Rattle.loaded_table.specs.Loaded.{table_by}
-use Rattle.model.specs.Definitions.Basics.{first_found}
 use Rattle.model.specs.Definitions.Table.{kind_of, edges_of}
-use Rattle.model.specs.Definitions.Explanation.{clash_before, clash_of_type}
-use Rattle.embedding_clash.specs.Ready.{map_of}
+use Rattle.model.specs.Definitions.Explanation.{clash_of_type}
 use Rattle.embedding_clash.proofs.Arrays.{TypeAt, type_at}
 use Rattle.embedding_clash.proofs.Searching.{search_starts, search_passes, search_finds, search_ends}
 use Rattle.explaining.proofs.Explaining.{nothing_found, something_found}

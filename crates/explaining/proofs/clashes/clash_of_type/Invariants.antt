@@ -1,16 +1,11 @@
 -- The loop's invariant: searching the edges that are left finds what searching all of the type's does.
-use mathlib.Core.Path.{◌≡◌, sym, ◌∙◌}
-use Prim.Native.Nat.{◌-◌, ◌≤◌, ◌<◌}
-use native.Mathlib.Omega.{arith}
-use borrow.Author.Rules.{rules}
+use mathlib.Core.Path.{◌≡◌}
+use Prim.Native.Nat.{◌-◌, ◌≤◌}
 use Rattle.loaded_table.specs.Loaded.{table_by}
 use Rattle.model.specs.Definitions.Basics.{first_found}
-use Rattle.model.specs.Definitions.Table.{kind_of, edges_of}
+use Rattle.model.specs.Definitions.Table.{kind_of}
 use Rattle.model.specs.Definitions.Explanation.{clash_before, clash_of_type}
 use Rattle.embedding_clash.specs.Ready.{map_of}
-use Rattle.embedding_clash.proofs.Arrays.{TypeAt, type_at}
-use Rattle.embedding_clash.proofs.Searching.{search_starts, search_passes, search_finds, search_ends}
-use Rattle.explaining.proofs.Explaining.{nothing_found, something_found}
 use Rattle.explaining.proofs.clashes.clash_of_type.Given as goal
 
 abbrev pub invariant-loop-i : goal.invariant-loop-i

@@ -1,5 +1,4 @@
 -- `tree_form::command::command_at` meets its contract: one law for each arm. Assumes nothing.
-use borrow.Author.Rules.{rules}
 use Rattle.tree_form.proofs.Commands.{opens_at, character_at, open_cut, character_cut, closes_at, end_at, alien_at}
 use Rattle.tree_form.proofs.command.command_at.Goals as goal
 

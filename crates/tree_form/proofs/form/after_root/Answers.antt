@@ -1,6 +1,5 @@
 -- `tree_form::form::after_root` meets its contract: the machine stops at every command but 3F. Assumes nothing.
 use mathlib.Core.Path.{◌≡◌, refl}
-use borrow.Author.Rules.{rules}
 use Rattle.model.specs.Definitions.TreeChecks.{tree_step}
 use Rattle.tree_form.specs.declared.command.TreeCommand.{TreeCommand}
 use Rattle.tree_form.specs.Commands.{command, ReadsCommand}

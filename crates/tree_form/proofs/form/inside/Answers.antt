@@ -1,11 +1,7 @@
 use mathlib.Core.Path.{◌≡◌}
-use Prim.Native.Nat.{◌-◌}
-use lib.ListN.{length}
 use native.Mathlib.Omega.{arith}
-use borrow.Author.Rules.{rules}
 use Rattle.tree_form.specs.declared.command.TreeCommand.{TreeCommand}
 use Rattle.tree_form.specs.Commands.{command, ReadsCommand}
-use Rattle.tree_form.specs.Form.{InForm}
 use Rattle.tree_form.proofs.Commands.{met}
 use Rattle.tree_form.proofs.FormTurns.{form_short, form_root_closed, form_opens, form_character, form_closes, form_end_inside, form_alien_inside}
 use Rattle.tree_form.proofs.form.inside.Goals.{After-command_at-c}

@@ -1,15 +1,8 @@
 -- `tree_form::form::inside` meets its contract. The invariant: the form's machine at the offset, with so many elements open,
 -- gives the verdict of the whole. The measure is what is left of the document. Assumes nothing.
-use mathlib.Core.Path.{◌≡◌}
 use Prim.Native.Nat.{◌-◌}
 use lib.ListN.{length}
-use native.Mathlib.Omega.{arith}
-use borrow.Author.Rules.{rules}
-use Rattle.tree_form.specs.declared.command.TreeCommand.{TreeCommand}
-use Rattle.tree_form.specs.Commands.{command, ReadsCommand}
 use Rattle.tree_form.specs.Form.{InForm}
-use Rattle.tree_form.proofs.Commands.{met}
-use Rattle.tree_form.proofs.FormTurns.{form_short, form_root_closed, form_opens, form_character, form_closes, form_end_inside, form_alien_inside}
 use Rattle.tree_form.proofs.form.inside.Given as goal
 
 abbrev pub invariant-loop-depth : goal.invariant-loop-depth

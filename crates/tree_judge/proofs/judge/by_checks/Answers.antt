@@ -1,7 +1,6 @@
 -- `tree_judge::judge::by_checks` meets its contract: one law for each answer. Assumes nothing.
 use mathlib.Core.Path.{◌≡◌, ◌∙◌}
 use lib.ListN.{length}
-use borrow.Author.Rules.{rules}
 use Rattle.answers.specs.declared.Judged.{Judged}
 use Rattle.answers.specs.Answers.{judged}
 use Rattle.loaded_table.specs.Loaded.{table_by}

@@ -1,6 +1,5 @@
 -- `tree_judge::judge::checks` meets its contract: one law for each answer. Assumes nothing.
 use mathlib.Core.Path.{◌≡◌}
-use borrow.Author.Rules.{rules}
 use Rattle.model.specs.Definitions.Basics.{passes}
 use Rattle.model.specs.Definitions.TreeChecks.{tree_form, tree_levels}
 use Rattle.tree_judge.proofs.Judging.{told_verdict, judged_long, judged-form, judged-levels, judged-operands, judged-sound}

@@ -1,6 +1,5 @@
 -- `tree_judge::judge::judge` meets its contract: what the pass accepts is sound. Assumes nothing.
 use native.Mathlib.Omega.{arith}
-use borrow.Author.Rules.{rules}
 use Rattle.tree_judge.proofs.Judging.{accepted_sound}
 use Rattle.tree_judge.proofs.judge.judge.Goals as goal
 

@@ -1,12 +1,9 @@
 use mathlib.Core.Path.{◌≡◌}
-use Prim.Native.Nat.{◌-◌}
-use lib.ListN.{length}
 use native.Mathlib.Omega.{arith}
-use borrow.Author.Rules.{rules}
 use Rattle.tree_form.specs.declared.command.TreeCommand.{TreeCommand}
 use Rattle.tree_form.specs.Commands.{command, ReadsCommand}
 use Rattle.tree_form.proofs.Commands.{met}
-use Rattle.tree_levels.proofs.Elements.{Counting, counting_start, counting_end, counting_opens, counting_character, counting_closes, counting_tree_end, counting_alien}
+use Rattle.tree_levels.proofs.Elements.{counting_start, counting_end, counting_opens, counting_character, counting_closes, counting_tree_end, counting_alien}
 use Rattle.tree_levels.proofs.count.count.Goals.{After-command_at-c}
 use Rattle.tree_levels.proofs.count.count.Goals as goal
 

@@ -1,12 +1,8 @@
 use mathlib.Core.Path.{◌≡◌}
 use mathlib.Core.Logic.{inl, inr}
-use Prim.Native.Nat.{◌-◌}
-use lib.ListN.{length}
 use native.Mathlib.Omega.{arith}
-use borrow.Author.Rules.{rules}
 use Rattle.tree_form.specs.declared.command.TreeCommand.{TreeCommand}
 use Rattle.tree_form.specs.Commands.{command, ReadsCommand}
-use Rattle.tree_levels.specs.Levels.{InLevels}
 use Rattle.tree_form.proofs.Commands.{met}
 use Rattle.tree_levels.proofs.LevelTurns.{levels_start, levels_end, levels_opens, levels_deep, levels_character, levels_closes, levels_tree_end, levels_at_alien}
 use Rattle.tree_levels.proofs.levels.levels.Goals.{After-command_at-c, then-depth-gt0, else-depth-gt0}

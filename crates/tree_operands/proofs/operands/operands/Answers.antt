@@ -1,11 +1,7 @@
 use mathlib.Core.Path.{◌≡◌, sym, ◌∙◌}
-use Prim.Native.Nat.{◌-◌}
-use lib.ListN.{length}
 use native.Mathlib.Omega.{arith}
-use borrow.Author.Rules.{rules}
 use Rattle.tree_form.specs.declared.command.TreeCommand.{TreeCommand}
 use Rattle.tree_form.specs.Commands.{command, ReadsCommand}
-use Rattle.tree_operands.specs.Operands.{InOperands}
 use Rattle.tree_form.proofs.Commands.{met}
 use Rattle.tree_operands.proofs.OperandTurns.{operands_start, operands_end, operands_opens, operands_no_type, operands_character, operands_not_allowed, operands_closes, operands_tree_end, operands_at_alien}
 use Rattle.tree_operands.proofs.operands.operands.Goals.{After-command_at-c}
