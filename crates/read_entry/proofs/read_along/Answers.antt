@@ -10,7 +10,6 @@ use Rattle.answers.specs.Answers.{judged}
 use Rattle.loaded_embedding.specs.Loaded.{cleared_map}
 use Rattle.setting_judge.specs.Laws.{standing, refusing, standing_ready}
 use Rattle.outcomes.specs.Outcomes.{setting_refused, sound_tree, tree_refused, tree_accepted}
-use borrow.Author.Rules.{rules}
 use Rattle.read_entry.proofs.read_along.Goals as goal
 
 -- what is done with an accepted tree
