@@ -1,14 +1,12 @@
--- What the opposite of an answer says.
-use mathlib.Core.Path.{◌≡◌, refl}
-use mathlib.Core.Bool.{Bool, true, false, not}
+-- What an answer says.
+use mathlib.Core.Path.{◌≡◌}
+use mathlib.Core.Bool.{Bool, true, false}
 use mathlib.Core.Logic.{◌↔◌}
 use Rattle.model.proofs.Theorems.Tools.{true_false}
 
--- "not yes" says that the fact does not hold, and not "not yes" that it does
-pub denied : (b : Bool) {P : Type 0} → (b ≡ true) ↔ P → not b ≡ true → P → ⊥
-denied true h e p = true_false e refl
-denied false h e p = true_false (h.1 p) refl
+-- no says that the fact does not hold, and yes that it does
+pub denied : (b : Bool) {P : Type 0} → (b ≡ true) ↔ P → b ≡ false → P → ⊥
+denied b h e p = true_false (h.1 p) e
 
-pub confirmed : (b : Bool) {P : Type 0} → (b ≡ true) ↔ P → not b ≡ false → P
-confirmed true h e = h.0 refl
-confirmed false h e = true_false refl e
+pub confirmed : (b : Bool) {P : Type 0} → (b ≡ true) ↔ P → b ≡ true → P
+confirmed b h e = h.0 e

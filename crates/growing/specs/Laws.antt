@@ -11,7 +11,7 @@ use Rattle.std.proofs.Math.Dec.{eqb}
 use borrow.Author.Tests.{eq-eqb, ne_eqb, eqb-true, eqb-false}
 use Rattle.model.specs.Definitions.Basics.{pick}
 use Rattle.model.specs.Definitions.Image.{Placement, under, beyond}
-use Rattle.model.specs.Definitions.Templates.{Shape, Symbol, hole}
+use Rattle.model.specs.Definitions.Templates.{Shape, Symbol}
 use Rattle.loaded_embedding.specs.Loaded.{steps_from}
 use Rattle.writing.specs.Laws.{sets_join}
 use Rattle.rows.specs.Rows.{symbol_of, IsHole}

@@ -2,4 +2,3 @@
 // specs/Outcomes.antt.
 
 #![tactic(auto)]
-

@@ -1,7 +1,7 @@
 -- One step of a path that can be followed: by a loaded table, and in the model.
 use Rattle.std.specs.Prelude.{◌≡◌, length, drop, get_or}
 use Rattle.std.proofs.Common.{sym, ◌∙◌, get_or-drop}
-use mathlib.Core.List.{List, [], ◌∷◌, Memᴰ}
+use mathlib.Core.List.{List, ◌∷◌, Memᴰ}
 use Prim.Native.Nat.{ℕ, suc, ◌+◌, ◌-◌, ◌*◌, ◌≤◌, ◌<◌}
 use native.Mathlib.Omega.{arith}
 use Rattle.model.specs.Definitions.Table.{Table, kind_of, members_of, step_from}

@@ -1,5 +1,5 @@
 -- Sizes of rows from the numbers that a loaded target table keeps.
-use Rattle.std.specs.Prelude.{◌≡◌, List, [], ◌∷◌, ℕ, ◌+◌, ◌≤◌, ◌<◌, min, max, length, get_or}
+use Rattle.std.specs.Prelude.{◌≡◌, List, ◌∷◌, ℕ, ◌+◌, ◌≤◌, ◌<◌, min, max, length, get_or}
 use Rattle.std.proofs.Math.Option.{Option}
 use Rattle.model.specs.Definitions.Table.{kind_of}
 use Rattle.model.specs.Definitions.Templates.{Symbol, row_length, row_levels, row_filler}

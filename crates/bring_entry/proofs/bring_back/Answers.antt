@@ -9,7 +9,6 @@ use Rattle.model.specs.Definitions.Entries.{Outcome, bring_content, bring_back}
 use Rattle.loaded_embedding.specs.Loaded.{cleared_map}
 use Rattle.setting_judge.specs.Laws.{standing, refusing, standing_ready}
 use Rattle.outcomes.specs.Outcomes.{setting_refused, sound_tree, tree_refused, tree_accepted}
-use borrow.Author.Rules.{rules}
 use Rattle.bring_entry.proofs.bring_back.Goals as goal
 
 -- what is done with an accepted tree

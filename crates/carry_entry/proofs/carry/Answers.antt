@@ -8,7 +8,6 @@ use Rattle.model.specs.Definitions.Entries.{Outcome, carry_content, carry}
 use Rattle.loaded_embedding.specs.Loaded.{cleared_map}
 use Rattle.setting_judge.specs.Laws.{standing, refusing, standing_ready}
 use Rattle.outcomes.specs.Outcomes.{setting_refused, sound_tree, tree_refused, tree_accepted}
-use borrow.Author.Rules.{rules}
 use Rattle.carry_entry.proofs.carry.Goals as goal
 
 -- what is done with an accepted tree

@@ -1,6 +1,7 @@
 -- `characters::class_of` meets its contract: what each arm is told, and what each test between two arms leaves, is a line of
 -- the predicate. Assumes nothing.
 use mathlib.Core.Path.{sym}
+use native.Mathlib.Omega.{arith}
 use borrow.Author.Rules.{rules}
 use Rattle.model.specs.Definitions.Characters.{as_entity}
 use Rattle.model.proofs.Theorems.Characters.{class_of}
@@ -14,7 +15,7 @@ pub returns-in-38 : goal.returns-in-38
 returns-in-38 c = sym (class_of _ (as_entity c.in-38.is))
 
 pub returns-in_default-c : goal.returns-in_default-c
-returns-in_default-c c = sym (class_of _ (printed c.in-32-to-126.if-c-lt32-own.false c.in-32-to-126.if-c-lt127-own.true c.in_default-c.in_default-c-own.rest.1))
+returns-in_default-c c = sym (class_of _ (printed (omega arith) (omega arith) c.in_default-c.in_default-c-own.rest.1))
 
 pub returns-in-160-to-255 : goal.returns-in-160-to-255
 returns-in-160-to-255 c = sym (class_of _ (accents c.in-160-to-255.if-c-lt160-own.false (search rules)))
@@ -26,4 +27,4 @@ pub returns-in_default-2 : goal.returns-in_default-2
 returns-in_default-2 c = sym (class_of _ (below_space c.in_default.if-c-lt11-own.false c.in_default.if-c-lt32-own.true))
 
 pub returns-in_default-3 : goal.returns-in_default-3
-returns-in_default-3 c = sym (class_of _ (below_accents c.in_default.if-c-lt127-own.false c.in_default.if-c-lt160-own.true))
+returns-in_default-3 c = sym (class_of _ (below_accents (omega arith) (omega arith)))

@@ -1,11 +1,7 @@
 -- `member_rows` meets its contract.
-use mathlib.Core.Path.{refl}
 use Prim.Native.Nat.{◌-◌, ◌≤◌}
-use native.Mathlib.Omega.{arith}
-use Rattle.own_rows.specs.Making.{edges_small}
-use Rattle.own_rows.specs.Progress.{few_of_type, Partly}
-use Rattle.own_rows.specs.Steps.{row-needs, row_more}
-use Rattle.choice_rows.proofs.Members.{members_room, member_edges, member_room, members_begin, members_end}
+use Rattle.own_rows.specs.Progress.{Partly}
+use Rattle.choice_rows.proofs.Members.{members_room}
 use Rattle.choice_rows.proofs.member_rows.Given as goal
 
 abbrev pub invariant-loop-j : goal.invariant-loop-j

@@ -2,7 +2,6 @@
 use Prim.Native.Nat.{◌*◌}
 use native.Mathlib.Omega.{arith}
 use lib.ListN.{get_or}
-use borrow.Author.Rules.{rules}
 use Rattle.loaded_table.specs.Loaded.{counts_of}
 use Rattle.growing.specs.Laws.{puts-length}
 use Rattle.pools.specs.Room.{nothing_of}

@@ -1,5 +1,4 @@
 -- `extend` meets its contract: the table's fault, the length of the operations, or what carrying them out gives.
-use borrow.Author.Rules.{rules}
 use Rattle.extending.proofs.Running.{table_refused, loaded-stands, operations-refused, run-answered}
 use Rattle.extending.proofs.extend.Goals as goal
 

@@ -1,9 +1,9 @@
-use Prim.Native.Nat.{◌+◌, ◌-◌, ◌≤◌, ◌<◌}
+use Prim.Native.Nat.{◌+◌, ◌≤◌, ◌<◌}
 use native.Mathlib.Omega.{arith}
 use lib.ListN.{length, length-set}
 use borrow.Author.Rules.{rules}
 use Rattle.loaded_table.specs.Loaded.{types_in, table_by}
-use Rattle.extending.proofs.Reporting.{Keeping, KeptWith, kept_with, none_kept, one_more_kept, all_kept}
+use Rattle.extending.proofs.Reporting.{KeptWith, kept_with, none_kept, one_more_kept, all_kept}
 use Rattle.extending.proofs.put_kept.Goals as goal
 use Rattle.extending.proofs.put_kept.Goals.{In-loop-t, After-height}
 

@@ -1,10 +1,7 @@
 -- `put_kept` meets its contract: what is left to write gives the whole.
-use Prim.Native.Nat.{◌+◌, ◌-◌, ◌≤◌, ◌<◌}
-use native.Mathlib.Omega.{arith}
-use lib.ListN.{length, length-set}
-use borrow.Author.Rules.{rules}
-use Rattle.loaded_table.specs.Loaded.{types_in, table_by}
-use Rattle.extending.proofs.Reporting.{Keeping, KeptWith, kept_with, none_kept, one_more_kept, all_kept}
+use Prim.Native.Nat.{◌-◌}
+use Rattle.loaded_table.specs.Loaded.{table_by}
+use Rattle.extending.proofs.Reporting.{Keeping}
 use Rattle.extending.proofs.put_kept.Given as goal
 
 abbrev pub invariant-loop-t : goal.invariant-loop-t

@@ -1,10 +1,10 @@
-use Prim.Native.Nat.{ℕ, ◌+◌, ◌-◌, ◌≤◌}
+use Prim.Native.Nat.{ℕ, ◌+◌, ◌≤◌}
 use native.Mathlib.Omega.{arith}
-use lib.ListN.{length, length-replicate}
+use lib.ListN.{length-replicate}
 use borrow.Author.Rules.{rules}
 use Rattle.model.specs.Definitions.Refusals.{max_length}
 use Rattle.extending.specs.Extending.{Performs, Small}
-use Rattle.extending.proofs.Running.{Ran, none_ran, goes_on, room_for_answer, stop-answered, one-more-ran, answers_room, answers_there, report_answered}
+use Rattle.extending.proofs.Running.{none_ran, goes_on, room_for_answer, stop-answered, one-more-ran, answers_room, answers_there, report_answered}
 use Rattle.extending.proofs.run.Goals as goal
 use Rattle.extending.proofs.run.Goals.{Else-width-eq0}
 

@@ -1,11 +1,8 @@
 use mathlib.Core.Path.{sym}
-use Prim.Native.Nat.{◌-◌, ◌<◌}
 use native.Mathlib.Omega.{arith}
-use Rattle.loaded_table.specs.Loaded.{types_in}
 use Rattle.growing.specs.Laws.{puts_none, puts-after, puts-length}
-use Rattle.filler_rows.specs.Storing.{Sound}
 use Rattle.filler_rows.specs.Laws.{puts_as}
-use Rattle.filler_rows.proofs.ByKind.{small, Hollows, hollow_none, least-small, hollow-choice, hollows_none, hollows-place, nth-small, hollows-more, hollows-all}
+use Rattle.filler_rows.proofs.ByKind.{small, hollow_none, least-small, hollow-choice, hollows_none, hollows-place, nth-small, hollows-more, hollows-all}
 use Rattle.filler_rows.proofs.hollow.Goals as goal
 
 pub kind-kind-requires : goal.kind-kind-requires

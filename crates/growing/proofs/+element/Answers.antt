@@ -2,10 +2,9 @@
 use mathlib.Core.Path.{subst, ◌∙◌}
 use Prim.Native.Nat.{ℕ}
 use native.Mathlib.Omega.{arith}
-use borrow.Author.Rules.{rules}
 use Rattle.growing.specs.Growing.{MemberRange}
 use Rattle.growing.specs.Laws.{puts-length}
-use Rattle.growing.proofs.Members.{Members, members_none, members_all, closing_fits, member-place, member-task, member_room, member-written, small, filler_fits, filler_written, opening-fits, step-reads, inside-fits, element-written, hole-fits, hole-written, end_fits}
+use Rattle.growing.proofs.Members.{members_none, members_all, closing_fits, member-place, member-task, member_room, member-written, small, filler_fits, filler_written, opening-fits, step-reads, inside-fits, element-written, hole-fits, hole-written, end_fits}
 use Rattle.growing.proofs.+element.Goals as goal
 
 pub put-requires : goal.put-requires

@@ -1,7 +1,6 @@
 use mathlib.Core.Path.{sym, subst, ◌∙◌}
-use Prim.Native.Nat.{◌+◌, ◌-◌}
+use Prim.Native.Nat.{◌+◌}
 use native.Mathlib.Omega.{arith}
-use borrow.Author.Rules.{rules}
 use Rattle.growing.specs.declared.Edges.{Edges}
 use Rattle.growing.proofs.Following.{Follows, follows_none, follows_reads, follows_past, follows-left, follows-place, follows_on, follows_all}
 use Rattle.growing.proofs.beyond.Goals as goal

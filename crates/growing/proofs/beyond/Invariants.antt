@@ -1,11 +1,6 @@
 -- `beyond` meets its contract.
-use mathlib.Core.Path.{sym, subst, ◌∙◌}
-use mathlib.Core.Logic.{⊎_elim}
-use Prim.Native.Nat.{◌+◌, ◌-◌}
-use native.Mathlib.Omega.{arith}
-use borrow.Author.Rules.{rules}
-use Rattle.growing.specs.declared.Edges.{Edges}
-use Rattle.growing.proofs.Following.{Follows, follows_none, follows_reads, follows_past, follows-left, follows-place, follows_on, follows_all}
+use Prim.Native.Nat.{◌-◌}
+use Rattle.growing.proofs.Following.{Follows}
 use Rattle.growing.proofs.beyond.Given as goal
 
 abbrev pub invariant-loop-i : goal.invariant-loop-i

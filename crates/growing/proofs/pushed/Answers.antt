@@ -1,7 +1,6 @@
 -- `pushed` meets its contract.
 use mathlib.Core.Path.{refl}
 use Rattle.growing.specs.Growing.{push}
-use borrow.Author.Rules.{rules}
 use Rattle.growing.proofs.pushed.Goals as goal
 
 pub returns : goal.returns

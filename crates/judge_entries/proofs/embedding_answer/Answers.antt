@@ -2,7 +2,6 @@
 use mathlib.Core.Path.{refl}
 use Rattle.loaded_embedding.specs.Loaded.{cleared_map}
 use Rattle.setting_judge.specs.Laws.{standing, refusing, refused_answer, counted-answer}
-use borrow.Author.Rules.{rules}
 use Rattle.judge_entries.proofs.embedding_answer.Goals as goal
 
 pub judge-verdict-requires : goal.judge-verdict-requires
@@ -15,4 +14,4 @@ pub returns-in-Has : goal.returns-in-Has
 returns-in-Has c = refused_answer (refusing _ _ _ _ _ _ _ c.judge-verdict.ensures c.in-Has.is)
 
 pub returns-in-Sound : goal.returns-in-Sound
-returns-in-Sound c = counted-answer _ (standing _ _ _ _ _ _ _ c.judge-verdict.ensures c.in-Sound.is) c.IsEdge-count.ensures
+returns-in-Sound c = counted-answer _ (standing _ _ _ _ _ _ _ c.judge-verdict.ensures c.in-Sound.is) c.edge_count-edges.ensures

@@ -2,7 +2,6 @@
 use mathlib.Core.Path.{◌∙◌}
 use Rattle.answer_numbers.specs.Numbers.{judged_numbers}
 use Rattle.model.specs.Definitions.Entries.{judge_embedding}
-use borrow.Author.Rules.{rules}
 use Rattle.judge_entries.proofs.judge_embedding.Goals as goal
 
 pub returns : goal.returns

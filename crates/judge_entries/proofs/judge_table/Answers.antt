@@ -1,6 +1,5 @@
 -- `judge_table` meets its contract: by what judging the table answers.
 use Rattle.judge_entries.proofs.Judging.{table_faulty, table_counted}
-use borrow.Author.Rules.{rules}
 use Rattle.judge_entries.proofs.judge_table.Goals as goal
 
 pub returns-in-Has : goal.returns-in-Has

@@ -1,6 +1,5 @@
 -- `judge_tree` meets its contract: by what judging the table answers, and then the tree.
 use Rattle.judge_entries.proofs.Judging.{loaded_bounded, tree_table_faulty, tree_table_sound}
-use borrow.Author.Rules.{rules}
 use Rattle.judge_entries.proofs.judge_tree.Goals as goal
 
 pub judge_tree_by-requires : goal.judge_tree_by-requires

@@ -1,6 +1,5 @@
 -- `judge_tree_by` meets its contract: by what judging the tree answers.
 use Rattle.judge_entries.proofs.Judging.{tree_faulty, tree_counted}
-use borrow.Author.Rules.{rules}
 use Rattle.judge_entries.proofs.judge_tree_by.Goals as goal
 
 pub returns-in-Has : goal.returns-in-Has

@@ -1,5 +1,4 @@
 -- `lafindry_decimal` meets its contract: what it calls writes its own number into its own output.
-use borrow.Author.Rules.{rules}
 use Rattle.lafindry.proofs.lafindry_decimal.Goals as goal
 
 pub returns : goal.returns

@@ -2,7 +2,6 @@
 use mathlib.Core.Path.{◌∙◌}
 use Rattle.answer_numbers.specs.Numbers.{explained_numbers}
 use Rattle.model.specs.Definitions.Explanation.{explain}
-use borrow.Author.Rules.{rules}
 use Rattle.lafindry.proofs.lafindry_explain_clash.Goals as goal
 
 pub returns : goal.returns

@@ -1,5 +1,4 @@
 -- `lafindry_read_along` meets its contract: what it calls is called with its own documents.
-use borrow.Author.Rules.{rules}
 use Rattle.lafindry.proofs.lafindry_read_along.Goals as goal
 
 pub returns : goal.returns

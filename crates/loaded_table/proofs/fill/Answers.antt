@@ -1,6 +1,5 @@
 -- `fill` meets its contract: a number of a section is a number of the array.
 use mathlib.Core.Path.{sym, ◌∙◌}
-use borrow.Author.Rules.{rules}
 use Rattle.loaded_table.specs.Loaded.{in_section}
 use Rattle.loaded_table.proofs.fill.Goals as goal
 

@@ -3,7 +3,6 @@ use mathlib.Core.Path.{ap}
 use Prim.Native.Nat.{ℕ}
 use native.Mathlib.Nat.{zero-add}
 use lib.ListN.{set}
-use borrow.Author.Rules.{rules}
 use Rattle.loaded_table.proofs.set_kind.Goals as goal
 
 pub returns : goal.returns

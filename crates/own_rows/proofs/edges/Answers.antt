@@ -1,7 +1,6 @@
 use mathlib.Core.Path.{◌≡◌, sym, subst}
-use Prim.Native.Nat.{◌+◌, ◌-◌, ◌≤◌}
+use Prim.Native.Nat.{◌+◌}
 use native.Mathlib.Omega.{arith}
-use borrow.Author.Rules.{rules}
 use Rattle.growing.specs.declared.Edges.{Edges}
 use Rattle.own_rows.specs.Making.{EdgesFrom}
 use Rattle.own_rows.specs.Laws.{edges_none, edges_more_lem}

@@ -1,11 +1,6 @@
 -- `edges` meets its contract.
-use mathlib.Core.Path.{◌≡◌, sym, subst}
-use Prim.Native.Nat.{◌+◌, ◌-◌, ◌≤◌}
-use native.Mathlib.Omega.{arith}
-use borrow.Author.Rules.{rules}
-use Rattle.growing.specs.declared.Edges.{Edges}
+use Prim.Native.Nat.{◌-◌, ◌≤◌}
 use Rattle.own_rows.specs.Making.{EdgesFrom}
-use Rattle.own_rows.specs.Laws.{edges_none, edges_more_lem}
 use Rattle.own_rows.proofs.edges.Given as goal
 
 abbrev pub invariant-loop-i : goal.invariant-loop-i

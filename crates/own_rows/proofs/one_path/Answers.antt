@@ -4,7 +4,6 @@ use native.Mathlib.Omega.{arith}
 use Rattle.growing.specs.declared.Edges.{Edges}
 use Rattle.growing.specs.Growing.{no_edges, push}
 use Rattle.own_rows.specs.OnePath.{one_path}
-use borrow.Author.Rules.{rules}
 use Rattle.own_rows.proofs.one_path.Goals as goal
 
 pub pushed-requires : goal.pushed-requires

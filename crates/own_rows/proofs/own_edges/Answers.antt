@@ -2,7 +2,6 @@
 use mathlib.Core.Path.{subst}
 use Prim.Native.Nat.{ℕ, ◌*◌}
 use native.Mathlib.Omega.{arith}
-use borrow.Author.Rules.{rules}
 use Rattle.own_rows.specs.Making.{EdgesFrom}
 use Rattle.own_rows.proofs.own_edges.Goals as goal
 

@@ -4,7 +4,6 @@ use native.Mathlib.Omega.{arith}
 use Rattle.growing.specs.Laws.{puts-length, puts-after}
 use Rattle.filler_rows.specs.Laws.{placed_length}
 use Rattle.own_rows.proofs.Made.{made_again, made_end, made_new}
-use borrow.Author.Rules.{rules}
 use Rattle.own_rows.proofs.own_row.Goals as goal
 
 pub place-requires : goal.place-requires

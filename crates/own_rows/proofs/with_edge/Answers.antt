@@ -2,7 +2,6 @@
 use mathlib.Core.Path.{ap₂, ◌∙◌}
 use Prim.Native.Nat.{ℕ, ◌+◌}
 use Rattle.growing.specs.Growing.{push}
-use borrow.Author.Rules.{rules}
 use Rattle.own_rows.proofs.with_edge.Goals as goal
 
 pub returns : goal.returns

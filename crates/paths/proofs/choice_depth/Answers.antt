@@ -1,10 +1,8 @@
 use mathlib.Core.Path.{refl, sym, ap, ◌∙◌}
-use Prim.Native.Nat.{◌-◌}
 use native.Mathlib.Omega.{arith}
-use borrow.Author.Rules.{rules}
 use Rattle.loaded_table.specs.Kinds.{choice_code}
 use Rattle.paths.specs.Stepping.{place_within, is_small, step_bounds}
-use Rattle.paths.proofs.Choosing.{Chooses, chooses_start, chooses_none, chooses-here, chooses-on}
+use Rattle.paths.proofs.Choosing.{chooses_start, chooses_none, chooses-here, chooses-on}
 use Rattle.paths.proofs.choice_depth.Goals as goal
 
 pub loop-d-init : goal.loop-d-init

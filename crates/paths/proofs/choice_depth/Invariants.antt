@@ -1,11 +1,6 @@
 -- `choice_depth` meets its contract: the loop's invariant says that no step taken leaves a choice.
-use mathlib.Core.Path.{refl, sym, ap, ◌∙◌}
 use Prim.Native.Nat.{◌-◌}
-use native.Mathlib.Omega.{arith}
-use borrow.Author.Rules.{rules}
-use Rattle.loaded_table.specs.Kinds.{choice_code}
-use Rattle.paths.specs.Stepping.{place_within, is_small, step_bounds}
-use Rattle.paths.proofs.Choosing.{Chooses, chooses_start, chooses_none, chooses-here, chooses-on}
+use Rattle.paths.proofs.Choosing.{Chooses}
 use Rattle.paths.proofs.choice_depth.Given as goal
 
 abbrev pub invariant-loop-d : goal.invariant-loop-d

@@ -1,7 +1,6 @@
-use Prim.Native.Nat.{◌-◌}
 use native.Mathlib.Omega.{arith}
 use Rattle.paths.specs.Stepping.{place_within, is_small, step_bounds}
-use Rattle.paths.proofs.Dividing.{Divides, divides_start, divides_none, divides-list, divides-on}
+use Rattle.paths.proofs.Dividing.{divides_start, divides_none, divides-list, divides-on}
 use Rattle.paths.proofs.list_depth.Goals as goal
 
 pub loop-d-init : goal.loop-d-init

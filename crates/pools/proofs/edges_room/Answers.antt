@@ -1,11 +1,11 @@
 use mathlib.Core.Path.{◌≡◌, refl}
 use mathlib.Core.List.{List}
-use Prim.Native.Nat.{ℕ, suc, ◌+◌, ◌-◌, ◌*◌}
+use Prim.Native.Nat.{ℕ, suc, ◌+◌, ◌*◌}
 use native.Mathlib.Omega.{arith}
 use lib.ListN.{get_or}
 use Rattle.loaded_embedding.specs.Loaded.{lengths_of}
 use Rattle.pools.specs.Room.{edge_room}
-use Rattle.pools.proofs.Adding.{Added, added_none, added_more, added_all}
+use Rattle.pools.proofs.Adding.{added_none, added_more, added_all}
 use Rattle.pools.proofs.edges_room.Goals as goal
 
 -- one edge more

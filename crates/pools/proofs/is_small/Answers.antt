@@ -1,7 +1,6 @@
 -- `is_small` meets its contract.
 use mathlib.Core.Path.{refl}
 use Rattle.model.proofs.Theorems.Tools.{true_false}
-use borrow.Author.Rules.{rules}
 use Rattle.pools.proofs.is_small.Goals as goal
 
 pub returns-then-types-gt-SMALL_TYPES : goal.returns-then-types-gt-SMALL_TYPES

@@ -1,9 +1,9 @@
 use mathlib.Core.Path.{◌≡◌, refl}
 use mathlib.Core.List.{List}
-use Prim.Native.Nat.{ℕ, suc, ◌+◌, ◌-◌}
+use Prim.Native.Nat.{ℕ, suc, ◌+◌}
 use native.Mathlib.Omega.{arith}
 use Rattle.pools.specs.Room.{nothing_of, nothing_room}
-use Rattle.pools.proofs.Adding.{Added, added_none, added_more, added_all}
+use Rattle.pools.proofs.Adding.{added_none, added_more, added_all}
 use Rattle.pools.proofs.nothing_room.Goals as goal
 
 -- one type more

@@ -1,10 +1,7 @@
 -- `nothing_room` meets its contract.
-use mathlib.Core.Path.{◌≡◌, refl}
-use mathlib.Core.List.{List}
-use Prim.Native.Nat.{ℕ, suc, ◌+◌, ◌-◌}
-use native.Mathlib.Omega.{arith}
-use Rattle.pools.specs.Room.{nothing_of, nothing_room}
-use Rattle.pools.proofs.Adding.{Added, added_none, added_more, added_all}
+use Prim.Native.Nat.{◌-◌}
+use Rattle.pools.specs.Room.{nothing_room}
+use Rattle.pools.proofs.Adding.{Added}
 use Rattle.pools.proofs.nothing_room.Given as goal
 
 abbrev pub invariant-loop-s : goal.invariant-loop-s

@@ -2,7 +2,6 @@
 use mathlib.Core.Path.{◌≡◌, refl}
 use mathlib.Core.List.{List}
 use Prim.Native.Nat.{ℕ, ◌+◌, ◌*◌}
-use borrow.Author.Rules.{rules}
 use Rattle.loaded_table.specs.Loaded.{types_in}
 use Rattle.pools.specs.Room.{edge_room, nothing_room, room_of}
 use Rattle.pools.proofs.room.Goals as goal

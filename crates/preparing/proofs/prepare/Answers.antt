@@ -1,8 +1,5 @@
 use mathlib.Core.Path.{◌∙◌}
-use Prim.Native.Nat.{◌-◌, ◌≤◌}
 use native.Mathlib.Omega.{arith}
-use borrow.Author.Rules.{rules}
-use Rattle.own_rows.specs.Progress.{Progress}
 use Rattle.preparing.proofs.Going.{target_sound, progress_here, progress_on, filler_room, progress_fillers, progress_all}
 use Rattle.preparing.proofs.prepare.Goals as goal
 

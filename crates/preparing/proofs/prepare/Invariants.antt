@@ -1,10 +1,6 @@
 -- `prepare` meets its contract.
-use mathlib.Core.Path.{◌∙◌}
 use Prim.Native.Nat.{◌-◌, ◌≤◌}
-use native.Mathlib.Omega.{arith}
-use borrow.Author.Rules.{rules}
 use Rattle.own_rows.specs.Progress.{Progress}
-use Rattle.preparing.proofs.Going.{target_sound, progress_here, progress_on, filler_room, progress_fillers, progress_all}
 use Rattle.preparing.proofs.prepare.Given as goal
 
 abbrev pub invariant-loop-s : goal.invariant-loop-s

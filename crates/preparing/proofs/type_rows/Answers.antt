@@ -22,19 +22,10 @@ pub returns-then-kind-lt-CHOICE : goal.returns-then-kind-lt-CHOICE
 returns-then-kind-lt-CHOICE c = c.one_row.ensures
 
 pub choice_rows-requires : goal.choice_rows-requires
-choice_rows-requires c = record { next = c.requires.next; s_value = ap choice_code (sym c.kind-kind.ensures.0) ∙ choice_between c.kind-kind.result (omega (arith, c.if-kind-lt-CHOICE.false)) (omega (arith, c.if-kind-lt-LIST.true)) }
-
-pub shape_of-pool-then-kind-lt-LIST : goal.shape_of-pool-then-kind-lt-LIST
-shape_of-pool-then-kind-lt-LIST c = c.choice_rows.ensures.whole.pool_length
-
-pub shape_of-places-then-kind-lt-LIST : goal.shape_of-places-then-kind-lt-LIST
-shape_of-places-then-kind-lt-LIST c = c.choice_rows.ensures.whole.places_length
-
-pub returns-then-kind-lt-LIST : goal.returns-then-kind-lt-LIST
-returns-then-kind-lt-LIST c = c.choice_rows.ensures
+choice_rows-requires c = record { next = c.requires.next; s_value = ap choice_code (sym c.kind-kind.ensures.0) ∙ choice_between c.kind-kind.result (omega (arith, c.if-kind-lt-CHOICE.false)) (omega arith) }
 
 pub list_rows-requires : goal.list_rows-requires
-list_rows-requires c = record { next = c.requires.next; list = omega (arith, c.if-kind-lt-LIST.false, c.kind-kind.ensures.0) }
+list_rows-requires c = record { next = c.requires.next; list = omega (arith, c.kind-kind.ensures.0) }
 
 pub shape_of-pool : goal.shape_of-pool
 shape_of-pool c = c.list_rows.ensures.whole.pool_length

@@ -10,7 +10,6 @@ use Rattle.answers.specs.Answers.{judged}
 use Rattle.loaded_embedding.specs.Loaded.{cleared_map}
 use Rattle.setting_judge.specs.Laws.{standing, refusing, standing_ready}
 use Rattle.outcomes.specs.Outcomes.{setting_refused, sound_tree, tree_refused, tree_accepted}
-use borrow.Author.Rules.{rules}
 use Rattle.read_entry.proofs.read_along.Goals as goal
 
 -- what is done with an accepted tree
@@ -38,7 +37,7 @@ read_along-requires c =
     let h = standing _ _ _ _ _ _ _ c.judge-setting.ensures c.in_default.is in
     let judgement = c.judge-judgement.ensures in
     let is-sound = c.in_default-judged.is in
-    record { setting = standing_ready h; target = record { c = sound_tree _ _ _ h.judges.target_sound h.loaded.target_stands judgement is-sound; count_is = judgement.counted (sym judgement.same_judgement ∙ ap judged is-sound) } }
+    record { setting = standing_ready h; target = record { tree = sound_tree _ _ _ h.judges.target_sound h.loaded.target_stands judgement is-sound; count_is = judgement.counted (sym judgement.same_judgement ∙ ap judged is-sound) } }
 
 pub returns : goal.returns
 unfolding read_along

@@ -1,7 +1,5 @@
-use Prim.Native.Nat.{◌-◌}
 use native.Mathlib.Omega.{arith}
-use borrow.Author.Rules.{rules}
-use Rattle.row_sizes.proofs.Adding.{SumsAlong, along_none, along_more, along_all}
+use Rattle.row_sizes.proofs.Adding.{along_none, along_more, along_all}
 use Rattle.row_sizes.proofs.row_size.Goals as goal
 
 pub loop-i-init : goal.loop-i-init

@@ -1,8 +1,6 @@
 -- `row_size` meets its contract.
 use Prim.Native.Nat.{◌-◌}
-use native.Mathlib.Omega.{arith}
-use borrow.Author.Rules.{rules}
-use Rattle.row_sizes.proofs.Adding.{SumsAlong, along_none, along_more, along_all}
+use Rattle.row_sizes.proofs.Adding.{SumsAlong}
 use Rattle.row_sizes.proofs.row_size.Given as goal
 
 abbrev pub invariant-loop-i : goal.invariant-loop-i

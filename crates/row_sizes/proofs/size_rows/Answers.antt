@@ -1,9 +1,5 @@
-use mathlib.Core.Path.{◌≡◌, refl, ◌∙◌}
-use Prim.Native.Nat.{ℕ, ◌-◌, ◌<◌}
+use mathlib.Core.Path.{refl, ◌∙◌}
 use native.Mathlib.Omega.{arith}
-use borrow.Author.Rules.{rules}
-use lib.ListN.{length}
-use Rattle.row_sizes.specs.Sizing.{TypeSized}
 use Rattle.row_sizes.specs.Sizes.{sized_all}
 use Rattle.row_sizes.proofs.Storing.{type_kept, below_more}
 use Rattle.row_sizes.proofs.size_rows.Goals as goal

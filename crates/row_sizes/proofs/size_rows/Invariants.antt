@@ -1,12 +1,8 @@
 -- `size_rows` meets its contract: the rows of the types before a type are sized.
-use mathlib.Core.Path.{◌≡◌, refl, ◌∙◌}
+use mathlib.Core.Path.{◌≡◌}
 use Prim.Native.Nat.{ℕ, ◌-◌, ◌<◌}
-use native.Mathlib.Omega.{arith}
-use borrow.Author.Rules.{rules}
 use lib.ListN.{length}
 use Rattle.row_sizes.specs.Sizing.{TypeSized}
-use Rattle.row_sizes.specs.Sizes.{sized_all}
-use Rattle.row_sizes.proofs.Storing.{type_kept, below_more}
 use Rattle.row_sizes.proofs.size_rows.Given as goal
 
 abbrev pub invariant-loop-s : goal.invariant-loop-s

@@ -1,8 +1,6 @@
 use mathlib.Core.Path.{refl}
-use Prim.Native.Nat.{ℕ, ◌-◌, ◌<◌}
 use native.Mathlib.Omega.{arith}
-use Rattle.rows.specs.Rows.{type_row, source_row, item_row}
-use Rattle.row_sizes.specs.Sizing.{Sized, Keeps}
+use Rattle.rows.specs.Rows.{source_row, item_row}
 use Rattle.row_sizes.proofs.Storing.{keeps_both, below_more}
 use Rattle.row_sizes.proofs.size_type.Goals as goal
 

@@ -1,10 +1,7 @@
 -- `size_type` meets its contract: the first rows of the type are sized, and what was stored stays.
-use mathlib.Core.Path.{refl}
 use Prim.Native.Nat.{ℕ, ◌-◌, ◌<◌}
-use native.Mathlib.Omega.{arith}
-use Rattle.rows.specs.Rows.{type_row, source_row, item_row}
+use Rattle.rows.specs.Rows.{type_row}
 use Rattle.row_sizes.specs.Sizing.{Sized, Keeps}
-use Rattle.row_sizes.proofs.Storing.{keeps_both, below_more}
 use Rattle.row_sizes.proofs.size_type.Given as goal
 
 abbrev pub invariant-loop-j : goal.invariant-loop-j

@@ -3,7 +3,6 @@ use mathlib.Core.Path.{refl, ap, ◌∙◌}
 use Prim.Native.Nat.{ℕ, ◌-◌, min}
 use native.Mathlib.Omega.{arith}
 use Rattle.row_sizes.proofs.Adding.{adds_opening, adds_filler, adds_hole, adds_closing}
-use borrow.Author.Rules.{rules}
 use Rattle.row_sizes.proofs.with_symbol.Goals as goal
 
 pub returns-then-n-wide : goal.returns-then-n-wide

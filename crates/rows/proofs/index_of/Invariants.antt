@@ -1,13 +1,9 @@
 -- `index_of` meets its contract: t is not among the members passed, so its place is theirs and its place among the others.
-use mathlib.Core.Path.{◌≡◌, sym, ap, ◌∙◌}
-use mathlib.Core.List.{List, []}
-use Prim.Native.Nat.{ℕ, suc, ◌+◌, ◌-◌, ◌*◌, ◌≤◌, ◌<◌}
-use native.Mathlib.Nat.{zero-add, add-zero, sub-zero}
-use native.Mathlib.Omega.{arith}
-use lib.ListN.{length, take, drop, length-take, length-drop}
-use Rattle.loaded_table.specs.Loaded.{Bounded, members_in}
+use mathlib.Core.Path.{◌≡◌}
+use Prim.Native.Nat.{◌+◌, ◌-◌, ◌*◌, ◌≤◌}
+use lib.ListN.{take, drop}
+use Rattle.loaded_table.specs.Loaded.{members_in}
 use Rattle.rows.specs.Rows.{index_in}
-use Rattle.rows.specs.Laws.{index_here, index_later, index_none}
 use Rattle.rows.proofs.index_of.Given as goal
 
 -- the place of t among all members is i more than its place among those from i on

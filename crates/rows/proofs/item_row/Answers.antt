@@ -1,6 +1,5 @@
 -- `item_row` meets its contract.
 use mathlib.Core.Path.{refl}
-use borrow.Author.Rules.{rules}
 use Rattle.rows.specs.Rows.{item_row}
 use Rattle.rows.proofs.item_row.Goals as goal
 

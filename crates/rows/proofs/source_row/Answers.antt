@@ -6,7 +6,6 @@ use mathlib.Core.Option.{Option}
 use Prim.Native.Nat.{ℕ, ◌+◌, ◌*◌, ◌≤◌, ◌<◌}
 use native.Mathlib.Omega.{arith}
 use lib.ListN.{take, drop, get_or}
-use borrow.Author.Rules.{rules}
 use Rattle.loaded_table.specs.Loaded.{table_by, types_in, kinds_of, counts_of, members_in, kind_of_lem}
 use Rattle.loaded_table.specs.Kinds.{choice_code}
 use Rattle.rows.specs.Rows.{member_index, first_from, row_index, source_row, item_row}

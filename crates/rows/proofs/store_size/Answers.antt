@@ -2,7 +2,6 @@
 use Prim.Native.Nat.{◌*◌}
 use native.Mathlib.Omega.{arith}
 use lib.ListN.{length-set}
-use borrow.Author.Rules.{rules}
 use Rattle.rows.proofs.store_size.Goals as goal
 
 pub bounds-sizes-i-2 : goal.bounds-sizes-i-2

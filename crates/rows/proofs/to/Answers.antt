@@ -1,5 +1,4 @@
 -- `to` meets its contract: the second number of the row.
-use borrow.Author.Rules.{rules}
 use Rattle.rows.proofs.to.Goals as goal
 
 pub returns : goal.returns

@@ -2,7 +2,6 @@
 use mathlib.Core.Path.{sym}
 use native.Mathlib.Omega.{arith}
 use lib.ListN.{drop, length-take, get_or-eq_default}
-use borrow.Author.Rules.{rules}
 use Rattle.loaded_table.specs.Loaded.{fill_of}
 use Rattle.table_fill.proofs.fill_at.Goals as goal
 

@@ -1,18 +1,9 @@
 -- `fill_round` meets its contract: the types below t are still to do.
-use mathlib.Core.Path.{◌≡◌, refl, sym, ap, ◌∙◌, subst}
-use mathlib.Core.Bool.{true}
-use mathlib.Core.List.{List}
-use Prim.Native.Nat.{ℕ, ◌-◌, ◌≤◌, ◌<◌}
-use native.Mathlib.Omega.{arith}
-use lib.ListN.{length, set}
-use lib.Seq.{set-get_or}
-use Rattle.loaded_table.specs.Loaded.{types_in, fill_of, table_by, length_of_lem, section_long, section-set}
-use Rattle.model.specs.Definitions.Heights.{heights}
+use Prim.Native.Nat.{◌≤◌}
+use Rattle.loaded_table.specs.Loaded.{types_in, fill_of, table_by}
 use Rattle.model.proofs.Theorems.Facts.{SoundTable}
-use Rattle.model.proofs.Theorems.Tools.{true_false}
-use Rattle.table_heights.specs.Sections.{Elsewhere, elsewhere_same, elsewhere_set, types_elsewhere, bounded_elsewhere}
-use Rattle.table_fill.specs.Fill.{next_fill}
-use Rattle.table_fill.proofs.FillRounds.{Filling, next_is, filling_starts, filling_turn, filling_ends}
+use Rattle.table_heights.specs.Sections.{Elsewhere}
+use Rattle.table_fill.proofs.FillRounds.{Filling}
 use Rattle.table_fill.proofs.fill_round.Given as goal
 
 abbrev pub invariant-loop-t : goal.invariant-loop-t

@@ -1,10 +1,9 @@
 use mathlib.Core.Path.{◌≡◌, refl, ap, ◌∙◌}
-use Prim.Native.Nat.{ℕ, ◌+◌, ◌-◌, ◌≤◌, ◌<◌, min}
+use Prim.Native.Nat.{ℕ, ◌+◌, ◌<◌, min}
 use native.Mathlib.Omega.{arith}
-use lib.ListN.{drop, get_or}
+use lib.ListN.{get_or}
 use Rattle.loaded_table.specs.Loaded.{fill_of}
 use Rattle.table_heights.specs.Sections.{members_at, members_long, member_is}
-use Rattle.table_fill.specs.Fill.{fill_sum}
 use Rattle.table_fill.proofs.Members.{fill_turn, fill_end}
 use Rattle.table_fill.proofs.fill_sum.Goals as goal
 

@@ -1,12 +1,10 @@
 -- `fill_sum` meets its contract: the total so far and the lengths of the members left are the whole, held at 60,001.
-use mathlib.Core.Path.{◌≡◌, refl, ap, ◌∙◌}
-use Prim.Native.Nat.{ℕ, ◌+◌, ◌-◌, ◌≤◌, ◌<◌, min}
-use native.Mathlib.Omega.{arith}
-use lib.ListN.{drop, get_or}
+use mathlib.Core.Path.{◌≡◌}
+use Prim.Native.Nat.{◌+◌, ◌-◌, ◌≤◌, min}
+use lib.ListN.{drop}
 use Rattle.loaded_table.specs.Loaded.{fill_of}
-use Rattle.table_heights.specs.Sections.{members_at, members_long, member_is}
+use Rattle.table_heights.specs.Sections.{members_at}
 use Rattle.table_fill.specs.Fill.{fill_sum}
-use Rattle.table_fill.proofs.Members.{fill_turn, fill_end}
 use Rattle.table_fill.proofs.fill_sum.Given as goal
 
 abbrev pub invariant-loop-i : goal.invariant-loop-i

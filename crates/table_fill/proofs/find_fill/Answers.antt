@@ -1,11 +1,10 @@
 use mathlib.Core.Path.{subst}
 use mathlib.Core.Logic.{inl}
-use Prim.Native.Nat.{◌-◌, ◌≤◌}
 use native.Mathlib.Omega.{arith}
 use Rattle.loaded_table.specs.Loaded.{fill_of, table_by, length_of_lem}
 use Rattle.model.proofs.Theorems.Facts.{SoundTable}
-use Rattle.table_heights.specs.Sections.{Elsewhere, elsewhere_same, elsewhere_both, section_elsewhere, table_elsewhere, bounded_elsewhere}
-use Rattle.table_fill.specs.Fill.{FillTo, HoldsFillRound}
+use Rattle.table_heights.specs.Sections.{elsewhere_same, elsewhere_both, section_elsewhere, table_elsewhere, bounded_elsewhere}
+use Rattle.table_fill.specs.Fill.{HoldsFillRound}
 use Rattle.table_fill.proofs.FillRounds.{fill_none, fill_all}
 use Rattle.table_fill.proofs.find_fill.Goals as goal
 use Rattle.table_fill.proofs.find_fill.Goals.{After-fill_round}

@@ -1,6 +1,5 @@
 -- `held_sum` meets its contract: a sum that is less than where lengths are held is itself.
 use native.Mathlib.Omega.{arith}
-use borrow.Author.Rules.{rules}
 use Rattle.table_fill.proofs.held_sum.Goals as goal
 
 pub overflow_cast-result : goal.overflow_cast-result

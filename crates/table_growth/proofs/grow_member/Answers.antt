@@ -5,7 +5,6 @@ use Prim.Native.Nat.{◌<◌}
 use native.Mathlib.Omega.{arith}
 use lib.ListN.{get_or}
 use lib.Dec.{eqb}
-use borrow.Author.Tests.{not-true, not-false}
 use Rattle.loaded_table.specs.Loaded.{types_in, counts_of, table_by}
 use Rattle.model.specs.Definitions.Table.{is_choice, kind_of}
 use Rattle.table_growth.proofs.Appending.{nothing_to_extend, too_many, unknown, repeated, may-join, joined}
@@ -39,7 +38,8 @@ returns-then-missing c =
 
 pub returns-then-full : goal.returns-then-full
 returns-then-full c =
-    too_many _ _ _ _ c.requires (there (goal.at.returns-then-full c).Else-missing) (chooses (goal.at.returns-then-full c).Else-missing) (sym c.is_full-full.ensures ∙ c.if-full.true)
+    let is : c.extends-missing.result ≡ true = cc in
+    too_many _ _ _ _ c.requires (c.extends-missing.ensures.1 is) (sym c.extends-missing.ensures.0 ∙ is) (sym c.is_full-full.ensures ∙ c.if-full.true)
 
 pub types-all-requires : goal.types-all-requires
 types-all-requires c = tt

@@ -2,7 +2,6 @@
 use mathlib.Core.Path.{sym, ◌∙◌, subst}
 use Prim.Native.Nat.{◌≤◌}
 use native.Mathlib.Omega.{arith}
-use borrow.Author.Rules.{rules}
 use Rattle.answers.specs.declared.Judged.{Judged}
 use Rattle.loaded_table.specs.Loaded.{table_by, length_of_lem}
 use Rattle.model.specs.Definitions.Operations.{operate}

@@ -1,8 +1,7 @@
 use mathlib.Core.Path.{◌≡◌, refl, sym, ◌∙◌}
-use Prim.Native.Nat.{◌-◌, ◌≤◌, ◌<◌}
+use Prim.Native.Nat.{◌<◌}
 use native.Mathlib.Omega.{arith}
-use lib.ListN.{length, drop, get_or}
-use Rattle.model.specs.Definitions.Basics.{member_of}
+use lib.ListN.{length, get_or}
 use Rattle.table_heights.specs.Sections.{members_at, members_long, member_is}
 use Rattle.table_growth.proofs.Naming.{named_here, not_named_here, named_nowhere}
 use Rattle.table_growth.proofs.names.Goals as goal

@@ -1,11 +1,9 @@
 -- `names` meets its contract: what is left of the members decides.
-use mathlib.Core.Path.{◌≡◌, refl, sym, ◌∙◌}
-use Prim.Native.Nat.{◌-◌, ◌≤◌, ◌<◌}
-use native.Mathlib.Omega.{arith}
-use lib.ListN.{length, drop, get_or}
+use mathlib.Core.Path.{◌≡◌}
+use Prim.Native.Nat.{◌-◌, ◌≤◌}
+use lib.ListN.{drop}
 use Rattle.model.specs.Definitions.Basics.{member_of}
-use Rattle.table_heights.specs.Sections.{members_at, members_long, member_is}
-use Rattle.table_growth.proofs.Naming.{named_here, not_named_here, named_nowhere}
+use Rattle.table_heights.specs.Sections.{members_at}
 use Rattle.table_growth.proofs.names.Given as goal
 
 abbrev pub invariant-loop-i : goal.invariant-loop-i

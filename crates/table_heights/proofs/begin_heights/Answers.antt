@@ -1,9 +1,8 @@
-use mathlib.Core.Path.{◌≡◌, ap, ◌∙◌}
-use Prim.Native.Nat.{ℕ, ◌-◌, ◌≤◌, ◌<◌}
+use mathlib.Core.Path.{ap, ◌∙◌}
+use Prim.Native.Nat.{ℕ}
 use native.Mathlib.Omega.{arith}
-use lib.ListN.{get_or}
-use Rattle.loaded_table.specs.Loaded.{types_in, heights_of, section_more}
-use Rattle.table_heights.specs.Sections.{Elsewhere, elsewhere_same, elsewhere_set}
+use Rattle.loaded_table.specs.Loaded.{types_in, section_more}
+use Rattle.table_heights.specs.Sections.{elsewhere_same, elsewhere_set}
 use Rattle.table_heights.specs.Heights.{first_height}
 use Rattle.table_heights.proofs.begin_heights.Goals as goal
 

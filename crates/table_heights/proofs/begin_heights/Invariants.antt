@@ -1,10 +1,9 @@
 -- `begin_heights` meets its contract: the numbers of the types below t are stored.
-use mathlib.Core.Path.{◌≡◌, ap, ◌∙◌}
+use mathlib.Core.Path.{◌≡◌}
 use Prim.Native.Nat.{ℕ, ◌-◌, ◌≤◌, ◌<◌}
-use native.Mathlib.Omega.{arith}
 use lib.ListN.{get_or}
-use Rattle.loaded_table.specs.Loaded.{types_in, heights_of, section_more}
-use Rattle.table_heights.specs.Sections.{Elsewhere, elsewhere_same, elsewhere_set}
+use Rattle.loaded_table.specs.Loaded.{types_in, heights_of}
+use Rattle.table_heights.specs.Sections.{Elsewhere}
 use Rattle.table_heights.specs.Heights.{first_height}
 use Rattle.table_heights.proofs.begin_heights.Given as goal
 

@@ -1,12 +1,9 @@
 -- `finite_bits` meets its contract: the bits of the types below t are set as their heights say.
-use mathlib.Core.Path.{◌≡◌, refl, ◌∙◌}
-use mathlib.Core.Logic.{⊎_elim}
-use Prim.Native.Nat.{◌+◌, ◌-◌, ◌≤◌, ◌<◌}
-use native.Mathlib.Omega.{arith}
-use lib.ListN.{length, take}
+use mathlib.Core.Path.{◌≡◌}
+use Prim.Native.Nat.{◌-◌, ◌≤◌}
+use lib.ListN.{take}
 use Rattle.loaded_table.specs.Loaded.{heights_of}
 use Rattle.table_heights.specs.Heights.{word, finite_bits}
-use Rattle.table_heights.proofs.Words.{bits_set, bits_clear}
 use Rattle.table_heights.proofs.finite_bits.Given as goal
 
 abbrev pub invariant-loop-t : goal.invariant-loop-t

@@ -1,6 +1,5 @@
 -- `first_height` meets its contract.
 use mathlib.Core.Path.{sym}
-use borrow.Author.Rules.{rules}
 use borrow.Author.Tests.{lt-ltb, le-ltb}
 use Rattle.model.proofs.Theorems.Tools.{pick_true, pick_false}
 use Rattle.table_heights.specs.Heights.{first_height}

@@ -5,7 +5,7 @@ use Prim.Native.Nat.{ℕ, ◌-◌, ◌≤◌, ◌<◌}
 use native.Mathlib.Omega.{arith}
 use lib.ListN.{length, set}
 use Rattle.loaded_table.specs.Loaded.{heights_of, table_by, length_of_lem, section_long, section-set}
-use Rattle.table_heights.specs.Sections.{Elsewhere, elsewhere_same, elsewhere_set, types_elsewhere, table_elsewhere, bounded_elsewhere}
+use Rattle.table_heights.specs.Sections.{elsewhere_same, elsewhere_set, types_elsewhere, table_elsewhere, bounded_elsewhere}
 use Rattle.table_heights.specs.Heights.{next_height}
 use Rattle.table_heights.proofs.Rounds.{Raising, raising_starts, raising_changed, raising_kept, raising_ends}
 use Rattle.table_heights.proofs.height_round.Goals as goal

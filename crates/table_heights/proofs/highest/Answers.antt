@@ -1,10 +1,9 @@
 use mathlib.Core.Path.{◌≡◌, ap, ◌∙◌}
-use mathlib.Core.Logic.{⊎_elim}
-use Prim.Native.Nat.{◌-◌, ◌≤◌, ◌<◌, max}
+use Prim.Native.Nat.{◌<◌, max}
 use native.Mathlib.Omega.{arith}
-use lib.ListN.{drop, get_or}
+use lib.ListN.{get_or}
 use Rattle.loaded_table.specs.Loaded.{heights_of}
-use Rattle.model.specs.Definitions.Heights.{height_in, highest}
+use Rattle.model.specs.Definitions.Heights.{height_in}
 use Rattle.table_heights.specs.Sections.{members_at, members_long, member_is}
 use Rattle.table_heights.proofs.Members.{highest_turn, highest_end}
 use Rattle.table_heights.proofs.highest.Goals as goal

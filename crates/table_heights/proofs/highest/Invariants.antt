@@ -1,13 +1,10 @@
 -- `highest` meets its contract: the highest of the members passed and of those left is the highest of all.
-use mathlib.Core.Path.{◌≡◌, ap, ◌∙◌}
-use mathlib.Core.Logic.{⊎_elim}
+use mathlib.Core.Path.{◌≡◌}
 use Prim.Native.Nat.{◌-◌, ◌≤◌, ◌<◌, max}
-use native.Mathlib.Omega.{arith}
-use lib.ListN.{drop, get_or}
+use lib.ListN.{drop}
 use Rattle.loaded_table.specs.Loaded.{heights_of}
-use Rattle.model.specs.Definitions.Heights.{height_in, highest}
-use Rattle.table_heights.specs.Sections.{members_at, members_long, member_is}
-use Rattle.table_heights.proofs.Members.{highest_turn, highest_end}
+use Rattle.model.specs.Definitions.Heights.{highest}
+use Rattle.table_heights.specs.Sections.{members_at}
 use Rattle.table_heights.proofs.highest.Given as goal
 
 abbrev pub invariant-loop-i : goal.invariant-loop-i

@@ -1,14 +1,11 @@
 -- `least_member` meets its contract: the least member of those passed and of those left is the least of all.
-use mathlib.Core.Path.{◌≡◌, sym, ap, ◌∙◌}
-use mathlib.Core.Logic.{⊎_elim}
+use mathlib.Core.Path.{◌≡◌}
 use mathlib.Core.List.{◌∷◌}
-use Prim.Native.Nat.{◌-◌, ◌≤◌, ◌<◌}
-use native.Mathlib.Omega.{arith}
-use lib.ListN.{drop, get_or}
+use Prim.Native.Nat.{◌-◌, ◌≤◌}
+use lib.ListN.{drop}
 use Rattle.loaded_table.specs.Loaded.{heights_of}
-use Rattle.model.specs.Definitions.Heights.{height_in, least_member}
-use Rattle.table_heights.specs.Sections.{members_at, members_long, member_is}
-use Rattle.table_heights.proofs.Members.{lesser, lesser_second, lesser_first, least_start, least_none, least_turn, least_end}
+use Rattle.model.specs.Definitions.Heights.{least_member}
+use Rattle.table_heights.specs.Sections.{members_at}
 use Rattle.table_heights.proofs.least_member.Given as goal
 
 abbrev pub invariant-loop-i : goal.invariant-loop-i

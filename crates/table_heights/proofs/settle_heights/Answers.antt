@@ -1,11 +1,11 @@
 use mathlib.Core.Path.{subst}
-use Prim.Native.Nat.{◌-◌, ◌≤◌}
+use Prim.Native.Nat.{◌≤◌}
 use native.Mathlib.Omega.{arith}
 use lib.ListN.{length}
 use Rattle.loaded_table.specs.Loaded.{heights_of, table_by, length_of_lem, section_long}
-use Rattle.table_heights.specs.Sections.{Elsewhere, elsewhere_same, elsewhere_both, table_elsewhere, bounded_elsewhere}
+use Rattle.table_heights.specs.Sections.{elsewhere_same, elsewhere_both, table_elsewhere, bounded_elsewhere}
 use Rattle.table_heights.specs.Heights.{HoldsRound}
-use Rattle.table_heights.proofs.Rounds.{SettledTo, settled_none, settled_more, settled_last, settled_all}
+use Rattle.table_heights.proofs.Rounds.{settled_none, settled_more, settled_last, settled_all}
 use Rattle.table_heights.proofs.settle_heights.Goals as goal
 use Rattle.table_heights.proofs.settle_heights.Goals.{After-types-all, After-height_round}
 

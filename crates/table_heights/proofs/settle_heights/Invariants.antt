@@ -1,12 +1,8 @@
 -- `settle_heights` meets its contract: after n rounds the heights of at most n are right, and no number is below its height.
-use mathlib.Core.Path.{subst}
 use Prim.Native.Nat.{◌-◌, ◌≤◌}
-use native.Mathlib.Omega.{arith}
-use lib.ListN.{length}
-use Rattle.loaded_table.specs.Loaded.{heights_of, table_by, length_of_lem, section_long}
-use Rattle.table_heights.specs.Sections.{Elsewhere, elsewhere_same, elsewhere_both, table_elsewhere, bounded_elsewhere}
-use Rattle.table_heights.specs.Heights.{HoldsRound}
-use Rattle.table_heights.proofs.Rounds.{SettledTo, settled_none, settled_more, settled_last, settled_all}
+use Rattle.loaded_table.specs.Loaded.{heights_of, table_by}
+use Rattle.table_heights.specs.Sections.{Elsewhere}
+use Rattle.table_heights.proofs.Rounds.{SettledTo}
 use Rattle.table_heights.proofs.settle_heights.Given as goal
 
 abbrev pub invariant-loop-n : goal.invariant-loop-n

@@ -1,6 +1,5 @@
 -- `judge` meets its contract: the first three checks in their order, then the others.
 use mathlib.Core.Path.{◌≡◌, refl}
-use borrow.Author.Rules.{rules}
 use Rattle.model.specs.Definitions.Basics.{passes}
 use Rattle.model.specs.Definitions.TableChecks.{table_form, table_limits}
 use Rattle.table_judge.proofs.Checks.{verdict_is, length_refused, form_refused, limit_refused, later_decides}

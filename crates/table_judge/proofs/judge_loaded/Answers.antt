@@ -1,6 +1,5 @@
 -- `judge_loaded` meets its contract: the checks in their order.
 use mathlib.Core.Path.{◌≡◌, refl}
-use borrow.Author.Rules.{rules}
 use Rattle.model.specs.Definitions.Basics.{passes}
 use Rattle.model.specs.Definitions.TableChecks.{table_operands, table_repeats}
 use Rattle.table_judge.proofs.Checks.{verdict_is, operand_refused, repeat_refused, ready, endless-by, endless-refused, all-accepted}

@@ -1,7 +1,5 @@
 use mathlib.Core.Path.{◌≡◌}
-use Prim.Native.Nat.{◌-◌, ◌≤◌}
 use native.Mathlib.Omega.{arith}
-use Rattle.table_load.specs.Loading.{CountsCleared}
 use Rattle.table_load.proofs.Shapes.{cleared_more}
 use Rattle.table_load.proofs.clear_counts.Goals as goal
 

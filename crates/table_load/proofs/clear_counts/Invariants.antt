@@ -1,9 +1,6 @@
 -- `clear_counts` meets its contract: the types below t have no members.
-use mathlib.Core.Path.{◌≡◌}
 use Prim.Native.Nat.{◌-◌, ◌≤◌}
-use native.Mathlib.Omega.{arith}
 use Rattle.table_load.specs.Loading.{CountsCleared}
-use Rattle.table_load.proofs.Shapes.{cleared_more}
 use Rattle.table_load.proofs.clear_counts.Given as goal
 
 abbrev pub invariant-loop-t : goal.invariant-loop-t

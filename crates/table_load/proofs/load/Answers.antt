@@ -1,7 +1,6 @@
-use mathlib.Core.Path.{◌≡◌, ◌∙◌}
-use Prim.Native.Nat.{◌+◌, ◌-◌}
+use mathlib.Core.Path.{◌∙◌}
+use Prim.Native.Nat.{◌+◌}
 use native.Mathlib.Omega.{arith}
-use lib.ListN.{length}
 use Rattle.table_form.specs.Read.{command}
 use Rattle.table_load.specs.Loading.{loaded_in}
 use Rattle.table_load.proofs.Turns.{TableLoading, TableTurn, loading_starts, loading_few, turn, turned, loading_ends}

@@ -1,11 +1,9 @@
 -- `load` meets its contract. The invariant is `TableLoading` of Turns.antt, the measure what is left of the document.
-use mathlib.Core.Path.{◌≡◌, ◌∙◌}
-use Prim.Native.Nat.{◌+◌, ◌-◌}
-use native.Mathlib.Omega.{arith}
+use mathlib.Core.Path.{◌≡◌}
+use Prim.Native.Nat.{◌-◌}
 use lib.ListN.{length}
-use Rattle.table_form.specs.Read.{command}
 use Rattle.table_load.specs.Loading.{loaded_in}
-use Rattle.table_load.proofs.Turns.{TableLoading, TableTurn, loading_starts, loading_few, turn, turned, loading_ends}
+use Rattle.table_load.proofs.Turns.{TableLoading}
 use Rattle.table_load.proofs.load.Given as goal
 
 abbrev pub invariant-loop-at : goal.invariant-loop-at

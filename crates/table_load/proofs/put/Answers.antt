@@ -2,7 +2,7 @@
 use mathlib.Core.Path.{refl}
 use borrow.Author.Rules.{rules}
 use Rattle.model.specs.Definitions.Commands.{needed, optional, text_type, empty_type, sequence_type, choice_type}
-use Rattle.table_load.specs.Loading.{TableArrays, loaded_in, puts, TypeMayBegin, MemberMayJoin}
+use Rattle.table_load.specs.Loading.{TableArrays, loaded_in, puts}
 use Rattle.table_load.proofs.Rooms.{told_room, told_put, join_room, list_room, begun_put, list_put, member_put}
 use Rattle.table_load.proofs.put.Goals as goal
 use Rattle.table_load.proofs.put.Goals.{Start}

@@ -1,10 +1,8 @@
 -- `kind_begun` meets its contract: a byte of an arm is found by the tests of `code_begun`, and any other by none.
 use mathlib.Core.Path.{sym, ap}
-use borrow.Author.Rules.{rules}
 use borrow.Author.Tests.{ne_eqb}
 use Rattle.model.specs.Definitions.Basics.{pick}
 use Rattle.type_commands.specs.Types.{code_begun}
-use borrow.Enum.Refused.{opened}
 use Rattle.type_commands.proofs.kind_begun.Goals as goal
 
 pub returns-in-16 : goal.returns-in-16

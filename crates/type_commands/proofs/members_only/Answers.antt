@@ -1,8 +1,5 @@
-use mathlib.Core.Path.{◌≡◌, refl, sym, ◌∙◌}
-use Prim.Native.Nat.{◌-◌}
-use borrow.Author.Rules.{rules}
-use lib.ListN.{length}
-use Rattle.type_commands.proofs.Reading.{members_from, member_passed, no_member, member_cut, members_end}
+use mathlib.Core.Path.{refl, sym, ◌∙◌}
+use Rattle.type_commands.proofs.Reading.{member_passed, no_member, member_cut, members_end}
 use Rattle.type_commands.proofs.members_only.Goals as goal
 
 pub loop-at-init : goal.loop-at-init

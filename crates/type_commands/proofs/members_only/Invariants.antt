@@ -1,10 +1,9 @@
 -- `members_only` meets its contract. The invariant of its loop: from the offset on there are members only exactly where from offset 1 on
 -- there are. The measure is the number of bytes left.
-use mathlib.Core.Path.{◌≡◌, refl, sym, ◌∙◌}
+use mathlib.Core.Path.{◌≡◌}
 use Prim.Native.Nat.{◌-◌}
-use borrow.Author.Rules.{rules}
 use lib.ListN.{length}
-use Rattle.type_commands.proofs.Reading.{members_from, member_passed, no_member, member_cut, members_end}
+use Rattle.type_commands.proofs.Reading.{members_from}
 use Rattle.type_commands.proofs.members_only.Given as goal
 
 abbrev pub invariant-loop-at : goal.invariant-loop-at

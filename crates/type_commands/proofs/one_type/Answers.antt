@@ -1,10 +1,6 @@
 -- `one_type` meets its contract: behind its first byte each arm asks what `type_in` asks there.
-use mathlib.Core.List.{List}
 use mathlib.Core.Logic.{inl, inr}
-use Prim.Native.Nat.{ℕ}
-use borrow.Author.Rules.{rules}
 use Rattle.type_commands.proofs.Reading.{nothing_read, alone_read, list_read, one_or_more, two_or_more, none_read}
-use borrow.Enum.Refused.{opened}
 use Rattle.type_commands.proofs.one_type.Goals as goal
 
 pub returns-then-cs-eq0 : goal.returns-then-cs-eq0

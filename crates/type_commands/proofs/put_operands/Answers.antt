@@ -1,12 +1,9 @@
 use mathlib.Core.Path.{ap, ◌∙◌}
-use Prim.Native.Nat.{ℕ, ◌+◌, ◌*◌, ◌-◌, ◌<◌}
+use Prim.Native.Nat.{ℕ, ◌+◌, ◌*◌, ◌<◌}
 use native.Mathlib.Omega.{arith}
-use borrow.Author.Rules.{rules}
 use lib.ListN.{length, get_or}
-use Rattle.model.specs.Definitions.Table.{members_of}
-use Rattle.type_commands.specs.Types.{type_written}
 use Rattle.type_commands.proofs.Reading.{TypeTold, type_told}
-use Rattle.type_commands.proofs.Storing.{Stored, none_stored, one_stored, all_stored}
+use Rattle.type_commands.proofs.Storing.{none_stored, one_stored, all_stored}
 use Rattle.type_commands.proofs.put_operands.Goals as goal
 use Rattle.type_commands.proofs.put_operands.Goals.{Start, After-set_member-arg-1}
 

@@ -1,14 +1,9 @@
 -- `put_operands` meets its contract. The invariant of its loop is `Stored` of Storing.antt for the first i members, the measure the number
 -- of those left.
-use mathlib.Core.Path.{ap, ◌∙◌}
-use Prim.Native.Nat.{ℕ, ◌+◌, ◌*◌, ◌-◌, ◌<◌}
-use native.Mathlib.Omega.{arith}
-use borrow.Author.Rules.{rules}
-use lib.ListN.{length, get_or}
+use Prim.Native.Nat.{◌-◌}
 use Rattle.model.specs.Definitions.Table.{members_of}
 use Rattle.type_commands.specs.Types.{type_written}
-use Rattle.type_commands.proofs.Reading.{TypeTold, type_told}
-use Rattle.type_commands.proofs.Storing.{Stored, none_stored, one_stored, all_stored}
+use Rattle.type_commands.proofs.Storing.{Stored}
 use Rattle.type_commands.proofs.put_operands.Given as goal
 
 abbrev pub invariant-loop-i : goal.invariant-loop-i

@@ -1,6 +1,5 @@
 -- `put_type` meets its contract: the first byte gives the kind, and the operands are the members.
 use mathlib.Core.Path.{ap, ◌∙◌}
-use borrow.Author.Rules.{rules}
 use lib.ListN.{length, length-set}
 use Rattle.type_commands.specs.Types.{type_written}
 use Rattle.type_commands.proofs.Reading.{type_told}

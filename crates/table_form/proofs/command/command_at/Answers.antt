@@ -1,10 +1,8 @@
 -- `command_at` meets its contract: in each arm the byte is known, and `Commands` says which command stands there.
 use mathlib.Core.Path.{refl}
-use borrow.Author.Rules.{rules}
 use Rattle.model.specs.Definitions.Basics.{pick}
 use Rattle.model.specs.Definitions.Commands.{takes_operand, table_command}
 use Rattle.table_form.proofs.Commands.{bare_at, paired_at, cut_at, other_at}
-use borrow.Enum.Refused.{opened}
 use Rattle.table_form.proofs.command.command_at.Goals as goal
 
 pub returns-in-16 : goal.returns-in-16

@@ -1,12 +1,10 @@
 use mathlib.Core.Path.{refl, sym, ap, ◌∙◌}
-use Prim.Native.Nat.{◌-◌}
 use native.Mathlib.Omega.{arith}
 use borrow.Author.Rules.{rules}
-use lib.ListN.{length}
 use Rattle.model.specs.Definitions.Basics.{pick, goes, stops}
 use Rattle.model.specs.Definitions.TableChecks.{table_form}
-use Rattle.table_form.specs.Forms.{state, next}
-use Rattle.table_form.proofs.Loop.{some_width, At, turn, ended}
+use Rattle.table_form.specs.Forms.{next}
+use Rattle.table_form.proofs.Loop.{some_width, turn, ended}
 use Rattle.table_form.proofs.FormMachine.{form_machine}
 use Rattle.table_form.proofs.form.form.Goals as goal
 

@@ -1,14 +1,10 @@
 -- `form` meets its contract. The invariant of its loop: the verdict of what is left, in the state reached, is the verdict of the whole.
 -- The measure is the number of bytes left.
-use mathlib.Core.Path.{refl, sym, ap, ◌∙◌}
 use Prim.Native.Nat.{◌-◌}
-use native.Mathlib.Omega.{arith}
-use borrow.Author.Rules.{rules}
 use lib.ListN.{length}
-use Rattle.model.specs.Definitions.Basics.{pick, goes, stops}
 use Rattle.model.specs.Definitions.TableChecks.{table_form}
-use Rattle.table_form.specs.Forms.{state, next}
-use Rattle.table_form.proofs.Loop.{some_width, At, turn, ended}
+use Rattle.table_form.specs.Forms.{state}
+use Rattle.table_form.proofs.Loop.{At}
 use Rattle.table_form.proofs.FormMachine.{form_machine}
 use Rattle.table_form.proofs.form.form.Given as goal
 

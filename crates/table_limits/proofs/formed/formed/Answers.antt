@@ -1,14 +1,12 @@
 use mathlib.Core.Path.{refl, sym, ap, ◌∙◌}
-use Prim.Native.Nat.{◌-◌}
 use native.Mathlib.Omega.{arith}
 use borrow.Author.Rules.{rules}
-use lib.ListN.{length}
 use Rattle.model.specs.Definitions.Basics.{goes}
 use Rattle.model.specs.Definitions.TableChecks.{table_form, table_limits}
 use Rattle.model.proofs.Theorems.Tools.{true_false}
 use Rattle.table_form.specs.Forms as form
 use Rattle.table_limits.specs.Limits as limits
-use Rattle.table_form.proofs.Loop.{some_width, At, turn, passed}
+use Rattle.table_form.proofs.Loop.{some_width, turn, passed}
 use Rattle.table_form.proofs.FormMachine.{form_machine}
 use Rattle.table_limits.proofs.LimitMachine.{limit_machine}
 use Rattle.table_limits.proofs.formed.formed.Goals as goal

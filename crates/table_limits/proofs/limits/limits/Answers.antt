@@ -1,12 +1,10 @@
 use mathlib.Core.Path.{refl, sym, ap, ◌∙◌}
-use Prim.Native.Nat.{◌-◌}
 use native.Mathlib.Omega.{arith}
 use borrow.Author.Rules.{rules}
-use lib.ListN.{length}
 use Rattle.model.specs.Definitions.Basics.{goes, stops}
 use Rattle.model.specs.Definitions.TableChecks.{table_limits}
-use Rattle.table_limits.specs.Limits.{counts, next}
-use Rattle.table_form.proofs.Loop.{some_width, At, turn, passed}
+use Rattle.table_limits.specs.Limits.{next}
+use Rattle.table_form.proofs.Loop.{some_width, turn, passed}
 use Rattle.table_limits.proofs.LimitMachine.{limit_machine}
 use Rattle.table_limits.proofs.limits.limits.Goals as goal
 

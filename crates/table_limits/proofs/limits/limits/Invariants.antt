@@ -1,14 +1,10 @@
 -- `limits` meets its contract. The invariant of its loop: the verdict of what is left, at the counts reached, is the verdict of the whole.
 -- The measure is the number of bytes left.
-use mathlib.Core.Path.{refl, sym, ap, ◌∙◌}
 use Prim.Native.Nat.{◌-◌}
-use native.Mathlib.Omega.{arith}
-use borrow.Author.Rules.{rules}
 use lib.ListN.{length}
-use Rattle.model.specs.Definitions.Basics.{goes, stops}
 use Rattle.model.specs.Definitions.TableChecks.{table_limits}
-use Rattle.table_limits.specs.Limits.{counts, next}
-use Rattle.table_form.proofs.Loop.{some_width, At, turn, passed}
+use Rattle.table_limits.specs.Limits.{counts}
+use Rattle.table_form.proofs.Loop.{At}
 use Rattle.table_limits.proofs.LimitMachine.{limit_machine}
 use Rattle.table_limits.proofs.limits.limits.Given as goal
 

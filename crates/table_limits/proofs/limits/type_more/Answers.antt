@@ -1,6 +1,5 @@
 -- `type_more` meets its contract: each arm knows the test of the model.
 use native.Mathlib.Numerals.{add-one}
-use borrow.Author.Rules.{rules}
 use borrow.Author.Tests.{lt-ltb, le-ltb}
 use Rattle.model.specs.Definitions.Basics.{goes_if}
 use Rattle.model.specs.Definitions.TableChecks.{one_type_more}

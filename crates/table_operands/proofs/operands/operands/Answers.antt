@@ -1,12 +1,10 @@
 use mathlib.Core.Path.{refl, sym, ap, ◌∙◌}
 use mathlib.Core.Bool.{Bool}
-use Prim.Native.Nat.{◌-◌}
 use native.Mathlib.Omega.{arith}
 use borrow.Author.Rules.{rules}
-use lib.ListN.{length}
 use Rattle.model.specs.Definitions.Basics.{goes, stops, goes_if}
 use Rattle.model.specs.Definitions.TableChecks.{table_operands}
-use Rattle.table_form.proofs.Loop.{some_width, At, turn, passed}
+use Rattle.table_form.proofs.Loop.{some_width, turn, passed}
 use Rattle.table_operands.proofs.Machines.{names_machine}
 use Rattle.table_operands.proofs.operands.operands.Goals as goal
 

@@ -1,10 +1,7 @@
 use mathlib.Core.Path.{◌≡◌, refl, sym, ap, ◌∙◌}
 use mathlib.Core.List.{[]}
-use mathlib.Core.Logic.{⊎_elim}
-use Prim.Native.Nat.{◌-◌}
 use native.Mathlib.Omega.{arith}
 use borrow.Author.Rules.{rules}
-use lib.ListN.{length}
 use Rattle.model.specs.Definitions.Basics.{Next, goes, stops}
 use Rattle.model.specs.Definitions.TableChecks.{Chosen, elsewhere, among, table_repeats}
 use Rattle.table_operands.specs.declared.repeats.Role.{Role}
@@ -12,7 +9,7 @@ use Rattle.table_form.specs.Read.{command}
 use Rattle.table_operands.specs.Repeats.{does}
 use Rattle.table_form.proofs.Loop.{some_width, Then, turn, passed}
 use Rattle.table_operands.proofs.Machines.{repeat_machine}
-use Rattle.table_operands.proofs.Chosen.{outside, SeenKept, opened, not_inside, again_there, added, after}
+use Rattle.table_operands.proofs.Chosen.{outside, opened, not_inside, again_there, added, after}
 use Rattle.table_operands.proofs.repeats.repeats.Goals as goal
 use Rattle.table_operands.proofs.repeats.repeats.Goals.{After-role_of-r, in-Leaves, in-Opens, in-Joins+then-inside+else-seen-i, in-Joins+else-inside, in-Keeps}
 
