@@ -1,1 +1,2 @@
+-- The demands of the program, proved of calls.
 pub mod Program
