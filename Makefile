@@ -1,4 +1,4 @@
-# make test: everything that is tested, and last the prover's own gate, whose last line is 'N passed, 0 failed'.
+# make test: the gate: the prover's own, then all that is tested; the last line is 'N passed, 0 failed'.
 # make run: prove the program carry and carry the example patch with it.
 # make staticlib: prove the entries and write target/staticlib/liblafindry.a for C; include/lafindry.h declares them.
 # make bench: time the entries beside the Rust reference, in one run.

@@ -8,7 +8,7 @@ ghost use Rattle.model.specs.Definitions.Entries as model;
 ghost use Rattle.model.specs.Definitions.Refusals.{output_too_short};
 ghost use Rattle.model.specs.Definitions.Explanation as explanations;
 ghost use Rattle.model.specs.Definitions.Explanation.{reason_number, explanation_numbers};
-ghost use Rattle.answers.specs.Answers.{carriedResult, broughtResult, readingResult, extensionResult, reason, clash};
+ghost use Rattle.answers.specs.Answers.{carried_result, brought_result, reading_result, extension_result, reason, clash};
 ghost use Rattle.answer_numbers.specs.Numbers.{numbers, refusal_numbers, ForFault, judging_numbers, ten_numbers, unexplained_numbers, explanation_in};
 
 use answers::{Brought, Carried, Clash, Explanation, Extension, Fault, Judging, Reading, Reason};
@@ -72,7 +72,7 @@ pub fn faulting(f: Fault, document: u64) -> Answer
 
 // The answer for each outcome of carrying.
 pub fn carried(c: Carried) -> Answer
-    ensures { numbers result ≡ answer_of (carriedResult c) }
+    ensures { numbers result ≡ answer_of (carried_result c) }
 {
     match c {
         Carried::TooDeep => refusing(codes::IMAGE_TOO_DEEP, OUTPUT, 0),
@@ -84,7 +84,7 @@ pub fn carried(c: Carried) -> Answer
 
 // The answer for each outcome of bringing back.
 pub fn brought(b: Brought) -> Answer
-    ensures { numbers result ≡ answer_of (broughtResult b) }
+    ensures { numbers result ≡ answer_of (brought_result b) }
 {
     match b {
         Brought::NoImage => refusing(codes::NO_IMAGE, TREE, 0),
@@ -95,7 +95,7 @@ pub fn brought(b: Brought) -> Answer
 
 // The answer for each outcome of reading along the paths.
 pub fn read(r: Reading) -> Answer
-    ensures { numbers result ≡ answer_of (readingResult r) }
+    ensures { numbers result ≡ answer_of (reading_result r) }
 {
     match r {
         Reading::Missing(at) => refusing(codes::UNREADABLE, TREE, at as u64),
@@ -113,7 +113,7 @@ pub fn without_room() -> Answer
 
 // The answer for each outcome of an operation on a loaded table.
 pub fn extended(e: Extension) -> Answer
-    ensures { numbers result ≡ answer_of (extensionResult e) }
+    ensures { numbers result ≡ answer_of (extension_result e) }
 {
     match e {
         Extension::NoChoice => refusing(codes::NO_CHOICE, SOURCE_TABLE, 0),

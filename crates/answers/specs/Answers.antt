@@ -52,28 +52,28 @@ judged Sound = Refusals.sound
 judged (Has f) = Refusals.has (fault f)
 
 -- the model's answer for each outcome of carrying and of bringing back
-abbrev pub carriedResult : Carried → Entries.Result
-carriedResult carried.TooDeep = Entries.refused Refusals.image_too_deep
-carriedResult carried.TooLong = Entries.refused Refusals.image_too_long
-carriedResult carried.NoRoom = Entries.refused Refusals.output_too_short
-carriedResult (carried.Written length filler) = Entries.accepted length filler
+abbrev pub carried_result : Carried → Entries.Result
+carried_result carried.TooDeep = Entries.refused Refusals.image_too_deep
+carried_result carried.TooLong = Entries.refused Refusals.image_too_long
+carried_result carried.NoRoom = Entries.refused Refusals.output_too_short
+carried_result (carried.Written length filler) = Entries.accepted length filler
 
-abbrev pub broughtResult : Brought → Entries.Result
-broughtResult brought.NoImage = Entries.refused Refusals.no_image
-broughtResult brought.NoRoom = Entries.refused Refusals.output_too_short
-broughtResult (brought.Written length) = Entries.accepted length 0
+abbrev pub brought_result : Brought → Entries.Result
+brought_result brought.NoImage = Entries.refused Refusals.no_image
+brought_result brought.NoRoom = Entries.refused Refusals.output_too_short
+brought_result (brought.Written length) = Entries.accepted length 0
 
 -- the model's answer for each outcome of reading along the paths (02, N4)
-abbrev pub readingResult : Reading → Entries.Result
-readingResult (reading.Missing at) = Entries.refused (Refusals.unreadable at)
-readingResult reading.NoRoom = Entries.refused Refusals.output_too_short
-readingResult (reading.Written length count) = Entries.accepted length count
+abbrev pub reading_result : Reading → Entries.Result
+reading_result (reading.Missing at) = Entries.refused (Refusals.unreadable at)
+reading_result reading.NoRoom = Entries.refused Refusals.output_too_short
+reading_result (reading.Written length count) = Entries.accepted length count
 
 -- the model's answer for each outcome of an operation on a loaded table (02, N8)
-abbrev pub extensionResult : Extension → Entries.Result
-extensionResult extending.NoChoice = Entries.refused Refusals.no_choice
-extensionResult (extending.Faulty f) = Entries.refused (Refusals.faulty Refusals.source_table (fault f))
-extensionResult (extending.Types n) = Entries.accepted n 0
+abbrev pub extension_result : Extension → Entries.Result
+extension_result extending.NoChoice = Entries.refused Refusals.no_choice
+extension_result (extending.Faulty f) = Entries.refused (Refusals.faulty Refusals.source_table (fault f))
+extension_result (extending.Types n) = Entries.accepted n 0
 
 -- ---- clashes explained (02, N9)
 

@@ -22,7 +22,7 @@ use Rattle.inverse.specs.Reading.{BringsTo}
 use Rattle.inverse.specs.Sources.{ReadFrom, conforms, content_is}
 use Rattle.loaded_setting.specs.Trees.{SoundTree}
 use Rattle.answers.specs.declared.Brought.{Brought}
-use Rattle.answers.specs.Answers.{broughtResult}
+use Rattle.answers.specs.Answers.{brought_result}
 use Rattle.bringing.specs.Bringing.{Brings}
 
 -- the spans of what was read fit where those of the buffer do
@@ -33,7 +33,7 @@ spans_room {new = new} {n = n} b enough same = omega (arith, b.fits, length-take
 
 module _ (X : Setting) (tr old : List ℕ) where
   -- an outcome that is the model's gives answer and output
-  outcome : (new : List ℕ) (b : Brought) {o : Outcome} → bring_content old (bring_back_content X (content_of tr)) ≡ o → broughtResult b ≡ o.result → new ≡ o.output → Brings X tr old new b
+  outcome : (new : List ℕ) (b : Brought) {o : Outcome} → bring_content old (bring_back_content X (content_of tr)) ≡ o → brought_result b ≡ o.result → new ≡ o.output → Brings X tr old new b
   outcome new b is answer output =
       record { same_answer = answer ∙ sym (ap (λ (o : Outcome). o.result) is); same_output = output ∙ sym (ap (λ (o : Outcome). o.output) is) }
 

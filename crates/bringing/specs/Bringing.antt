@@ -1,7 +1,7 @@
 -- What bringing a document back needs and gives.
 use Rattle.std.specs.Prelude.{◌≡◌, List, ℕ}
 use Rattle.answers.specs.declared.Brought.{Brought}
-use Rattle.answers.specs.Answers.{broughtResult}
+use Rattle.answers.specs.Answers.{brought_result}
 use Rattle.model.specs.Definitions.Content.{content_of}
 use Rattle.model.specs.Definitions.Image.{Setting}
 use Rattle.model.specs.Definitions.Inverse.{bring_back_content}
@@ -9,5 +9,5 @@ use Rattle.model.specs.Definitions.Entries.{bring_content}
 
 -- answer and output are the model's
 pub record Brings (X : Setting) (tr old new : List ℕ) (r : Brought) : Type 0 where
-  pub same_answer : broughtResult r ≡ (bring_content old (bring_back_content X (content_of tr))).result
+  pub same_answer : brought_result r ≡ (bring_content old (bring_back_content X (content_of tr))).result
   pub same_output : new ≡ (bring_content old (bring_back_content X (content_of tr))).output

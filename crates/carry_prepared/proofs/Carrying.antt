@@ -10,7 +10,7 @@ use lib.Seq.{sets}
 use lib.Arith.{digits_div}
 use borrow.Author.Tests.{le-leb}
 use Rattle.answers.specs.declared.Carried.{Carried}
-use Rattle.answers.specs.Answers.{carriedResult}
+use Rattle.answers.specs.Answers.{carried_result}
 use Rattle.carry_prepared.specs.Carrying.{Carriable, Carries}
 use Rattle.loaded_setting.specs.Ready.{setting_in}
 use Rattle.measuring.specs.Measured.{Measurable, ImageSize}
@@ -57,7 +57,7 @@ module _ (X : Setting) (tr old : List ℕ) where
   k = content_of tr
 
   -- an outcome that is the model's gives answer and output
-  outcome : (new : List ℕ) (r : Carried) {o : Outcome} → carry_content old X k ≡ o → carriedResult r ≡ o.result → new ≡ o.output → Carries X tr old new r
+  outcome : (new : List ℕ) (r : Carried) {o : Outcome} → carry_content old X k ≡ o → carried_result r ≡ o.result → new ≡ o.output → Carries X tr old new r
   outcome new r is answer output =
       record { same_answer = answer ∙ sym (ap (λ (o : Outcome). o.result) is); same_output = output ∙ sym (ap (λ (o : Outcome). o.output) is) }
 

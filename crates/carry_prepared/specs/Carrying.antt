@@ -1,7 +1,7 @@
 -- What carrying a document needs and gives.
 use Rattle.std.specs.Prelude.{◌≡◌, List, ℕ}
 use Rattle.answers.specs.declared.Carried.{Carried}
-use Rattle.answers.specs.Answers.{carriedResult}
+use Rattle.answers.specs.Answers.{carried_result}
 use Rattle.loaded_table.specs.Loaded.{table_by}
 use Rattle.loaded_setting.specs.Ready.{setting_in, Ready}
 use Rattle.loaded_setting.specs.Trees.{SoundTree}
@@ -21,5 +21,5 @@ pub record Carriable (source map pool places sizes tr : List ℕ) : Type 0 where
 
 -- answer and output are the model's
 pub record Carries (X : Setting) (tr old new : List ℕ) (r : Carried) : Type 0 where
-  pub same_answer : carriedResult r ≡ (carry_content old X (content_of tr)).result
+  pub same_answer : carried_result r ≡ (carry_content old X (content_of tr)).result
   pub same_output : new ≡ (carry_content old X (content_of tr)).output

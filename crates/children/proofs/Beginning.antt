@@ -106,18 +106,18 @@ module _ {source target map em : List ℕ} (ready : Ready source target map em) 
   -- an optional choice, whose first path is read from the arrays
   module _ (code : get_or (kinds_of source) σ 0 ≡ 4) {first steps τ : ℕ}
       (is_first : first ≡ get_or (starts_of map) (σ * 16) 0) (is-steps : steps ≡ get_or (lengths_of map) (σ * 16) 0) (is-target : τ ≡ tau) where
-    abbrev firstSteps : List ℕ
-    firstSteps = steps_from em (first + 2) steps
+    abbrev steps_first : List ℕ
+    steps_first = steps_from em (first + 2) steps
 
     -- the first path can be followed
     pub optional-path : Followable target em first steps τ
     optional-path = rw (is_first, is-steps, is-target) (first-follows ready exists (ap choice_code code))
 
     -- the steps before its first choice step
-    pub shared-path : {depth : ℕ} → (depth ≤ steps) × (steps_from em (first + 2) depth ≡ before_choice X.target τ firstSteps) → SharedPath source target map em σ first depth τ
+    pub shared-path : {depth : ℕ} → (depth ≤ steps) × (steps_from em (first + 2) depth ≡ before_choice X.target τ steps_first) → SharedPath source target map em σ first depth τ
     unfolding kind_parts
     shared-path shared =
-        let one : first_path (paths_from em map (σ * 16) count) ≡ firstSteps =
+        let one : first_path (paths_from em map (σ * 16) count) ≡ steps_first =
         sym (ap first_path (paths_are ready exists ∙ ap (paths_from em map (σ * 16)) (row-edges ready exists (omega arith) (omega arith)))) ∙ first_path_lem ready exists (ap choice_code code) ∙ sym (rw (is_first, is-steps)) in
         record {
           optional = code;

@@ -9,7 +9,7 @@ use lib.Seq.{sets, length-take-le}
 use borrow.Author.Tests.{le-leb, lt-leb}
 use Rattle.answers.specs.declared.Extension.{Extension}
 use Rattle.answers.specs.declared.Extension.TheVariants.{NoChoice, Faulty, Types}
-use Rattle.answers.specs.Answers.{fault, extensionResult}
+use Rattle.answers.specs.Answers.{fault, extension_result}
 use Rattle.answer_numbers.specs.declared.Answer.{Answer}
 use Rattle.answer_numbers.specs.Numbers.{numbers, Answers}
 use Rattle.loaded_table.specs.Loaded.{types_in, heights_of, fill_of, table_by, length_of_lem}
@@ -48,20 +48,20 @@ fault_low (unexpected at) = omega arith
 pub record TwoBytes (e : Extension) (refusal value : ℕ) : Type 0 where
   pub low_refusal : refusal ≤ 19
   pub low_value : value ≤ 255
-  pub bytes : answer_bytes (extensionResult e ∷ []) ≡ refusal ∷ value ∷ []
+  pub bytes : answer_bytes (extension_result e ∷ []) ≡ refusal ∷ value ∷ []
 
-pub two_bytes : (e : Extension) (a : Answer) → Small e → numbers a ≡ answer_of (extensionResult e) → TwoBytes e a.refusal a.value
+pub two_bytes : (e : Extension) (a : Answer) → Small e → numbers a ≡ answer_of (extension_result e) → TwoBytes e a.refusal a.value
 unfolding answer_bytes answer_of numbers_of
 two_bytes e a small same = rw (ap (λ (n : model.Answer). n.refusal) same, ap (λ (n : model.Answer). n.value) same) (go e small)
   where
-    go : (e : Extension) → Small e → TwoBytes e (answer_of (extensionResult e)).refusal (answer_of (extensionResult e)).value
+    go : (e : Extension) → Small e → TwoBytes e (answer_of (extension_result e)).refusal (answer_of (extension_result e)).value
     go NoChoice small = record { low_refusal = omega arith; low_value = omega arith; bytes = refl }
     go (Faulty f) small = record { low_refusal = omega (arith, fault_low (fault f)); low_value = omega arith; bytes = refl }
     go (Types n) small = record { low_refusal = omega arith; low_value = small; bytes = refl }
 
 -- stored one behind the other they are written
 pub answer-written : (old : List ℕ) (at : ℕ) (e : Extension) (refusal value : ℕ) → TwoBytes e refusal value
-    → Writes old (set (set old at refusal) (at + 1) value) at (answer_bytes (extensionResult e ∷ [])) (at + 2)
+    → Writes old (set (set old at refusal) (at + 1) value) at (answer_bytes (extension_result e ∷ [])) (at + 2)
 answer-written old at e refusal value two = rw two.bytes (record { written = rw (add-one at); after = refl })
 
 -- ---- what is kept

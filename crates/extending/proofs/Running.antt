@@ -13,7 +13,7 @@ use Rattle.answers.specs.declared.Extension.TheVariants.{NoChoice, Faulty, Types
 use Rattle.answers.specs.declared.Fault.{Fault}
 use Rattle.answers.specs.declared.Fault.TheVariants.{TooLong, BadForm}
 use Rattle.answers.specs.declared.Judged.TheVariants.{Sound, Has}
-use Rattle.answers.specs.Answers.{fault, judged, extensionResult}
+use Rattle.answers.specs.Answers.{fault, judged, extension_result}
 use Rattle.model.specs.Definitions.Table as model
 use Rattle.model.specs.Definitions.Refusals.{source_table, operations, document_number, fault_unless, fits, max_length, sound, has}
 use Rattle.model.specs.Definitions.Entries.{Result, refused, accepted, unless_faulty, judged_table}
@@ -80,7 +80,7 @@ answer_behind (accepted types f ∷ rs) r = rw (answer_behind rs r)
 
 -- ---- an answer is small: a number of types is that of a valid table
 
-small_answer : (T : model.Table) (o : Operation) (e : Extension) → extensionResult e ≡ (operate T o).result → Small e
+small_answer : (T : model.Table) (o : Operation) (e : Extension) → extension_result e ≡ (operate T o).result → Small e
 small_answer T o NoChoice is = tt
 small_answer T o (Faulty f) is = tt
 small_answer T o (Types n) is =
@@ -141,10 +141,10 @@ module _ {ops : List ℕ} {loaded : Table} {answers : List ℕ} {table : Table} 
     unfolding reported document_number
     stop-answered out a none answer = rw (stopped none) (fault_answers out operations (BadForm at) a answer)
 
-    pub one-more-ran : {t : Turn} {after : List ℕ} → Performs ops at table t → Writes answers after filled (answer_bytes (extensionResult t.answer ∷ [])) (filled + 2)
+    pub one-more-ran : {t : Turn} {after : List ℕ} → Performs ops at table t → Writes answers after filled (answer_bytes (extension_result t.answer ∷ [])) (filled + 2)
         → Ran ops loaded after t.table (at + t.width) (filled + 2)
     one-more-ran {t} {after} p w =
-        let answer = extensionResult t.answer in
+        let answer = extension_result t.answer in
         let then = p.operated.then in
         let same = then.stands.same_table in
         let later = perform_to (r.most - 1) (at + t.width) (drop (at + t.width) ops) (held t.table) in

@@ -4,7 +4,7 @@
 #![tactic(auto)]
 
 ghost use Rattle.std.specs.Prelude.{◌≡◌, List, [], ◌∷◌, ◌+◌, ◌*◌, ◌≤◌, ◌<◌, length, take};
-ghost use Rattle.answers.specs.Answers.{extensionResult};
+ghost use Rattle.answers.specs.Answers.{extension_result};
 ghost use Rattle.answer_numbers.specs.Numbers.{Answers};
 ghost use Rattle.loaded_table.specs.Loaded.{types_in, table_by};
 ghost use Rattle.model.specs.Definitions.Entries.{Result};
@@ -124,7 +124,7 @@ fn perform(table: Table, ops: &[u8], at: usize) -> Turn
 // Stores the answer to an operation.
 fn put_answer(answers: &mut [u8; MAX_BYTES], at: usize, e: Extension)
     requires { (at + 2 ≤ max_length) × Small e }
-    ensures { Writes answers.old answers.new at (answer_bytes (extensionResult e ∷ [])) (at + 2) }
+    ensures { Writes answers.old answers.new at (answer_bytes (extension_result e ∷ [])) (at + 2) }
 {
     let a = extended(e);
     answers[at] = a.refusal as u8;

@@ -1,5 +1,5 @@
 -- Whether bytes stand in a document, and loops that compare: what is left to compare gives the whole.
-use Rattle.std.specs.Prelude.{◌≡◌, refl, Bool, true, false, not, List, [], ◌∷◌, ◌++◌, ℕ, suc, ◌+◌, ◌-◌, ◌≤◌, ◌<◌, length, drop, get_or}
+use Rattle.std.specs.Prelude.{◌≡◌, refl, Bool, true, false, not, List, [], ◌∷◌, ◌++◌, ℕ, suc, ◌+◌, ◌≤◌, ◌<◌, length, drop, get_or}
 use Rattle.std.proofs.Common.{sym, ap, ◌∙◌, subst, append_assoc, append-nil, add-zero, add-one, arith, length-append, length-drop, drop-cons}
 use Rattle.std.proofs.lemmas.List.{append_cancel_left}
 use Rattle.model.proofs.Theorems.Tools.{true_false}

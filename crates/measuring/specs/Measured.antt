@@ -2,7 +2,7 @@
 use Rattle.std.specs.Prelude.{◌≡◌, List, ℕ, ◌+◌, ◌*◌, ◌≤◌, ◌<◌, min, max}
 use Rattle.std.proofs.Math.Option.{Option, none, some}
 use Rattle.model.specs.Definitions.Table.{Kind, text, empty, sequence, choice, list, kind_of}
-use Rattle.model.specs.Definitions.Content.{Content, end, char, elem, bytes, content_of, document}
+use Rattle.model.specs.Definitions.Content.{Content, end, char, elem, content_of, document}
 use Rattle.model.specs.Definitions.Conformance.{Holds}
 use Rattle.model.specs.Definitions.Image.{Setting, image_levels, image_length, image_filler}
 use Rattle.model.specs.Definitions.Templates.{first_in, own_length, own_filler, own_levels, sum_length, sum_filler, deepest}

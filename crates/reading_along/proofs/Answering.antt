@@ -21,7 +21,7 @@ use Rattle.model.proofs.Theorems.ReadingAlong.{read_counts, read_no_longer}
 use Rattle.writing.specs.Writing.{Writes}
 use Rattle.loaded_setting.specs.Trees.{SoundTree}
 use Rattle.answers.specs.declared.Reading as answers
-use Rattle.answers.specs.Answers.{readingResult}
+use Rattle.answers.specs.Answers.{reading_result}
 use Rattle.unreadable.specs.declared.Lost.TheVariants as lost
 use Rattle.unreadable.specs.Losing.{Loses}
 use Rattle.inverse.specs.Sources.{ReadFrom, content_is}
@@ -44,7 +44,7 @@ elements-size (elem t k r) = omega (arith, size_elem t k r, elements-size k, ele
 
 module _ (X : Setting) (tr old : List ℕ) where
   -- an outcome that is the model's gives answer and output
-  outcome : (new : List ℕ) (r : answers.Reading) {o : Outcome} → read_content old X (content_of tr) (reading X (content_of tr)) ≡ o → readingResult r ≡ o.result → new ≡ o.output → Reads X tr old new r
+  outcome : (new : List ℕ) (r : answers.Reading) {o : Outcome} → read_content old X (content_of tr) (reading X (content_of tr)) ≡ o → reading_result r ≡ o.result → new ≡ o.output → Reads X tr old new r
   outcome new r is answer output =
       record { same_answer = answer ∙ sym (ap (λ (o : Outcome). o.result) is); same_output = output ∙ sym (ap (λ (o : Outcome). o.output) is) }
 

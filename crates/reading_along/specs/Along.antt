@@ -1,7 +1,7 @@
 -- What reading a document along the paths needs and gives.
 use Rattle.std.specs.Prelude.{◌≡◌, List, ℕ, ◌+◌, ◌≤◌, length, take}
 use Rattle.answers.specs.declared.Reading as answers
-use Rattle.answers.specs.Answers.{readingResult}
+use Rattle.answers.specs.Answers.{reading_result}
 use Rattle.model.specs.Definitions.Content.{content_of, elements}
 use Rattle.model.specs.Definitions.Image.{Setting}
 use Rattle.model.specs.Definitions.Inverse.{missing, reading}
@@ -23,5 +23,5 @@ pub record Counted (X : Setting) (tr : List ℕ) (count : ℕ) : Type 0 where
 
 -- answer and output are the model's
 pub record Reads (X : Setting) (tr old new : List ℕ) (r : answers.Reading) : Type 0 where
-  pub same_answer : readingResult r ≡ (read_content old X (content_of tr) (reading X (content_of tr))).result
+  pub same_answer : reading_result r ≡ (read_content old X (content_of tr) (reading X (content_of tr))).result
   pub same_output : new ≡ (read_content old X (content_of tr) (reading X (content_of tr))).output

@@ -1,7 +1,7 @@
 -- Children of content by their number, and where they stand in a document.
 use Rattle.std.specs.Prelude.{◌≡◌, refl, ℕ, zero, suc, ◌+◌, ◌-◌, ◌<◌, length, get_or, drop, take}
 use Rattle.std.proofs.Common.{sym, ap, ◌∙◌, subst, add-zero, arith, drop-drop}
-use mathlib.Core.List.{List, [], Memᴰ}
+use mathlib.Core.List.{List, Memᴰ}
 use Rattle.std.proofs.Math.Option.{none, some}
 use borrow.Author.Rules.{part_to_end}
 use Rattle.model.specs.Definitions.Commands.{Need}

@@ -1,5 +1,5 @@
 -- The rows of children and of items.
-use Rattle.std.specs.Prelude.{◌≡◌, refl, List, [], ◌++◌, ℕ, ◌+◌, ◌-◌, ◌<◌, length}
+use Rattle.std.specs.Prelude.{◌≡◌, refl, List, [], ◌++◌, ℕ, ◌+◌, ◌<◌, length}
 use Rattle.std.proofs.Common.{sym, ap, ◌∙◌, subst, add-zero, arith}
 use Rattle.model.specs.Definitions.Table.{kind_of}
 use Rattle.model.specs.Definitions.Content.{Content, end, elem}

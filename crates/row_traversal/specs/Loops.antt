@@ -8,7 +8,7 @@ use Rattle.scanning.specs.Scanning.{ContentAt}
 use Rattle.row_traversal.specs.Contents.{part_from, ChildThere, Behind}
 use Rattle.row_traversal.specs.Asked.{SomeAsked, FillerAsked, PlainAsked, ChildAsked, ElementAsked, ItemsAsked, item_bytes, RowAsked}
 use Rattle.row_traversal.specs.FillerRows.{filler_left_lem, filler_ends, filler-in, filler_symbol, filler-inner, filler-more}
-use Rattle.row_traversal.specs.Turns.{row_within, row_left, row_starts, row_ends, rowSymbol, row_more, row_plain, row-child, row-items}
+use Rattle.row_traversal.specs.Turns.{row_within, row_left, row_starts, row_ends, row_symbol, row_more, row_plain, row-child, row-items}
 use Rattle.row_traversal.specs.Elements.{child_sought, child_found}
 use Rattle.row_traversal.specs.Items.{Remains, remains_all, remains_within, remains_none, OneItem, one_item_left, one_item_bytes, item_there, item_row_asked, remains_less}
 
@@ -96,7 +96,7 @@ module _ {source pool places tr : List ℕ} {r to i : ℕ} {Known : Knowing} (g 
     row-less = omega (arith, g.ends)
 
     abbrev symbol : {bs : List ℕ} → RowAsked source pool places tr r bs → List ℕ
-    symbol a = rowSymbol a i g.low row-less
+    symbol a = row_symbol a i g.low row-less
 
     abbrev x : ℕ
     x = get_or pool i 0

@@ -1,5 +1,5 @@
 -- The numbers of rows: which row an element takes, and the order of calls.
-use Rattle.std.specs.Prelude.{◌≡◌, refl, Bool, true, List, [], ℕ, ◌+◌, ◌-◌, ◌*◌, ◌≤◌, ◌<◌, ◌%◌, length, drop, get_or, eqb}
+use Rattle.std.specs.Prelude.{◌≡◌, refl, Bool, true, List, ℕ, ◌+◌, ◌-◌, ◌*◌, ◌≤◌, ◌<◌, ◌%◌, length, drop, get_or, eqb}
 use Rattle.std.proofs.Common.{sym, ◌∙◌, mod-eq_of_lt, length-take}
 use Rattle.std.proofs.Math.Path.{ap}
 use Rattle.std.proofs.Math.Bool.{false}

@@ -129,12 +129,12 @@ module _ {source pool places tr : List ℕ} {r : ℕ} {bs : List ℕ} (a : RowAs
     x' = get_or pool i 0
 
     -- the bytes of symbol i
-    pub rowSymbol : List ℕ
-    rowSymbol = symbol_bytes X.target held (symbol_of x')
+    pub row_symbol : List ℕ
+    row_symbol = symbol_bytes X.target held (symbol_of x')
 
     -- symbol i is the first of what is left
-    pub row_more : row_left i ≡ rowSymbol ++ row_left (i + 1)
-    unfolding row_left rowSymbol
+    pub row_more : row_left i ≡ row_symbol ++ row_left (i + 1)
+    unfolding row_left row_symbol
     row_more = row_first X.target held pool i (to_of places r) less row_within
 
     -- it is one that the row of an element may have
@@ -158,8 +158,8 @@ module _ {source pool places tr : List ℕ} {r : ℕ} {bs : List ℕ} (a : RowAs
     own-list is k e = items_hole (kind_of S a.type) (first_in a.inside) (subst (Allowed X.target OwnHole) (items_symbol_lem x' is) (own-symbol k e))
 
     -- its bytes are asked for: where it is neither child nor items,
-    pub row_plain : (128 ≤ x' → x' < 144 → ⊥) → (x' ≡ 145 → ⊥) → PlainAsked pool places tr x' rowSymbol
-    unfolding rowSymbol fillers_prepared
+    pub row_plain : (128 ≤ x' → x' < 144 → ⊥) → (x' ≡ 145 → ⊥) → PlainAsked pool places tr x' row_symbol
+    unfolding row_symbol fillers_prepared
     row_plain no_child_left no_items = go (meaning x') a.row_of
       where
         go : Meaning x' → RowOf S a.type a.inside r → PlainAsked pool places tr x' (symbol_bytes X.target held (symbol_of x'))
@@ -180,8 +180,8 @@ module _ {source pool places tr : List ℕ} {r : ℕ} {bs : List ℕ} (a : RowAs
         go (closes h) w = a_closing h (closing_bytes X.target held x' h)
 
     -- where it is a child,
-    pub row-child : 128 ≤ x' → x' < 144 → ChildAsked source pool places tr (x' - 128) rowSymbol
-    unfolding rowSymbol
+    pub row-child : 128 ≤ x' → x' < 144 → ChildAsked source pool places tr (x' - 128) row_symbol
+    unfolding row_symbol
     row-child h g = go a.row_of
       where
         asked : (ms : List ℕ) → (c : SomeChild S ms a.inside (x' - 128)) → c.type < length S → ChildAsked source pool places tr (x' - 128) (symbol_bytes X.target held (symbol_of x'))
@@ -208,8 +208,8 @@ module _ {source pool places tr : List ℕ} {r : ℕ} {bs : List ℕ} (a : RowAs
             (record { type = m; inside = l; child = record { rest = rest; is = rw (none, e) (unfold after_first in refl); holds = k }; member = Memᴰ.head refl }) exists
 
     -- and where it is the items
-    pub row-items : x' ≡ 145 → ItemsAsked source pool places tr (r + 16) rowSymbol
-    unfolding rowSymbol
+    pub row-items : x' ≡ 145 → ItemsAsked source pool places tr (r + 16) row_symbol
+    unfolding row_symbol
     row-items h = go a.row_of
       where
         go : RowOf S a.type a.inside r → ItemsAsked source pool places tr (r + 16) (symbol_bytes X.target held (symbol_of x'))

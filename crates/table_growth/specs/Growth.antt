@@ -1,7 +1,7 @@
 -- What the contracts of this crate say: loaded tables, what the checks of a new type and what is kept with it, and what each operation of
 -- 02, N8 answers and leaves.
 use Rattle.std.specs.Prelude.{◌≡◌, Bool, true, false, List, ◌⊎◌, ℕ, ◌+◌, ◌≤◌, ◌<◌, ◌/◌, length, get_or}
-use Rattle.answers.specs.Answers.{fault, extensionResult}
+use Rattle.answers.specs.Answers.{fault, extension_result}
 use Rattle.answers.specs.declared.Judged.{Judged}
 use Rattle.answers.specs.declared.Judged.TheVariants.{Sound, Has}
 use Rattle.answers.specs.declared.Extension.{Extension}
@@ -33,7 +33,7 @@ IsLoaded rows = Loaded rows (table_by rows)
 
 -- what an operation answers; where it is done, the array holds the table then
 pub record Grown (o : Operation) (rows : List ℕ) (r : Extension) (after : List ℕ) : Type 0 where
-  pub answer : extensionResult r ≡ (operate (table_by rows) o).result
+  pub answer : extension_result r ≡ (operate (table_by rows) o).result
   pub done : (n : ℕ) → r ≡ Types n → Loaded after (operate (table_by rows) o).table
 
 -- ---- a type

@@ -1,6 +1,6 @@
 -- What loading a table and its two operations promise (02, N8).
 use Rattle.std.specs.Prelude.{◌≡◌, Bool, true, false, List, ℕ}
-use Rattle.answers.specs.Answers.{judged, extensionResult}
+use Rattle.answers.specs.Answers.{judged, extension_result}
 use Rattle.answers.specs.declared.Extension.{Extension}
 use Rattle.answers.specs.declared.Extension.TheVariants.{NoChoice, Faulty, Types}
 use Rattle.loaded_table.specs.Loaded.{table_by}
@@ -35,6 +35,6 @@ is_done (Types n) = true
 
 -- The answer is the model's, and the table stands for the model's then; refused, all its numbers are as they were.
 pub record Operated (o : Operation) (before : Table) (r : Extended) : Type 0 where
-  pub answered : extensionResult r.answer ≡ (operate (held before) o).result
+  pub answered : extension_result r.answer ≡ (operate (held before) o).result
   pub then : StandsFor r.table (operate (held before) o).table
   pub as_it_was : is_done r.answer ≡ false → r.table.numbers ≡ before.numbers

@@ -2,7 +2,6 @@
 use Rattle.bringing.proofs.Comparing.{denied, confirmed}
 use Rattle.inverse.specs.Sources.{source_read}
 use Rattle.bringing.proofs.Answering.{other-image, source-no-room, source-copied}
-use borrow.Author.Rules.{rules}
 use Rattle.bringing.proofs.give.Goals as goal
 
 pub is_image-requires : goal.is_image-requires

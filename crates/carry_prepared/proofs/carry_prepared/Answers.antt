@@ -1,5 +1,4 @@
 -- `carry_prepared` meets its contract: by what measuring and writing promise.
-use borrow.Author.Rules.{rules}
 use Rattle.carry_prepared.proofs.Carrying.{carry-too-deep, carry-too-long, carry-no-room, carry-fits, carry_writes}
 use Rattle.carry_prepared.proofs.carry_prepared.Goals as goal
 

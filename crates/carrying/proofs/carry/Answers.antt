@@ -5,7 +5,6 @@ use Prim.Native.Nat.{ℕ}
 use lib.ListN.{length-replicate}
 use Rattle.pools.specs.Room.{room_most}
 use Rattle.pools.specs.Pools.{cleared_room, largest_room}
-use borrow.Author.Rules.{rules}
 use Rattle.carrying.proofs.carry.Goals as goal
 
 pub room-long-requires : goal.room-long-requires
@@ -29,10 +28,7 @@ pub slice_bounds-carry_pooled-end : goal.slice_bounds-carry_pooled-end
 slice_bounds-carry_pooled-end c = sym (length-replicate {A = ℕ} 16384 0)
 
 pub carry_pooled-requires : goal.carry_pooled-requires
-carry_pooled-requires c = record { ready = c.requires.ready; tree = c.requires.tree; enough = cleared_room 16384 (omega (arith, c.room-long.ensures, c.if-long-le-MIDDLE_POOL.true)) (omega arith) }
-
-pub returns-then-long-le-MIDDLE_POOL : goal.returns-then-long-le-MIDDLE_POOL
-returns-then-long-le-MIDDLE_POOL c = c.carry_pooled.ensures
+carry_pooled-requires c = record { ready = c.requires.ready; tree = c.requires.tree; enough = cleared_room 16384 (omega (arith, c.room-long.ensures)) (omega arith) }
 
 pub carry_pooled-requires-2 : goal.carry_pooled-requires-2
 carry_pooled-requires-2 c = record { ready = c.requires.ready; tree = c.requires.tree; enough = largest_room c.largest_pool-pool.result c.largest_pool-pool.ensures (room_most _ _ _ c.requires.ready.source_bounded c.requires.ready.target_bounded c.requires.ready.paths_bounded.short) }

@@ -4,7 +4,6 @@ use Prim.Native.Nat.{ℕ}
 use lib.ListN.{length-replicate}
 use Rattle.pools.specs.Pools.{full_arrays}
 use Rattle.carrying.proofs.Preparing.{carriable, carries_by}
-use borrow.Author.Rules.{rules}
 use Rattle.carrying.proofs.carry_pooled.Goals as goal
 
 pub slice_bounds-prepare_sized-end : goal.slice_bounds-prepare_sized-end

@@ -1,7 +1,6 @@
 -- `prepare_sized` meets its contract: the sizes are those of the rows that were prepared.
 use Rattle.loaded_table.specs.Loaded.{length_of_lem}
 use Rattle.carrying.proofs.Preparing.{places_long, given_long}
-use borrow.Author.Rules.{rules}
 use Rattle.carrying.proofs.prepare_sized.Goals as goal
 
 pub prepare-requires : goal.prepare-requires

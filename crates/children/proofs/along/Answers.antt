@@ -1,6 +1,5 @@
 -- `along` meets its contract, by the path of the edge.
 use mathlib.Core.Path.{sym}
-use borrow.Author.Rules.{rules}
 use Rattle.children.proofs.along.Goals as goal
 
 pub follow-requires : goal.follow-requires

@@ -3,7 +3,6 @@ use mathlib.Core.Path.{sym, ◌∙◌}
 use native.Mathlib.Omega.{arith}
 use Rattle.paths.specs.Edges.{small}
 use Rattle.children.proofs.Beginning.{begin-none, begin-sequence, begin-choice}
-use borrow.Enum.Refused.{opened}
 use Rattle.children.proofs.begin.Goals as goal
 
 pub kind-kind-requires : goal.kind-kind-requires

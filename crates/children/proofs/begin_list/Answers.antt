@@ -1,6 +1,5 @@
 -- `begin_list` meets its contract: the path is divided at its first list.
 use native.Mathlib.Omega.{arith}
-use borrow.Author.Rules.{rules}
 use Rattle.paths.specs.Edges.{small}
 use Rattle.children.proofs.Beginning.{list-path, cut-less, list-before, begin-lost, begin-items}
 use Rattle.children.proofs.begin_list.Goals as goal

@@ -1,6 +1,5 @@
 -- `begin_optional` meets its contract: what stands before the first choice step decides.
 use native.Mathlib.Omega.{arith}
-use borrow.Author.Rules.{rules}
 use Rattle.paths.specs.Edges.{small}
 use Rattle.children.proofs.Beginning.{SharedPath, optional-path, shared-path, begin_empty, begin_member}
 use Rattle.children.proofs.Finding.{found_within, missing_not, held_not}

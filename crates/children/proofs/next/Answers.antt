@@ -1,5 +1,4 @@
 -- `next` meets its contract, by the cursor.
-use borrow.Author.Rules.{rules}
 use Rattle.children.proofs.next.Goals as goal
 
 pub next_member-requires : goal.next_member-requires

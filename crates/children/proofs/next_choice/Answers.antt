@@ -1,8 +1,6 @@
-use Prim.Native.Nat.{◌-◌}
 use native.Mathlib.Omega.{arith}
-use borrow.Author.Rules.{rules}
 use Rattle.paths.specs.Edges.{small, few}
-use Rattle.children.proofs.Edges.{Choosing, choice_none, choice-follow, choice-on, choice-one}
+use Rattle.children.proofs.Edges.{choice_none, choice-follow, choice-on, choice-one}
 use Rattle.children.proofs.next_choice.Goals as goal
 
 pub count-members-requires : goal.count-members-requires

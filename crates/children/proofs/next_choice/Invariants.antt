@@ -1,9 +1,6 @@
 -- `next_choice` meets its contract: the loop's invariant says that the paths before edge i are not there.
 use Prim.Native.Nat.{◌-◌}
-use native.Mathlib.Omega.{arith}
-use borrow.Author.Rules.{rules}
-use Rattle.paths.specs.Edges.{small, few}
-use Rattle.children.proofs.Edges.{Choosing, choice_none, choice-follow, choice-on, choice-one}
+use Rattle.children.proofs.Edges.{Choosing}
 use Rattle.children.proofs.next_choice.Given as goal
 
 abbrev pub invariant-loop-i : goal.invariant-loop-i

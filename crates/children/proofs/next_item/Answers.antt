@@ -1,6 +1,5 @@
 -- `next_item` meets its contract, by the byte at the offset.
 use native.Mathlib.Omega.{arith}
-use borrow.Author.Rules.{rules}
 use Rattle.children.proofs.Items.{items_within, items_letter, items_done, items-inside, items-broken, items-close, items-one}
 use Rattle.children.proofs.next_item.Goals as goal
 

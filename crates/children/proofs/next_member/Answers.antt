@@ -1,7 +1,6 @@
 -- `next_member` meets its contract, by the path of edge i.
 use mathlib.Core.Path.{◌∙◌}
 use native.Mathlib.Omega.{arith}
-use borrow.Author.Rules.{rules}
 use Rattle.paths.specs.Edges.{small, few}
 use Rattle.children.proofs.Edges.{edges-done, edges-less, edges-follow, edges-broken, edges-one}
 use Rattle.children.proofs.next_member.Goals as goal

@@ -5,7 +5,6 @@ use native.Mathlib.Omega.{arith}
 use lib.ListN.{length-replicate}
 use Rattle.pools.specs.Room.{room_most}
 use Rattle.pools.specs.Pools.{cleared_room, largest_room}
-use borrow.Author.Rules.{rules}
 use Rattle.comparing.proofs.is_image.Goals as goal
 
 pub room-long-requires : goal.room-long-requires

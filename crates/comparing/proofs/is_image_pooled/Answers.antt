@@ -4,7 +4,6 @@ use Prim.Native.Nat.{ℕ}
 use lib.ListN.{length-replicate}
 use Rattle.pools.specs.Pools.{full_arrays}
 use Rattle.row_traversal.specs.Whole.{image_asked}
-use borrow.Author.Rules.{rules}
 use Rattle.comparing.proofs.is_image_pooled.Goals as goal
 
 pub slice_bounds-prepare-end : goal.slice_bounds-prepare-end

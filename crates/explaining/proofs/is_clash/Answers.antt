@@ -12,13 +12,13 @@ use borrow.Enum.Refused.{opened}
 use Rattle.explaining.proofs.is_clash.Goals as goal
 
 -- whether a fault has the number 10
-abbrev isTen : Fault → Bool
-isTen f = eqb (fault_number (fault f)) 10
+abbrev is_ten : Fault → Bool
+is_ten f = eqb (fault_number (fault f)) 10
 
 pub returns-in-PathClash : goal.returns-in-PathClash
 unfolding fault_number
-returns-in-PathClash c = sym (ap isTen c.in-PathClash.is)
+returns-in-PathClash c = sym (ap is_ten c.in-PathClash.is)
 
 pub returns-in_default : goal.returns-in_default
 unfolding fault_number
-returns-in_default c = in_arm enum isTen false (0 ∷ 1 ∷ 2 ∷ 3 ∷ 4 ∷ 5 ∷ 6 ∷ 7 ∷ 8 ∷ 10 ∷ []) (λ v. refl, (λ v. refl, (λ v. refl, (λ v. refl, (λ v. refl, (λ v. refl, (λ v. refl, (λ v. refl, (λ v. refl, (λ v. refl, tt)))))))))) c.args.f (opened c.in_default.in_default-own.keys2)
+returns-in_default c = in_arm enum is_ten false (0 ∷ 1 ∷ 2 ∷ 3 ∷ 4 ∷ 5 ∷ 6 ∷ 7 ∷ 8 ∷ 10 ∷ []) (λ v. refl, (λ v. refl, (λ v. refl, (λ v. refl, (λ v. refl, (λ v. refl, (λ v. refl, (λ v. refl, (λ v. refl, (λ v. refl, tt)))))))))) c.args.f (opened c.in_default.in_default-own.keys2)

@@ -1,7 +1,5 @@
 -- The cycle of calls {child, items, run}.
-use Prim.Native.Nat.{ℕ}
 use native.Mathlib.Omega.{arith}
-use Rattle.scanning.specs.Laws.{content_within}
 use Rattle.row_traversal.specs.Contents.{spans_from, behind_none, behind_same}
 use Rattle.row_traversal.specs.RowNumbers.{rank_bounds, item_rank}
 use Rattle.row_traversal.specs.Turns.{row_there, items-rank}

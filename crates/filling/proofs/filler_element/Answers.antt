@@ -2,7 +2,6 @@
 use mathlib.Core.Path.{ap}
 use native.Mathlib.Omega.{arith}
 use lib.ListN.{length}
-use borrow.Author.Rules.{rules}
 use Rattle.writing.specs.Laws.{writes-length, writes_then}
 use Rattle.row_traversal.specs.FillerRows.{filler_row_there, filler_empty}
 use Rattle.filling.proofs.filler_element.Goals as goal

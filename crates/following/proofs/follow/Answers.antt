@@ -1,8 +1,6 @@
-use Prim.Native.Nat.{◌-◌}
 use native.Mathlib.Omega.{arith}
-use borrow.Author.Rules.{rules}
 use Rattle.paths.specs.Stepping.{place_within, is_small, step_bounds}
-use Rattle.following.proofs.Onward.{Onward, onward_start, next_small, onward_done, onward-missing, onward-there}
+use Rattle.following.proofs.Onward.{onward_start, next_small, onward_done, onward-missing, onward-there}
 use Rattle.following.proofs.follow.Goals as goal
 
 pub loop-i-init : goal.loop-i-init

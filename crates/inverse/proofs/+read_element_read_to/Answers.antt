@@ -1,10 +1,9 @@
 -- The cycle of calls {read_element, read_to}.
 use mathlib.Core.Path.{sym, ◌∙◌}
 use native.Mathlib.Omega.{arith}
-use borrow.Author.Rules.{rules}
 use Rattle.model.proofs.Theorems.Tools.{some_none}
 use Rattle.writing.specs.Laws.{writes-length}
-use Rattle.paths.specs.Edges.{small, text-follows}
+use Rattle.paths.specs.Edges.{text-follows}
 use Rattle.inverse.proofs.ByKind.{read_zero, read_text}
 use Rattle.inverse.proofs.Elements.{element_no_room, element-refused, held-within, element-no-close, element-written}
 use Rattle.inverse.proofs.Turning.{reading_start, turn_shows, turn_done, turn_broken, turn_inside, turn-less, turn-refused, turn_on}

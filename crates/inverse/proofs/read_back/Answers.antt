@@ -1,6 +1,5 @@
 -- `read_back` meets its contract: the root element is read, and the byte that ends the document written after it.
 use native.Mathlib.Omega.{arith}
-use borrow.Author.Rules.{rules}
 use Rattle.inverse.specs.Sources.{root_there, root_image}
 use Rattle.inverse.proofs.Whole.{whole-refused, whole_room, whole-no-end, whole-written}
 use Rattle.inverse.proofs.read_back.Goals as goal

@@ -1,6 +1,5 @@
 -- `read_text` meets its contract: the characters are the bytes up to the 32.
 use native.Mathlib.Omega.{arith}
-use borrow.Author.Rules.{rules}
 use Rattle.model.proofs.Theorems.Tools.{some_none}
 use Rattle.inverse.proofs.Elements.{held_none, text_within, text_copied, text_too_long}
 use Rattle.inverse.proofs.read_text.Goals as goal

@@ -2,7 +2,6 @@
 use Prim.Native.Nat.{ℕ}
 use mathlib.Core.List.{List}
 use native.Mathlib.Omega.{arith}
-use Rattle.scanning.specs.Laws.{content_within}
 use Rattle.row_traversal.specs.Contents.{spans_from, Behind, behind_none, behind_same}
 use Rattle.row_traversal.specs.RowNumbers.{rank_bounds, item_rank}
 use Rattle.row_traversal.specs.Turns.{row_there, items-rank}

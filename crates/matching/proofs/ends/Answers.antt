@@ -1,7 +1,6 @@
 -- `ends` meets its contract: two bytes, and the end of the document.
 use mathlib.Core.Path.{refl}
 use mathlib.Core.List.{[], ◌∷◌}
-use borrow.Author.Rules.{rules}
 use Rattle.model.proofs.Theorems.Tools.{true_false}
 use Rattle.matching.specs.Same.{stays, goes, same_then}
 use Rattle.matching.proofs.Comparing.{same_ends}

@@ -1,6 +1,5 @@
 -- `filler_element` meets its contract: an empty row's element is 30 t 32.
 use native.Mathlib.Omega.{arith}
-use borrow.Author.Rules.{rules}
 use Rattle.row_traversal.specs.FillerRows.{filler_row_there, filler_empty}
 use Rattle.matching.specs.Same.{stays, goes, same_then}
 use Rattle.matching.proofs.Running.{filler_other}

@@ -1,6 +1,5 @@
 -- `same_byte` meets its contract.
 use native.Mathlib.Omega.{arith}
-use borrow.Author.Rules.{rules}
 use Rattle.matching.specs.Same.{byte_same, byte_differs}
 use Rattle.matching.proofs.same_byte.Goals as goal
 

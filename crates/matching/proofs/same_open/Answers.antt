@@ -1,6 +1,5 @@
 -- `same_open` meets its contract: two bytes, one after the other.
 use mathlib.Core.List.{[], ◌∷◌}
-use borrow.Author.Rules.{rules}
 use Rattle.matching.specs.Same.{stays, goes, same_then, same_stops}
 use Rattle.matching.proofs.same_open.Goals as goal
 

@@ -1,6 +1,5 @@
-use Prim.Native.Nat.{◌-◌}
 use native.Mathlib.Omega.{arith}
-use Rattle.matching.proofs.Comparing.{part_short, PartGoes, part_goes, part-inside, part-on, part-stops, part_ends}
+use Rattle.matching.proofs.Comparing.{part_short, part_goes, part-inside, part-on, part-stops, part_ends}
 use Rattle.matching.proofs.same_part.Goals as goal
 
 pub overflow_sub-doc : goal.overflow_sub-doc

@@ -1,7 +1,6 @@
 -- `same_part` meets its contract: what is left to compare gives the whole.
 use Prim.Native.Nat.{◌-◌}
-use native.Mathlib.Omega.{arith}
-use Rattle.matching.proofs.Comparing.{part_short, PartGoes, part_goes, part-inside, part-on, part-stops, part_ends}
+use Rattle.matching.proofs.Comparing.{PartGoes}
 use Rattle.matching.proofs.same_part.Given as goal
 
 abbrev pub invariant-loop-i : goal.invariant-loop-i

@@ -2,7 +2,7 @@
 use Prim.Native.Nat.{ℕ}
 use native.Mathlib.Omega.{arith}
 use Rattle.rows.specs.Rows.{item_row}
-use Rattle.measuring.proofs.Turns.{ChildMeasured, row_within, counts_start, turn-within, turn_done, turn_two, turn-letter, turn-opens, turn-ahead, turn-child}
+use Rattle.measuring.proofs.Turns.{ChildMeasured, row_within, counts_start, turn-within, turn_done, turn-letter, turn-opens, turn-ahead, turn-child}
 use Rattle.measuring.proofs.+element.Goals as goal
 use Rattle.measuring.proofs.+element.Goals.{After-element-p}
 

@@ -2,7 +2,6 @@
 use mathlib.Core.Path.{ap, ◌∙◌}
 use Prim.Native.Nat.{ℕ, ◌+◌, ◌*◌}
 use lib.ListN.{get_or}
-use borrow.Author.Rules.{rules}
 use Rattle.loaded_embedding.specs.Loaded.{lengths_of}
 use Rattle.measuring.proofs.child_depth.Goals as goal
 

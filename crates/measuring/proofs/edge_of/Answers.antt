@@ -5,7 +5,6 @@ use mathlib.Core.Option.{Option, some}
 use Prim.Native.Nat.{ℕ, ◌+◌, ◌-◌, ◌*◌, ◌≤◌, ◌<◌}
 use native.Mathlib.Omega.{arith}
 use lib.ListN.{drop, get_or}
-use borrow.Author.Rules.{rules}
 use Rattle.model.specs.Definitions.Table.{Kind, kind_of}
 use Rattle.loaded_table.specs.Loaded.{table_by, types_in, kinds_of, counts_of, members_in, kind_of_lem}
 use Rattle.rows.specs.Rows.{no_child, first_from, row_index, source_row}

@@ -1,6 +1,5 @@
 -- `item_size` meets its contract: by the code of the kind.
 use mathlib.Core.Path.{ap, ◌∙◌}
-use borrow.Author.Rules.{rules}
 use Rattle.rows.specs.Rows.{levels_in, bytes_in, filler_in, item_row}
 use Rattle.measuring.proofs.Edges.{none_around, all_around}
 use Rattle.measuring.proofs.item_size.Goals as goal

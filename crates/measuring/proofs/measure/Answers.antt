@@ -1,6 +1,5 @@
 -- `measure` meets its contract: the root element is given, and the model's sums over rows are the image's sizes.
 use native.Mathlib.Omega.{arith}
-use borrow.Author.Rules.{rules}
 use Rattle.measuring.proofs.Whole.{root_given, root-held, whole-size}
 use Rattle.measuring.proofs.measure.Goals as goal
 

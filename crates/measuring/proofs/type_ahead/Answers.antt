@@ -5,7 +5,6 @@ use mathlib.Core.Option.{none, some}
 use Prim.Native.Nat.{ℕ, ◌+◌}
 use native.Mathlib.Omega.{arith}
 use lib.ListN.{get_or}
-use borrow.Author.Rules.{rules}
 use Rattle.model.specs.Definitions.Content.{Content, end, char, elem}
 use Rattle.rows.specs.Laws.{first_none, first_some}
 use Rattle.scanning.specs.Scanning.{ContentAt}

@@ -1,6 +1,5 @@
 -- `with_character` meets its contract.
 use mathlib.Core.Path.{refl}
-use borrow.Author.Rules.{rules}
 use Rattle.measuring.proofs.with_character.Goals as goal
 
 pub returns : goal.returns

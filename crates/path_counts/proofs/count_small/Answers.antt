@@ -3,7 +3,6 @@ use mathlib.Core.Path.{sym}
 use Prim.Native.Nat.{ℕ}
 use lib.ListN.{length-replicate}
 use Rattle.pools.specs.Pools.{small_arrays}
-use borrow.Author.Rules.{rules}
 use Rattle.path_counts.proofs.Counting.{countable, counted}
 use Rattle.path_counts.proofs.count_small.Goals as goal
 

@@ -1,6 +1,5 @@
-use Prim.Native.Nat.{◌-◌}
 use native.Mathlib.Omega.{arith}
-use Rattle.path_elements.proofs.RowCounts.{CountedTo, none_counted, all_counted, one-counted, one-passed}
+use Rattle.path_elements.proofs.RowCounts.{none_counted, all_counted, one-counted, one-passed}
 use Rattle.path_elements.proofs.openings.Goals as goal
 use Rattle.path_elements.proofs.openings.Goals.{then-pool-i-lt-FILLER, else-pool-i-lt-FILLER}
 

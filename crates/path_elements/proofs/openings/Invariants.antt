@@ -1,8 +1,6 @@
 -- `openings` meets its contract: what was counted and what is left of the row make up the whole.
-use mathlib.Core.Logic.{⊎_elim}
 use Prim.Native.Nat.{◌-◌}
-use native.Mathlib.Omega.{arith}
-use Rattle.path_elements.proofs.RowCounts.{CountedTo, none_counted, all_counted, one-counted, one-passed}
+use Rattle.path_elements.proofs.RowCounts.{CountedTo}
 use Rattle.path_elements.proofs.openings.Given as goal
 
 abbrev pub invariant-loop-i : goal.invariant-loop-i

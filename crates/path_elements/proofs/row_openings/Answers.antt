@@ -1,6 +1,5 @@
 -- `row_openings` meets its contract: the row stands where its places say.
 use mathlib.Core.Path.{◌∙◌}
-use borrow.Author.Rules.{rules}
 use Rattle.path_elements.proofs.row_openings.Goals as goal
 
 pub returns : goal.returns

@@ -1,7 +1,6 @@
 -- `finish` meets its contract, by what reading found.
 use mathlib.Core.Path.{sym}
 use lib.Seq.{length-take-le}
-use borrow.Author.Rules.{rules}
 use Rattle.reading_along.proofs.Answering.{not_read}
 use Rattle.reading_along.proofs.finish.Goals as goal
 

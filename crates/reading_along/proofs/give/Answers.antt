@@ -1,6 +1,5 @@
 -- `give` meets its contract: there is no room, or what was read is copied and the elements on paths are counted.
 use native.Mathlib.Omega.{arith}
-use borrow.Author.Rules.{rules}
 use Rattle.inverse.specs.Sources.{source_read}
 use Rattle.reading_along.proofs.Answering.{source-no-room, built-less, source-copied}
 use Rattle.reading_along.proofs.give.Goals as goal

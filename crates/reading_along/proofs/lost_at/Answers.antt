@@ -1,5 +1,4 @@
 -- `lost_at` meets its contract: where reading is known to fail, the search finds where.
-use borrow.Author.Rules.{rules}
 use Rattle.inverse.specs.Sources.{root_there, root_image}
 use Rattle.reading_along.proofs.Answering.{found_missing, found_nowhere}
 use Rattle.reading_along.proofs.lost_at.Goals as goal

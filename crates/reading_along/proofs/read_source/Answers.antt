@@ -1,5 +1,4 @@
 -- `read_source` meets its contract: what was read stands at the start of the buffer; where nothing was, reading fails.
-use borrow.Author.Rules.{rules}
 use Rattle.inverse.specs.Sources.{read_within_lem, read_front}
 use Rattle.reading_along.proofs.Answering.{nothing_read}
 use Rattle.reading_along.proofs.read_source.Goals as goal

@@ -1,6 +1,6 @@
 use native.Mathlib.Omega.{arith}
 use Rattle.scanning.specs.Laws.{content_within}
-use Rattle.row_traversal.proofs.Finding.{ToPass, pass_all, pass_from, next_passed, pass_on, pass_none}
+use Rattle.row_traversal.proofs.Finding.{pass_all, pass_from, next_passed, pass_on, pass_none}
 use Rattle.row_traversal.proofs.element_from.Goals as goal
 use Rattle.row_traversal.proofs.element_from.Goals.{then-seen-i, else-seen-i}
 

@@ -1,8 +1,5 @@
 -- `element_from` meets its contract: the elements before the one that is sought are passed over.
-use mathlib.Core.Logic.{⊎_elim}
-use native.Mathlib.Omega.{arith}
-use Rattle.scanning.specs.Laws.{content_within}
-use Rattle.row_traversal.proofs.Finding.{ToPass, pass_all, pass_from, next_passed, pass_on, pass_none}
+use Rattle.row_traversal.proofs.Finding.{ToPass}
 use Rattle.row_traversal.proofs.element_from.Given as goal
 
 abbrev pub invariant-loop-left : goal.invariant-loop-left

@@ -2,7 +2,6 @@
 use mathlib.Core.Path.{◌∙◌, sym, ap, refl}
 use mathlib.Core.Option.{some}
 use native.Mathlib.Omega.{arith}
-use borrow.Author.Rules.{rules}
 use Rattle.rows.specs.Laws as rows
 use Rattle.scanning.specs.Laws.{content_within}
 use Rattle.row_traversal.specs.Contents.{first_some, first_none}

@@ -1,7 +1,6 @@
 -- `row_of` meets its contract.
 use mathlib.Core.Path.{◌∙◌, ap₂}
 use native.Mathlib.Omega.{arith}
-use borrow.Author.Rules.{rules}
 use Rattle.loaded_table.specs.Loaded.{table_by, length_of_lem}
 use Rattle.rows.specs.Rows.{source_row}
 use Rattle.scanning.specs.Laws.{content_within}

@@ -1,8 +1,7 @@
 use mathlib.Core.Path.{◌≡◌, refl}
-use Prim.Native.Nat.{ℕ, ◌-◌, ◌≤◌}
+use Prim.Native.Nat.{ℕ, ◌≤◌}
 use native.Mathlib.Omega.{arith}
-use lib.ListN.{length}
-use Rattle.scanning.proofs.Searching.{child_zero, found_nowhere, reached_within, reached_none, reached-inside, reached-found, reached-close, reached-next, Seeks}
+use Rattle.scanning.proofs.Searching.{child_zero, found_nowhere, reached_within, reached_none, reached-inside, reached-found, reached-close, reached-next}
 use Rattle.scanning.proofs.child.Goals as goal
 
 -- more than one child is still to be counted

@@ -1,9 +1,7 @@
 -- `child` meets its contract: the loop's invariant says, for every content that begins at `from`, what the sibling reached has to do with it.
-use mathlib.Core.Path.{◌≡◌, refl}
-use Prim.Native.Nat.{ℕ, ◌-◌, ◌≤◌}
-use native.Mathlib.Omega.{arith}
+use Prim.Native.Nat.{◌-◌}
 use lib.ListN.{length}
-use Rattle.scanning.proofs.Searching.{child_zero, found_nowhere, reached_within, reached_none, reached-inside, reached-found, reached-close, reached-next, Seeks}
+use Rattle.scanning.proofs.Searching.{Seeks}
 use Rattle.scanning.proofs.child.Given as goal
 
 abbrev pub invariant-loop-at : goal.invariant-loop-at

@@ -1,9 +1,6 @@
-use mathlib.Core.Path.{◌≡◌, refl}
-use borrow.Author.Rules.{rules}
-use Rattle.model.specs.Definitions.Inverse.{unbroken, child_parts}
-use Rattle.loaded_setting.specs.Ready.{setting_in}
-use Rattle.children.specs.Cursors.{cursor_weight}
-use Rattle.unreadable.proofs.Going.{Going, going_start, going_shows, going_ends, going_less, going_on}
+use mathlib.Core.Path.{refl}
+use Rattle.model.specs.Definitions.Inverse.{unbroken}
+use Rattle.unreadable.proofs.Going.{going_start, going_shows, going_ends, going_less, going_on}
 use Rattle.unreadable.proofs.is_broken.Goals as goal
 
 pub begin-cursor-requires : goal.begin-cursor-requires

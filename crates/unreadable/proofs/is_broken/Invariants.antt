@@ -1,10 +1,9 @@
 -- `is_broken` meets its contract: what is left of the children is broken exactly where all are.
-use mathlib.Core.Path.{◌≡◌, refl}
-use borrow.Author.Rules.{rules}
+use mathlib.Core.Path.{◌≡◌}
 use Rattle.model.specs.Definitions.Inverse.{unbroken, child_parts}
 use Rattle.loaded_setting.specs.Ready.{setting_in}
 use Rattle.children.specs.Cursors.{cursor_weight}
-use Rattle.unreadable.proofs.Going.{Going, going_start, going_shows, going_ends, going_less, going_on}
+use Rattle.unreadable.proofs.Going.{Going}
 use Rattle.unreadable.proofs.is_broken.Given as goal
 
 abbrev pub invariant-loop-m : goal.invariant-loop-m

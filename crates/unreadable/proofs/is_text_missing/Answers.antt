@@ -1,6 +1,5 @@
 -- `is_text_missing` meets its contract, by what is found at the end of the path.
 use native.Mathlib.Omega.{arith}
-use borrow.Author.Rules.{rules}
 use Rattle.unreadable.proofs.Losing.{there_found, nowhere_found}
 use Rattle.unreadable.proofs.is_text_missing.Goals as goal
 

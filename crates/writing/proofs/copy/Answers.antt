@@ -1,7 +1,6 @@
 use mathlib.Core.Path.{refl}
-use Prim.Native.Nat.{◌-◌}
 use native.Mathlib.Omega.{arith}
-use Rattle.writing.proofs.Copying.{Copies, copies_more, copies_all}
+use Rattle.writing.proofs.Copying.{copies_more, copies_all}
 use Rattle.writing.proofs.copy.Goals as goal
 
 pub loop-i-init : goal.loop-i-init

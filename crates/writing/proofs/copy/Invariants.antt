@@ -1,8 +1,6 @@
 -- `copy` meets its contract: the loop's invariant says that what is left to copy gives the whole.
-use mathlib.Core.Path.{refl}
 use Prim.Native.Nat.{◌-◌}
-use native.Mathlib.Omega.{arith}
-use Rattle.writing.proofs.Copying.{Copies, copies_more, copies_all}
+use Rattle.writing.proofs.Copying.{Copies}
 use Rattle.writing.proofs.copy.Given as goal
 
 abbrev pub invariant-loop-i : goal.invariant-loop-i

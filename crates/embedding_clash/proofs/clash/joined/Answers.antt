@@ -1,12 +1,13 @@
 -- By the code of the kind.
+use native.Mathlib.Omega.{arith}
 use Rattle.embedding_clash.proofs.ClashLaws.{joined_row, joined_below, joined_list}
 use Rattle.embedding_clash.proofs.clash.joined.Goals as goal
 
 pub returns-in-2 : goal.returns-in-2
-returns-in-2 c = joined_row _ _ c.in-2.if-kind-lt2-own.false c.in-2.if-kind-lt5-own.true
+returns-in-2 c = joined_row _ _ (omega arith) (omega arith)
 
 pub returns-in_default : goal.returns-in_default
-returns-in_default c = joined_below _ _ c.in_default.if-kind-lt2-own.true
+returns-in_default c = joined_below _ _ (omega arith)
 
 pub returns-in_default-2 : goal.returns-in_default-2
-returns-in_default-2 c = joined_list _ _ c.in_default.if-kind-lt5-own.false
+returns-in_default-2 c = joined_list _ _ (omega arith)

@@ -2,7 +2,6 @@
 use mathlib.Core.Path.{refl, sym}
 use native.Mathlib.Omega.{arith}
 use lib.Seq.{length-take-le}
-use borrow.Author.Rules.{rules}
 use Rattle.scanning.proofs.Spanning.{span_asked, far-short, one-filled}
 use Rattle.scanning.proofs.spans.fill_span.Goals as goal
 

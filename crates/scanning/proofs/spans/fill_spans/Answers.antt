@@ -1,5 +1,5 @@
 use native.Mathlib.Omega.{arith}
-use Rattle.scanning.proofs.Spanning.{Fills, none_filled, fill_asked, fill_next, all_filled}
+use Rattle.scanning.proofs.Spanning.{none_filled, fill_asked, fill_next, all_filled}
 use Rattle.scanning.proofs.spans.fill_spans.Goals as goal
 
 pub loop-o-init : goal.loop-o-init

@@ -1,7 +1,6 @@
 -- `fill_spans` meets its contract. The invariant of its loop: from the loop's offset on the spans are filled, and those of the
 -- first two are kept.
-use native.Mathlib.Omega.{arith}
-use Rattle.scanning.proofs.Spanning.{Fills, none_filled, fill_asked, fill_next, all_filled}
+use Rattle.scanning.proofs.Spanning.{Fills}
 use Rattle.scanning.proofs.spans.fill_spans.Given as goal
 
 abbrev pub invariant-loop-o : goal.invariant-loop-o

@@ -1,6 +1,5 @@
 -- `span_at` meets its contract: past an element, past a character, or no way.
 use native.Mathlib.Omega.{arith}
-use borrow.Author.Rules.{rules}
 use Rattle.scanning.proofs.Spanning.{inside_within, element_span, element_last, character_span}
 use Rattle.scanning.proofs.spans.span_at.Goals as goal
 
