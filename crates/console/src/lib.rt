@@ -2,7 +2,7 @@
 
 #![tactic(auto)]
 
-ghost use Rattle.std.specs.Prelude.{◌≡◌, ◌<◌, ◌≤◌, take, length, IfOk};
+ghost use Rattle.std.specs.Prelude.{◌≡◌, ◌<◌, ◌≤◌, take, length, IfOk, OnErr};
 ghost use Rattle.std.specs.Io.KnownBytes.{Consumes, IsAtEnd};
 
 use std::io::Read;
@@ -24,11 +24,13 @@ pub fn front(buffer: &mut [u8], n: usize) -> &mut [u8]
 }
 
 // Reads until a buffer is full or the input ends, and answers how many bytes it put at the buffer's start: the input's next ones, and
-// all that it has left where they are fewer than the buffer has room for.
+// all that it has left where they are fewer than the buffer has room for. A read that fails leaves the buffer as long as it was, and
+// what came before it at its start.
 pub fn read_full<R: Read>(input: &mut R, buffer: &mut [u8]) -> io::Result<usize>
     ensures bound { IfOk result (λ n. n ≤ length buffer.new) }
     ensures bytes { IfOk result (λ n. Consumes (R.remaining input.old) (R.remaining input.new) (take n buffer.new)) }
     ensures all { IfOk result (λ n. n < length buffer.new → IsAtEnd (R.remaining input.new)) }
+    ensures failed { OnErr result (length buffer.new ≡ length buffer.old) }
 {
     let mut done = 0;
     while done < buffer.len() {
@@ -42,6 +44,7 @@ pub fn read_full<R: Read>(input: &mut R, buffer: &mut [u8]) -> io::Result<usize>
 }
 
 // Reads a file into the start of a buffer and lends the part that was read; it is empty where the file can't be opened.
+// A read that fails is the error; the buffer is as long as it was.
 pub fn read_file<'a, R: Files>(
     rt: &R,
     name: &str,
