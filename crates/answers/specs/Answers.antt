@@ -1,38 +1,28 @@
 -- The answers of the code as the model's.
-use Rattle.answers.specs.declared.Verdict.{Verdict}
-use Rattle.answers.specs.declared.Verdict.TheVariants.{Passes, Fails}
 use Rattle.answers.specs.declared.Fault.{Fault}
 use Rattle.answers.specs.declared.Fault.TheVariants.{TooLong, BadForm, OverLimit, BadOperand, RepeatedMember, NoFiniteInstance, RootMoved, WrongEnd, WrongSteps, PathClash, Unexpected}
-use Rattle.answers.specs.declared.Judged.{Judged}
-use Rattle.answers.specs.declared.Judged.TheVariants.{Sound, Has}
-use Rattle.answers.specs.declared.Carried.{Carried}
-use Rattle.answers.specs.declared.Carried.TheVariants as carried
-use Rattle.answers.specs.declared.Brought.{Brought}
-use Rattle.answers.specs.declared.Brought.TheVariants as brought
-use Rattle.answers.specs.declared.Reading.{Reading}
-use Rattle.answers.specs.declared.Reading.TheVariants as reading
-use Rattle.answers.specs.declared.Extension.{Extension}
-use Rattle.answers.specs.declared.Extension.TheVariants as extending
+use Rattle.answers.specs.declared.Document.{Document}
+use Rattle.answers.specs.declared.Document.TheVariants.{SourceTable, TargetTable, Embedding, Tree, Output, Operations}
+use Rattle.answers.specs.declared.Refusal.{Refusal}
+use Rattle.answers.specs.declared.Refusal.TheVariants.{Faulty, NoImage, Unreadable, ImageTooDeep, ImageTooLong, OutputTooShort, NoChoice}
+use Rattle.answers.specs.declared.Written.{Written}
 use Rattle.answers.specs.declared.Reason.{Reason}
 use Rattle.answers.specs.declared.Reason.TheVariants.{EqualPaths, EarlierBegins, LaterBegins, PartAtSequence}
 use Rattle.answers.specs.declared.Clash.{Clash}
-use Rattle.answers.specs.declared.Search.{Search}
-use Rattle.answers.specs.declared.Search.TheVariants as found
-use Rattle.answers.specs.declared.Judging.{Judging}
-use Rattle.answers.specs.declared.Judging.TheVariants as judging
 use Rattle.answers.specs.declared.Explanation.{Explanation}
 use Rattle.answers.specs.declared.Explanation.TheVariants as explaining
-use Rattle.std.specs.Prelude.{◌≡◌}
-use Rattle.std.proofs.Math.Option.{Option, none, some}
+use Rattle.std.specs.Prelude.{ℕ, Option, Some, None, Result, Ok, Err, ⊤}
+use Rattle.std.proofs.Math.Option as model
 use Rattle.model.specs.Definitions.Basics
 use Rattle.model.specs.Definitions.Refusals
 use Rattle.model.specs.Definitions.EmbeddingChecks
 use Rattle.model.specs.Definitions.Entries
 use Rattle.model.specs.Definitions.Explanation as explanations
 
-abbrev pub verdict : Verdict → Basics.Verdict
-verdict Passes = Basics.passes
-verdict (Fails at) = Basics.fails at
+-- what a check finds
+abbrev pub verdict : Result ⊤ ℕ → Basics.Verdict
+verdict (Ok done) = Basics.passes
+verdict (Err at) = Basics.fails at
 
 abbrev pub fault : Fault → Refusals.Fault
 fault TooLong = Refusals.too_long
@@ -47,33 +37,37 @@ fault (WrongSteps at) = Refusals.wrong_steps at
 fault (PathClash at) = Refusals.path_clash at
 fault (Unexpected at) = Refusals.unexpected at
 
-abbrev pub judged : Judged → Refusals.Judged
-judged Sound = Refusals.sound
-judged (Has f) = Refusals.has (fault f)
+-- what a judge of one document finds
+abbrev pub judged : Result ⊤ Fault → Refusals.Judged
+judged (Ok done) = Refusals.sound
+judged (Err f) = Refusals.has (fault f)
 
--- the model's answer for each outcome of carrying and of bringing back
-abbrev pub carried_result : Carried → Entries.Result
-carried_result carried.TooDeep = Entries.refused Refusals.image_too_deep
-carried_result carried.TooLong = Entries.refused Refusals.image_too_long
-carried_result carried.NoRoom = Entries.refused Refusals.output_too_short
-carried_result (carried.Written length filler) = Entries.accepted length filler
+abbrev pub document : Document → Refusals.Document
+document SourceTable = Refusals.source_table
+document TargetTable = Refusals.target_table
+document Embedding = Refusals.embedding
+document Tree = Refusals.tree
+document Output = Refusals.output
+document Operations = Refusals.operations
 
-abbrev pub brought_result : Brought → Entries.Result
-brought_result brought.NoImage = Entries.refused Refusals.no_image
-brought_result brought.NoRoom = Entries.refused Refusals.output_too_short
-brought_result (brought.Written length) = Entries.accepted length 0
+abbrev pub refusal : Refusal → Refusals.Refusal
+refusal (Faulty d f) = Refusals.faulty (document d) (fault f)
+refusal NoImage = Refusals.no_image
+refusal (Unreadable at) = Refusals.unreadable at
+refusal ImageTooDeep = Refusals.image_too_deep
+refusal ImageTooLong = Refusals.image_too_long
+refusal OutputTooShort = Refusals.output_too_short
+refusal NoChoice = Refusals.no_choice
 
--- the model's answer for each outcome of reading along the paths (02, N4)
-abbrev pub reading_result : Reading → Entries.Result
-reading_result (reading.Missing at) = Entries.refused (Refusals.unreadable at)
-reading_result reading.NoRoom = Entries.refused Refusals.output_too_short
-reading_result (reading.Written length count) = Entries.accepted length count
+-- The model's answer for each outcome of what answers one number: judging, bringing back, an operation on a loaded table (02, N8).
+abbrev pub counted_result : Result ℕ Refusal → Entries.Result
+counted_result (Ok n) = Entries.accepted n 0
+counted_result (Err r) = Entries.refused (refusal r)
 
--- the model's answer for each outcome of an operation on a loaded table (02, N8)
-abbrev pub extension_result : Extension → Entries.Result
-extension_result extending.NoChoice = Entries.refused Refusals.no_choice
-extension_result (extending.Faulty f) = Entries.refused (Refusals.faulty Refusals.source_table (fault f))
-extension_result (extending.Types n) = Entries.accepted n 0
+-- The same of what answers two numbers: carrying, and reading along the paths (02, N4).
+abbrev pub written_result : Result Written Refusal → Entries.Result
+written_result (Ok w) = Entries.accepted w.length w.filler
+written_result (Err r) = Entries.refused (refusal r)
 
 -- ---- clashes explained (02, N9)
 
@@ -86,16 +80,12 @@ reason PartAtSequence = EmbeddingChecks.part_at_sequence
 abbrev pub clash : Clash → explanations.Clash
 clash c = record { source_type = c.source; earlier = c.earlier; later = c.later; shared = c.shared; reason = reason c.reason; mark = c.mark }
 
-abbrev pub search : Search → Option explanations.Clash
-search found.Nothing = none
-search (found.Found c) = some (clash c)
-
--- The model's answer for each outcome of judging; a document is named by its number.
-abbrev pub Answered : Judging → Entries.Result → Type 0
-Answered (judging.Accepted count) r = r ≡ Entries.accepted count 0
-Answered (judging.Refused f n) r = (d : Refusals.Document) × (Refusals.document_number d ≡ n) × (r ≡ Entries.refused (Refusals.faulty d (fault f)))
+-- what a search for a clash finds
+abbrev pub search : Option Clash → model.Option explanations.Clash
+search None = model.none
+search (Some c) = model.some (clash c)
 
 -- the model's explanation
-abbrev pub ExplainedAs : Explanation → explanations.Explanation → Type 0
-ExplainedAs (explaining.Explained c) x = x ≡ explanations.explained (clash c)
-ExplainedAs (explaining.Unexplained answer) x = (r : Entries.Result) × Answered answer r × (x ≡ explanations.unexplained r)
+abbrev pub explanation : Explanation → explanations.Explanation
+explanation (explaining.Explained c) = explanations.explained (clash c)
+explanation (explaining.Unexplained answer) = explanations.unexplained (counted_result answer)

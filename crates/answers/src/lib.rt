@@ -1,17 +1,16 @@
-// What checks, judges and entries answer. Each is an enum; specs/Answers.antt says which answer of the model it is, and
-// the model gives paper 01's numbers for it.
+// What checks, judges and entries answer. specs/Answers.antt says which answer of the model each is, and the model gives paper 01's
+// numbers for it. A check of a whole document answers `Result<(), usize>`: nothing wrong, or the lowest place that is.
 
 #![tactic(auto)]
 
-// What a check of a whole document finds: nothing wrong, or the lowest place that is.
-#[derive(Drop)]
-pub enum Verdict {
-    Passes,
-    Fails(usize),
-}
+ghost use Rattle.std.specs.Prelude.{◌≡◌};
+ghost use Rattle.answers.specs.Answers.{document, reason};
+ghost use Rattle.answers.specs.declared.Refusal.TheVariants.{Faulty};
+ghost use Rattle.model.specs.Definitions.Refusals.{document_number};
+ghost use Rattle.model.specs.Definitions.Explanation.{reason_number};
 
 // What is wrong with a document; the number is the mark.
-#[derive(Clone, Copy)]
+#[derive(Clone, Copy, Debug, PartialEq, Eq)]
 pub enum Fault {
     TooLong,
     BadForm(usize),
@@ -26,53 +25,58 @@ pub enum Fault {
     Unexpected(usize),
 }
 
-// A document is accepted, or has a fault.
-#[derive(Drop)]
-pub enum Judged {
-    Sound,
-    Has(Fault),
+// What an entry is given, or writes to.
+#[derive(Clone, Copy, Debug, PartialEq, Eq)]
+pub enum Document {
+    SourceTable,
+    TargetTable,
+    Embedding,
+    Tree,
+    Output,
+    Operations,
 }
 
-// What carrying finds: the image has a 129th level; it is longer than 60,000 bytes; it doesn't fit the output; or it is written,
-// with this length and this number of filler elements.
-#[derive(Drop)]
-pub enum Carried {
-    TooDeep,
-    TooLong,
-    NoRoom,
-    Written(usize, usize),
+// A document's number in refusals.
+impl From<Document> for u64 {
+    ghost from_gives = { λ d n. n ≡ document_number (document d) };
+
+    fn from(d: Document) -> u64 {
+        match d {
+            Document::SourceTable => codes::SOURCE_TABLE,
+            Document::TargetTable => codes::TARGET_TABLE,
+            Document::Embedding => codes::EMBEDDING,
+            Document::Tree => codes::TREE,
+            Document::Output => codes::OUTPUT,
+            Document::Operations => codes::OPERATIONS,
+        }
+    }
 }
 
-// What bringing back finds: no conforming source document has this image; the source doesn't fit the output; or it is written,
-// with this length.
-#[derive(Drop)]
-pub enum Brought {
+// Why an entry refuses: a document has a fault; no conforming source document has the image; the source element that stands at this
+// offset can't be read along the paths (02, N4); the image has a 129th level; it is longer than 60,000 bytes; what is to be written
+// doesn't fit the output; the type to extend doesn't exist or is no choice (02, N8).
+#[derive(Clone, Copy, Debug, PartialEq, Eq)]
+pub enum Refusal {
+    Faulty(Document, Fault),
     NoImage,
-    NoRoom,
-    Written(usize),
-}
-
-// What reading along the paths finds (02, N4): the first source element whose paths can't be followed stands at this offset; the source
-// doesn't fit the output; or it is written, with this length, and so many target elements are on no followed path.
-#[derive(Drop)]
-pub enum Reading {
-    Missing(usize),
-    NoRoom,
-    Written(usize, usize),
-}
-
-// What an operation on a loaded table finds (02, N8): the type to extend doesn't exist or is no choice; the table that it would give has a
-// fault, whose mark isn't told and is 0; or it is done, and there are so many types.
-#[derive(Clone, Copy)]
-pub enum Extension {
+    Unreadable(usize),
+    ImageTooDeep,
+    ImageTooLong,
+    OutputTooShort,
     NoChoice,
-    Faulty(Fault),
-    Types(usize),
+}
+
+// What was written: its length, and how many elements are filler (of an image that was carried), or are on no followed path (of a
+// document that was read along the paths).
+#[derive(Clone, Copy, Debug, PartialEq, Eq)]
+pub struct Written {
+    pub length: usize,
+    pub filler: usize,
 }
 
 // Why the paths of two members of a source type clash, an earlier and a later one: they are equal; the earlier is a shorter beginning of
 // the later; the later is one of the earlier; they part at a sequence.
-#[derive(Drop)]
+#[derive(Clone, Copy, Debug, PartialEq, Eq)]
 pub enum Reason {
     EqualPaths,
     EarlierBegins,
@@ -80,9 +84,23 @@ pub enum Reason {
     PartAtSequence,
 }
 
+// The number of a reason (02, N9).
+impl From<Reason> for u64 {
+    ghost from_gives = { λ why n. n ≡ reason_number (reason why) };
+
+    fn from(why: Reason) -> u64 {
+        match why {
+            Reason::EqualPaths => codes::EQUAL_PATHS,
+            Reason::EarlierBegins => codes::EARLIER_BEGINS,
+            Reason::LaterBegins => codes::LATER_BEGINS,
+            Reason::PartAtSequence => codes::PART_AT_SEQUENCE,
+        }
+    }
+}
+
 // Two members whose paths clash: their source type; both counted from 1; how many steps the paths share; why they clash; and the offset
 // of the later path's 21.
-#[derive(Drop)]
+#[derive(Clone, Copy, Debug, PartialEq, Eq)]
 pub struct Clash {
     pub source: usize,
     pub earlier: usize,
@@ -92,24 +110,9 @@ pub struct Clash {
     pub mark: usize,
 }
 
-// What a search for paths that clash finds.
-#[derive(Drop)]
-pub enum Search {
-    Nothing,
-    Found(Clash),
-}
-
-// What judging answers: a document is accepted, with a number of types, edges or elements; or the first that is refused has a fault, and a
-// number.
-#[derive(Drop)]
-pub enum Judging {
-    Accepted(usize),
-    Refused(Fault, u64),
-}
-
-// Why an embedding is refused for a clash; or there is none to explain, with the judging answer inside.
-#[derive(Drop)]
+// Why an embedding is refused for a clash; or there is none to explain, with the judging answer inside: a number of edges, or a refusal.
+#[derive(Clone, Copy, Debug, PartialEq, Eq)]
 pub enum Explanation {
     Explained(Clash),
-    Unexplained(Judging),
+    Unexplained(Result<usize, Refusal>),
 }

@@ -1,0 +1,19 @@
+-- `from` meets its contract, case by case.
+use Rattle.model.specs.Definitions.Explanation.{reason_number}
+use Rattle.answers.proofs.U64FromReason.from.Goals as goal
+
+pub returns-in-EqualPaths : goal.returns-in-EqualPaths
+unfolding reason_number
+returns-in-EqualPaths c = rw c.in-EqualPaths.is
+
+pub returns-in-EarlierBegins : goal.returns-in-EarlierBegins
+unfolding reason_number
+returns-in-EarlierBegins c = rw c.in-EarlierBegins.is
+
+pub returns-in-LaterBegins : goal.returns-in-LaterBegins
+unfolding reason_number
+returns-in-LaterBegins c = rw c.in-LaterBegins.is
+
+pub returns-in-PartAtSequence : goal.returns-in-PartAtSequence
+unfolding reason_number
+returns-in-PartAtSequence c = rw c.in-PartAtSequence.is
