@@ -1,6 +1,6 @@
 -- The loop of the form check: what its machine does at each command, and what is left behind it.
 use mathlib.Core.Path.{◌≡◌, refl, sym, ◌∙◌}
-use mathlib.Core.Bool.{Bool, false}
+use mathlib.Core.Bool.{false}
 use mathlib.Core.List.{List}
 use Rattle.std.specs.Prelude.{⊤}
 use Prim.Native.Nat.{ℕ, zero, suc, ◌+◌, ◌-◌, ◌≤◌, ◌<◌}
@@ -11,8 +11,6 @@ use Rattle.model.specs.Definitions.Basics.{pick, passes, fails, Next, goes, stop
 use Rattle.model.specs.Definitions.Commands.{TreeCommand, opens, character, closes, tree_end, alien_t, tree_command, tree_commands, tree_width}
 use Rattle.model.specs.Definitions.TreeChecks.{TreeState, no_root, inside, root_closed, tree_ended, closed, tree_step, tree_complete, tree_form}
 use Rattle.model.proofs.Theorems.Reading.{raw_at, tree_reads, left_stops, left_goes, goes_within, left_ends, no_tree-commands}
-use Rattle.checking.specs.Checks.{Ending}
-use Rattle.checking.proofs.Machines.{Moved, moved, ending}
 use Rattle.tree_form.specs.Form.{state, form_left, Shallow, InForm, AfterEnd}
 use Rattle.tree_form.specs.Commands.{command, ReadsCommand}
 use Rattle.tree_form.specs.declared.command.TreeCommand.TheVariants as code
@@ -27,15 +25,6 @@ form_alien no_root = refl
 form_alien (inside n) = refl
 form_alien root_closed = refl
 form_alien tree_ended = refl
-
--- what the machine makes of the command at an offset
-pub form_moved : (bs : List ℕ) (at : ℕ) {c : TreeCommand} (s : TreeState) (m : Next TreeState) → at < length bs → c ≡ tree_command (raw_at bs at) → tree_step s c ≡ m
-    → Moved tree_commands tree_width alien_t tree_step tree_complete form_alien bs at s c m
-form_moved bs at s m h e = moved tree_commands tree_width alien_t tree_step tree_complete form_alien s m (rw e (tree_reads bs at h))
-
--- what it says at the end
-pub form_ending : (s : TreeState) {may : Bool} → tree_complete s ≡ may → Ending form_left s may
-form_ending s = ending tree_commands tree_width alien_t tree_step tree_complete form_alien no_tree-commands s
 
 -- behind a close in an element that is in another
 pub closed_inside : (around : ℕ) → (around ≡ 0 → ⊥) → inside (around - 1) ≡ closed around
@@ -224,11 +213,3 @@ not_ended states.NoRoot h = refl
 not_ended (states.Inside n) h = refl
 not_ended states.RootClosed h = refl
 not_ended states.Ended h = absurd (h refl)
-
--- every command has a byte
-pub some_width : (c : commands.TreeCommand) → 1 ≤ tree_width (command c)
-unfolding tree_width
-some_width (code.Opens t) = omega arith
-some_width (code.Character b) = omega arith
-some_width code.Closes = omega arith
-some_width code.End = omega arith
