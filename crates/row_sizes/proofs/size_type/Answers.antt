@@ -11,27 +11,21 @@ pub loop-j-init : goal.loop-j-init
 loop-j-init c = (record { long = refl; kept = λ r sized. sized }, λ i low. absurd (omega arith))
 
 pub overflow_mul-s : goal.overflow_mul-s
-overflow_mul-s c = omega (arith, c.loop-j-test.true, c.rows_of-rows.ensures.0, c.requires.s_bound, c.requires.bounded.few_types)
+overflow_mul-s c = omega (arith, c.rows_of-rows.ensures.0, c.requires.s_bound, c.requires.bounded.few_types)
 
 pub overflow_add-s : goal.overflow_add-s
-overflow_add-s c = omega (arith, c.loop-j-test.true, c.rows_of-rows.ensures.0, c.requires.s_bound, c.requires.bounded.few_types)
+overflow_add-s c = omega (arith, c.rows_of-rows.ensures.0, c.requires.s_bound, c.requires.bounded.few_types)
 
 pub overflow_add-s-in-loop-j : goal.overflow_add-s-in-loop-j
 overflow_add-s-in-loop-j c =
-    omega (arith, c.loop-j-test.true, c.rows_of-rows.ensures.0, c.requires.s_bound, c.requires.bounded.few_types)
+    omega (arith, c.rows_of-rows.ensures.0, c.requires.s_bound, c.requires.bounded.few_types)
 
 pub size_row-requires : goal.size_row-requires
 size_row-requires c = (
-  omega (arith, c.loop-j-test.true, c.rows_of-rows.ensures.0, c.requires.s_bound, c.requires.long.0),
-  omega (arith, c.loop-j-test.true, c.rows_of-rows.ensures.0, c.requires.s_bound, c.requires.long.1, c.loop-j.invariant.0.long),
+  omega (arith, c.rows_of-rows.ensures.0, c.requires.s_bound, c.requires.long.0),
+  omega (arith, c.rows_of-rows.ensures.0, c.requires.s_bound, c.requires.long.1, c.loop-j.invariant.0.long),
   c.requires.within _,
 )
-
-pub overflow_add-j : goal.overflow_add-j
-overflow_add-j c = omega (arith, c.loop-j-test.true, c.rows_of-rows.ensures.0)
-
-pub loop-j-smaller : goal.loop-j-smaller
-loop-j-smaller c = omega (arith, c.loop-j-test.true)
 
 pub loop-j-preserved : goal.loop-j-preserved
 loop-j-preserved c =
@@ -52,7 +46,7 @@ unfolding source_row
 returns c =
     let inv = c.loop-j.invariant in
     let sized = c.size_row-2.ensures in
-    (keeps_both inv.0 sized.0, record { own = λ t chosen. sized.0.kept _ (inv.1 _ (omega (arith, c.loop-j-test.false, c.rows_of-rows.ensures.1 t chosen))); item = rw c.item_row.ensures at sized.1 })
+    (keeps_both inv.0 sized.0, record { own = λ t chosen. sized.0.kept _ (inv.1 _ (omega (arith, c.rows_of-rows.ensures.1 t chosen))); item = rw c.item_row.ensures at sized.1 })
 
 pub shape_of-sizes : goal.shape_of-sizes
 shape_of-sizes c = (returns c).0.long
