@@ -33,8 +33,7 @@ fn member_rows(
     let t = loaded_embedding::target(map, s);
     let count = loaded_table::count(source, s);
     let mut end = at;
-    let mut j = 0;
-    while j < count {
+    for j in 0..count {
         let e = edges(map, s * MAX_MEMBERS + j, CHILD, 1);
         end = own_row(
             target,
@@ -46,7 +45,6 @@ fn member_rows(
             MAX_TYPES + (s * TYPE_ROWS + j),
             end,
         );
-        j += 1;
     }
     end
 }

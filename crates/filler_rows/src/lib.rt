@@ -31,11 +31,9 @@ fn hollow(target: &[u16; TABLE], t: usize, pool: &mut [u8], at: usize) -> usize
     }
     let count = loaded_table::count(target, t);
     let mut place = at;
-    let mut i = 0;
-    while i < count {
+    for i in 0..count {
         let m = loaded_table::member(target, t, i);
         place = put(pool, place, FILLER, m);
-        i += 1;
     }
     place
 }
@@ -57,12 +55,10 @@ pub fn filler_rows(target: &[u16; TABLE], pool: &mut [u8], places: &mut [u32]) -
 {
     let types = loaded_table::types(target);
     let mut at = 0;
-    let mut t = 0;
-    while t < types {
+    for t in 0..types {
         let end = hollow(target, t, pool, at);
         place(places, t, at, end, 0);
         at = end;
-        t += 1;
     }
     at
 }

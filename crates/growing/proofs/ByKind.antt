@@ -20,7 +20,7 @@ use Rattle.model.proofs.Theorems.Placing.{under_same}
 use Rattle.loaded_table.specs.Loaded.{Bounded, kind_from, table_by, types_in, kinds_of, counts_of, members_in, length_of_lem, kind_of_lem}
 use Rattle.loaded_table.specs.Kinds.{choice_code, code_choice, code_sequence, code_list}
 use Rattle.rows.specs.Laws.{entry_there}
-use Rattle.growing.specs.declared.Span.{Span}
+use Rattle.std.specs.declared.ops.Range.{Range}
 use Rattle.growing.specs.Growing.{MemberRange}
 
 -- ---- entries of a list
@@ -41,15 +41,15 @@ member_at target t j = get_or (members_in target) (t * 16 + (j - 1)) 0
 
 -- What an element of type t holds is what the members in the span hold, each by what is placed under its step; each of them
 -- exists and has room for that.
-pub record Grows (target : List ℕ) (n t : ℕ) (ps : List (Placement Shape)) (r : Span) : Type 0 where
-  pub low : 1 ≤ r.from
-  pub ordered : r.from ≤ r.to
-  pub high : r.to ≤ 17
+pub record Grows (target : List ℕ) (n t : ℕ) (ps : List (Placement Shape)) (r : Range ℕ) : Type 0 where
+  pub low : 1 ≤ r.start
+  pub ordered : r.start ≤ r.end
+  pub high : r.end ≤ 17
   pub positive : 0 < n
   pub same : grow shaped (table_by target) (fillers shaped (table_by target)) n t ps
-      ≡ grow_members shaped (λ m qs. grow shaped (table_by target) (fillers shaped (table_by target)) (n - 1) m qs) ps r.from (members_from target t r.from r.to)
-  pub is_type : (j : ℕ) → r.from ≤ j → j < r.to → member_at target t j < types_in target
-  pub each : (j : ℕ) → r.from ≤ j → j < r.to → Fits (table_by target) (n - 1) (member_at target t j) (under j ps)
+      ≡ grow_members shaped (λ m qs. grow shaped (table_by target) (fillers shaped (table_by target)) (n - 1) m qs) ps r.start (members_from target t r.start r.end)
+  pub is_type : (j : ℕ) → r.start ≤ j → j < r.end → member_at target t j < types_in target
+  pub each : (j : ℕ) → r.start ≤ j → j < r.end → Fits (table_by target) (n - 1) (member_at target t j) (under j ps)
 
 module _ {target : List ℕ} (bounded : Bounded target) (wf : WellFormed (table_by target)) {t : ℕ} (exists : t < types_in target) where
   abbrev T : Table
@@ -104,7 +104,7 @@ module _ {target : List ℕ} (bounded : Bounded target) (wf : WellFormed (table_
     less_one = omega arith
 
     -- one member, on the path's step, of a type with another kind than a sequence
-    by_one : (r : Span) (m : ℕ) → 1 ≤ q → q ≤ 16 → member_at target t q ≡ m → r.from ≡ q → r.to ≡ q + 1
+    by_one : (r : Range ℕ) (m : ℕ) → 1 ≤ q → q ≤ 16 → member_at target t q ≡ m → r.start ≡ q → r.end ≡ q + 1
         → grow shaped T (fillers shaped T) (suc n) t ps ≡ framed true m (inside m (under q ps)) bare
         → m < types_in target → Fits T n m (under q ps) → Grows target (suc n) t ps r
     unfolding grow_members shaped is_placed
@@ -119,7 +119,7 @@ module _ {target : List ℕ} (bounded : Bounded target) (wf : WellFormed (table_
           each = λ j l h. let here : j ≡ q = omega arith in rw (here, is, less_one) fits;
         }
 
-    by-sequence : (ms : List ℕ) → kind_of T t ≡ sequence ms → ((p m : ℕ) → entry p ms ≡ some m → Fits T n m (under p ps)) → (r : Span) → MemberRange target t q r
+    by-sequence : (ms : List ℕ) → kind_of T t ≡ sequence ms → ((p m : ℕ) → entry p ms ≡ some m → Fits T n m (under p ps)) → (r : Range ℕ) → MemberRange target t q r
         → Grows target (suc n) t ps r
     unfolding grow grow_kind members_of
     by-sequence ms kind fits r spans =
@@ -141,7 +141,7 @@ module _ {target : List ℕ} (bounded : Bounded target) (wf : WellFormed (table_
           each = λ j l h. rw less_one (fits j _ (at j (omega (arith, span.0)) (omega (arith, span.1))));
         }
 
-    by-choice : (need : Need) (ms : List ℕ) → kind_of T t ≡ choice need ms → step_from (choice need ms) q ≡ some (next T t q) → Fits T n (next T t q) (under q ps) → (r : Span) → MemberRange target t q r
+    by-choice : (need : Need) (ms : List ℕ) → kind_of T t ≡ choice need ms → step_from (choice need ms) q ≡ some (next T t q) → Fits T n (next T t q) (under q ps) → (r : Range ℕ) → MemberRange target t q r
         → Grows target (suc n) t ps r
     unfolding grow grow_kind members_of step_from shaped
     by-choice need ms kind step fits r spans =
@@ -151,7 +151,7 @@ module _ {target : List ℕ} (bounded : Bounded target) (wf : WellFormed (table_
         by_one r (next T t q) here.0 (omega (arith, here.1, bounded.few_members t)) here.2 span.0 span.1 (rw kind refl)
         (member_exists _ (rw kind (entry_member q ms step))) fits
 
-    by-list : (m : ℕ) → kind_of T t ≡ list m → q ≡ 1 → Fits T n m (under q ps) → (r : Span) → MemberRange target t q r → Grows target (suc n) t ps r
+    by-list : (m : ℕ) → kind_of T t ≡ list m → q ≡ 1 → Fits T n m (under q ps) → (r : Range ℕ) → MemberRange target t q r → Grows target (suc n) t ps r
     unfolding grow grow_kind members_of shaped
     by-list m kind one fits r spans =
         let found = code_list code count row m (kind_here (list m) kind) in
@@ -163,7 +163,7 @@ module _ {target : List ℕ} (bounded : Bounded target) (wf : WellFormed (table_
 -- what an element holds below which a path goes on with step q
 pub grows : {target : List ℕ} → Bounded target → WellFormed (table_by target) → {n t : ℕ} → t < types_in target → (ps : List (Placement Shape))
     → Fits (table_by target) n t ps → (q : ℕ) (path : List ℕ) (a : Shape) (qs : List (Placement Shape)) → ps ≡ placed (q ∷ path) a ∷ qs
-    → (r : Span) → MemberRange target t q r → Grows target n t ps r
+    → (r : Range ℕ) → MemberRange target t q r → Grows target n t ps r
 grows {target = target} bounded wf {t = t} exists [] nothing_placed q path a qs is r spans = let z : ◌≡◌ {A = ℕ} 0 1 = cc in absurd (omega arith)
 grows {target = target} bounded wf {t = t} exists (placed [] b ∷ []) right_here q path a qs is r spans = let z : ◌≡◌ {A = ℕ} 0 1 = cc in absurd (omega arith)
 grows {target = target} bounded wf {n = n} {t = t} exists (placed [] b ∷ (_ ∷ _)) fits q path a qs is r spans = elim fits [ ]

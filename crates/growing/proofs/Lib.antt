@@ -1,3 +1,4 @@
 pub mod Following
 pub mod ByKind
 pub mod Members
+pub mod FirstSteps

@@ -17,7 +17,7 @@ use Rattle.loaded_embedding.specs.Loaded.{steps_from}
 use Rattle.rows.specs.Rows.{symbol_of, hole_of}
 use Rattle.rows.specs.Symbols.{filler_of_lem, is_opening, is_hole, is_closing}
 use Rattle.growing.specs.declared.Edges.{Edges}
-use Rattle.growing.specs.declared.Span.{Span}
+use Rattle.std.specs.declared.ops.Range.{Range}
 use Rattle.growing.specs.Growing.{first_of, placement_of, placements_from, placements_of, PathsReadable, Puts, MemberRange, Task, element_row}
 use Rattle.growing.specs.Laws.{puts_none, puts_then, puts-length, puts-after}
 use Rattle.growing.specs.Parts.{fits_positive, held, first_path_lem, row_none, row-built}
@@ -69,7 +69,7 @@ module _ (target em : List ℕ) (e : Edges) (n t : ℕ) (some : e.count ≡ 0 �
 
 -- members before member j are written, and with those from j on they are all that the element holds
 pub record Members (target em : List ℕ) (e : Edges) (n t : ℕ) (old : List ℕ) (start from to : ℕ) (pool : List ℕ) (j place : ℕ) : Type 0 where
-  pub growing : Grows target n t (placements_of em e) (record { from = from; to = to })
+  pub growing : Grows target n t (placements_of em e) (record { start = from; «end» = to })
   pub room : start + length (held target em e n t) + 1 ≤ length old
   pub low : from ≤ j
   pub high : j ≤ to
@@ -81,8 +81,8 @@ pub record Members (target em : List ℕ) (e : Edges) (n t : ℕ) (old : List �
 -- none is written
 pub members_none : {target em : List ℕ} {e : Edges} {n t : ℕ} {old : List ℕ} {start : ℕ} (task : Task target em e n t) (some : e.count ≡ 0 → ⊥)
     → start + length (held target em e n t) + 1 ≤ length old → (get_or e.left 0 0 ≡ 0 → ⊥)
-    → (r : Span) → MemberRange target t (first_of (steps_from em (get_or e.next 0 0) (get_or e.left 0 0))) r
-    → Members target em e n t old start r.from r.to old r.from start
+    → (r : Range ℕ) → MemberRange target t (first_of (steps_from em (get_or e.next 0 0) (get_or e.left 0 0))) r
+    → Members target em e n t old start r.start r.end old r.start start
 members_none {target} {em} {e} {n} {t} {old} {start} task some room more r spans =
     let g : Grows target n t (placements_of em e) r =
     grows task.bounded task.well_formed task.is_type (placements_of em e) task.fits _ _ _ _ (path_goes_on target em e n t some more) r spans in
@@ -109,11 +109,8 @@ module _ {target em : List ℕ} {e : Edges} {n t : ℕ} {old : List ℕ} {start 
       let all : now.so_far ++ [] ≡ held target em e n t = rw none at now.whole in
       subst (λ (row : List Symbol). Puts old pool start row place) (sym (append-nil now.so_far) ∙ all) now.puts
 
-  pub closing_fits : to ≤ j → place < length pool
-  closing_fits over = omega (arith, puts-after (members_all over), puts-length now.puts, now.room)
-
   module _ (less : j < to) where
-    pub member-place : (t < 64) × (j - 1 < 16)
+    member-place : (t < 64) × (j - 1 < 16)
     member-place = (omega (arith, task.is_type, task.bounded.few_types), omega (arith, now.growing.high, now.low, now.growing.low))
 
     abbrev m : ℕ
@@ -181,7 +178,7 @@ module _ {target em : List ℕ} {e : Edges} {n t : ℕ} {old : List ℕ} {start 
 -- ---- the whole element
 
 module _ {target em : List ℕ} {e : Edges} {n t : ℕ} (task : Task target em e n t) where
-  pub small : t < 64
+  small : t < 64
   small = omega (arith, task.is_type, task.bounded.few_types)
 
   -- filler is one symbol
@@ -199,10 +196,6 @@ module _ {target em : List ℕ} {e : Edges} {n t : ℕ} (task : Task target em e
 
     pub opening-fits : {at long : ℕ} → at + length (element_row target em e n t) ≤ long → (at < long) × (0 + t < 256)
     opening-fits room = (omega (arith, room, built-length), omega (arith, small))
-
-    -- the first step can be read
-    pub step-reads : 0 < get_or e.left 0 0 → get_or e.next 0 0 < length em
-    step-reads more = omega (arith, task.paths.within 0 (omega arith))
 
     module _ {old pool : List ℕ} {at inside : ℕ} (opened : Puts old pool at (symbol_of (0 + t) ∷ []) inside) where
       pub inside-fits : at + length (element_row target em e n t) ≤ length old → inside + length (held target em e n t) + 1 ≤ length pool

@@ -10,7 +10,7 @@ use Rattle.loaded_table.specs.Loaded.{Bounded, table_by, types_in, kinds_of, cou
 use Rattle.loaded_embedding.specs.Loaded.{steps_from}
 use Rattle.rows.specs.Rows.{symbol_of, hole_of, IsHole}
 use Rattle.growing.specs.declared.Edges.{Edges}
-use Rattle.growing.specs.declared.Span.{Span}
+use Rattle.std.specs.declared.ops.Range.{Range}
 
 -- ---- paths
 
@@ -59,9 +59,9 @@ pub record Puts (old new : List ℕ) (at : ℕ) (row : List Symbol) (next : ℕ)
   pub means : map symbol_of numbers ≡ row
 
 -- all members of a sequence, else the one that step q names
-pub record MemberRange (target : List ℕ) (t q : ℕ) (r : Span) : Type 0 where
-  pub of_sequence : get_or (kinds_of target) t 0 ≡ sequence_kind → (r.from ≡ 1) × (r.to ≡ get_or (counts_of target) t 0 + 1)
-  pub of_other : (get_or (kinds_of target) t 0 ≡ sequence_kind → ⊥) → (r.from ≡ q) × (r.to ≡ q + 1)
+pub record MemberRange (target : List ℕ) (t q : ℕ) (r : Range ℕ) : Type 0 where
+  pub of_sequence : get_or (kinds_of target) t 0 ≡ sequence_kind → (r.start ≡ 1) × (r.end ≡ get_or (counts_of target) t 0 + 1)
+  pub of_other : (get_or (kinds_of target) t 0 ≡ sequence_kind → ⊥) → (r.start ≡ q) × (r.end ≡ q + 1)
 
 -- ---- elements
 

@@ -3,7 +3,7 @@
 
 #![tactic(auto)]
 
-ghost use Rattle.std.specs.Prelude.{◌≡◌, [], ◌∷◌, ◌+◌, ◌≤◌, ◌<◌, length};
+ghost use Rattle.std.specs.Prelude.{◌≡◌, [], ◌∷◌, ◌+◌, ◌≤◌, ◌<◌, length, MatchOption};
 ghost use Rattle.model.specs.Definitions.Image.{under};
 ghost use Rattle.loaded_embedding.specs.Loaded.{steps_from};
 ghost use Rattle.rows.specs.Rows.{symbol_of};
@@ -14,6 +14,7 @@ ghost use Rattle.model.specs.Definitions.Refusals.{max_length};
 use codes::MAX_MEMBERS;
 use loaded_table::{SEQUENCE, TABLE};
 use rows::{CLOSING, FILLER, OPENING};
+use std::ops::Range;
 
 // The paths still to be followed below a target element: path j goes on with left[j] steps, the first at offset next[j] of the
 // embedding's document, to the hole with the number hole[j].
@@ -54,23 +55,15 @@ pub fn pushed(e: Edges, next: u16, left: u8, hole: u8) -> Edges
     out
 }
 
-// A byte at full width.
-fn wide(x: u8) -> usize
-    ensures { (result ≡ x) × (result < 256) }
-{
-    x as usize
-}
-
-// The first of `left` steps that begin at offset o; 0 where there is none.
-fn first_step(em: &[u8], o: u16, left: u8) -> usize
+// The first of `left` steps that begin at offset o, if there is one.
+fn first_step(em: &[u8], o: u16, left: u8) -> Option<usize>
     requires { 0 < left → o < length em.now }
-    ensures { (result ≡ first_of (steps_from em.now o left)) × (result < 256) }
+    ensures { MatchOption result (left ≡ 0) (λ q. (0 < left) × (q ≡ first_of (steps_from em.now o left)) × (q < 256)) }
 {
     if left == 0 {
-        return 0;
+        return None;
     }
-    let place = o as usize;
-    wide(em[place])
+    Some(usize::from(em[usize::from(o)]))
 }
 
 // The paths whose first step is q, that step taken.
@@ -84,12 +77,10 @@ fn beyond(em: &[u8], e: Edges, q: usize) -> Edges
     let left = e.left;
     let hole = e.hole;
     let mut sub = no_edges();
-    let mut i = 0;
-    while i < count {
-        if first_step(em, next[i], left[i]) == q {
+    for i in 0..count {
+        if first_step(em, next[i], left[i]) == Some(q) {
             sub = pushed(sub, next[i] + 2, left[i] - 1, hole[i]);
         }
-        i += 1;
     }
     sub
 }
@@ -103,26 +94,16 @@ pub fn put(pool: &mut [u8], at: usize, base: u8, number: usize) -> usize
     at + 1
 }
 
-// Members from, from + 1, .., to - 1, counted from 1.
-#[derive(Drop)]
-pub struct Span {
-    pub from: usize,
-    pub to: usize,
-}
-
-// The members of type t that are built below it, where the first path takes step q: all of a sequence, else the one that q names.
-fn members_below(target: &[u16; TABLE], t: usize, q: usize) -> Span
+// The members of type t, counted from 1, that are built below it, where the first path takes step q: all of a sequence, else the
+// one that q names.
+fn members_below(target: &[u16; TABLE], t: usize, q: usize) -> Range<usize>
     requires { (t < max_types) × (q < 256) }
     ensures { MemberRange target.now t q result }
 {
     if loaded_table::kind(target, t) == SEQUENCE {
-        let count = loaded_table::count(target, t);
-        return Span {
-            from: 1,
-            to: count + 1,
-        };
+        return 1..loaded_table::count(target, t) + 1;
     }
-    Span { from: q, to: q + 1 }
+    q..q + 1
 }
 
 // Writes an element of type t with what stands along the paths below it, which all have less than n steps; filler where there is
@@ -148,20 +129,16 @@ pub fn element(
     let left = e.left;
     let hole = e.hole;
     let inside = put(pool, at, OPENING, t);
-    if left[0] == 0 {
+    let Some(q) = first_step(em, next[0], left[0]) else {
         let end = put(pool, inside, hole[0], 0);
         return put(pool, end, CLOSING, 0);
-    }
-    let q = first_step(em, next[0], left[0]);
+    };
     let members = members_below(target, t, q);
-    let to = members.to;
-    let mut j = members.from;
     let mut place = inside;
-    while j < to {
+    for j in members {
         let m = loaded_table::member(target, t, j - 1);
         let sub = beyond(em, e, j);
         place = element(target, em, sub, n - 1, m, pool, place);
-        j += 1;
     }
     put(pool, place, CLOSING, 0)
 }

@@ -19,19 +19,12 @@ pub const STARTS: usize = 64;
 
 pub const LENGTHS: usize = 1088;
 
-// A number at full width.
-fn wide(x: u16) -> usize
-    ensures { (result ≡ x) × (result < 65536) }
-{
-    x as usize
-}
-
 // A number of an embedding.
 fn number(map: &[u16; MAP], i: usize) -> usize
     requires { i < map_size }
     ensures { (result ≡ get_or map.now i 0) × (result < 65536) }
 {
-    wide(map[i])
+    usize::from(map[i])
 }
 
 // The type that source type s is mapped to.

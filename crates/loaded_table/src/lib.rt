@@ -50,19 +50,12 @@ pub fn is_choice(kind: usize) -> bool
     }
 }
 
-// A number at full width.
-fn wide(x: u16) -> usize
-    ensures { (result ≡ x) × (result < 65536) }
-{
-    x as usize
-}
-
 // A number of a table.
 fn number(table: &[u16; TABLE], i: usize) -> usize
     requires { i < table_size }
     ensures { (result ≡ get_or table.now i 0) × (result < 65536) }
 {
-    wide(table[i])
+    usize::from(table[i])
 }
 
 // The number of types.

@@ -38,10 +38,8 @@ pub fn edges(map: &[u16; MAP], first: usize, hole: u8, count: usize) -> Edges
     ensures { EdgesFrom map.now first hole count result }
 {
     let mut e = no_edges();
-    let mut i = 0;
-    while i < count {
+    for i in 0..count {
         e = with_edge(map, e, first + i, hole + (i as u8));
-        i += 1;
     }
     e
 }

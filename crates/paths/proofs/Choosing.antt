@@ -43,11 +43,12 @@ module _ {target em : List ℕ} {start steps t i τ : ℕ} (now : Chooses target
   ends_here none_before = (now.high, sym (now.before ∙ ap (λ (l : List ℕ). steps_from em (start + 2) i ++ l) none_before ∙ append-nil (steps_from em (start + 2) i)))
 
   -- there is no choice
-  pub chooses_none : steps ≤ i → Depth
+  pub chooses_none : steps ≤ i → (steps ≤ steps) × (steps_from em (start + 2) steps ≡ before_choice T t (steps_from em (start + 2) steps))
   unfolding before_choice steps_from
   chooses_none over =
       let none_left : steps - i ≡ 0 = omega arith in
-      ends_here (rw none_left)
+      let all : i ≡ steps = omega arith in
+      (omega arith, ap (steps_from em (start + 2)) (sym all) ∙ (ends_here (rw none_left)).1)
 
   module _ (less : i < steps) {p : ℕ} (read : p ≡ get_or em (start + 2 + 2 * i) 0) where
     abbrev later : List ℕ

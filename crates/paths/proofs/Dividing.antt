@@ -98,13 +98,13 @@ module _ {target em : List ℕ} {start steps t i τ : ℕ} (now : Divides target
   whole = divide T t (steps_from em (start + 2) steps)
 
   -- there is no list
-  pub divides_none : steps ≤ i → Cuts em start steps whole (record { depth = i; item = 0 })
+  pub divides_none : steps ≤ i → Cuts em start steps whole (record { depth = steps; item = 0 })
   unfolding divide steps_from
   divides_none over =
       let none_left : steps - i ≡ 0 = omega arith in
       let long : length whole.before ≡ i + 0 = rw none_left at now.before in
       let item : whole.item ≡ 0 = rw none_left at now.item in
-      cut_by em start steps whole (record { depth = i; item = 0 }) (divide_cuts T t em start steps) (omega arith) (sym item)
+      cut_by em start steps whole (record { depth = steps; item = 0 }) (divide_cuts T t em start steps) (omega arith) (sym item)
 
   module _ (less : i < steps) {p r : ℕ} (read : p ≡ get_or em (start + 2 + 2 * i) 0) (is : r ≡ get_or (members_in target) (τ * 16 + (p - 1)) 0) where
     abbrev later : List ℕ

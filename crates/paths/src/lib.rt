@@ -18,20 +18,13 @@ pub struct Cut {
     pub item: usize,
 }
 
-// A byte at full width.
-fn wide(x: u8) -> usize
-    ensures { (result ≡ x) × (result < 256) }
-{
-    x as usize
-}
-
 // Step d of a path, counted from 0.
 pub fn step(em: &[u8], start: usize, d: usize) -> usize
     requires { start + 2 + 2 * d < length em.now }
     ensures { (result ≡ get_or em.now (start + 2 + 2 * d) 0) × (result < 256) }
 {
     let place = start + 2 + 2 * d;
-    wide(em[place])
+    usize::from(em[place])
 }
 
 // Where a path from type t is divided at its first list; without a list, after its last step. The loop takes one step a turn.
@@ -39,9 +32,8 @@ pub fn list_depth(target: &[u16; TABLE], em: &[u8], start: usize, steps: usize, 
     requires { Followable target.now em.now start steps t }
     ensures { Cuts em.now start steps (divide (table_by target.now) t (steps_from em.now (start + 2) steps)) result }
 {
-    let mut d = 0;
     let mut here = t;
-    while d < steps {
+    for d in 0..steps {
         let p = step(em, start, d);
         let next = member(target, here, p - 1);
         if LIST <= kind(target, here) {
@@ -51,9 +43,11 @@ pub fn list_depth(target: &[u16; TABLE], em: &[u8], start: usize, steps: usize, 
             };
         }
         here = next;
-        d += 1;
     }
-    Cut { depth: d, item: 0 }
+    Cut {
+        depth: steps,
+        item: 0,
+    }
 }
 
 // The number of steps before the first step of a path from type t that leaves a choice of either kind; without one, all. The loop
@@ -62,15 +56,13 @@ pub fn choice_depth(target: &[u16; TABLE], em: &[u8], start: usize, steps: usize
     requires { Followable target.now em.now start steps t }
     ensures { (result ≤ steps) × (steps_from em.now (start + 2) result ≡ before_choice (table_by target.now) t (steps_from em.now (start + 2) steps)) }
 {
-    let mut d = 0;
     let mut here = t;
-    while d < steps {
+    for d in 0..steps {
         if is_choice(kind(target, here)) {
             return d;
         }
         let p = step(em, start, d);
         here = member(target, here, p - 1);
-        d += 1;
     }
-    d
+    steps
 }

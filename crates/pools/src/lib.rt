@@ -51,10 +51,8 @@ fn edges_room(map: &[u16; MAP], all: usize) -> usize
     ensures { (result ≡ edge_room map.now 0 all) × (result ≤ all * most_of_edge) }
 {
     let mut total = 0;
-    let mut i = 0;
-    while i < all {
+    for i in 0..all {
         total += STEP_ROOM * loaded_embedding::steps(map, i) + EDGE_ROOM;
-        i += 1;
     }
     total
 }
@@ -76,10 +74,8 @@ fn nothing_room(source: &[u16; TABLE], map: &[u16; MAP], types: usize) -> usize
     ensures { (result ≡ nothing_room source.now map.now 0 types) × (result ≤ types * most_of_edge) }
 {
     let mut total = 0;
-    let mut s = 0;
-    while s < types {
+    for s in 0..types {
         total += nothing_of(source, map, s);
-        s += 1;
     }
     total
 }

@@ -54,9 +54,7 @@ pub fn prepare(
 {
     let types = loaded_table::types(source);
     let mut at = filler_rows(target, pool, places);
-    let mut s = 0;
-    while s < types {
+    for s in 0..types {
         at = type_rows(source, target, map, em, s, pool, places, at);
-        s += 1;
     }
 }

@@ -2,10 +2,10 @@
 
 #![tactic(auto)]
 
-ghost use Rattle.std.specs.Prelude.{◌≡◌, List, ℕ, ◌+◌, ◌-◌, ◌*◌, ◌≤◌, ◌<◌, max, length};
+ghost use Rattle.std.specs.Prelude.{◌≡◌, List, ℕ, ◌+◌, ◌*◌, ◌≤◌, ◌<◌, length};
 ghost use Rattle.std.proofs.Math.Option.{Option};
 ghost use Rattle.model.specs.Definitions.Table.{kind_of};
-ghost use Rattle.loaded_table.specs.Loaded.{Bounded, types_in, table_by, held_length};
+ghost use Rattle.loaded_table.specs.Loaded.{Bounded, types_in, table_by};
 ghost use Rattle.loaded_setting.specs.Ready.{setting_in, Ready};
 ghost use Rattle.rows.specs.Rows.{type_rows, to_of, row_in, row_index, FirstChild, Rows, Sizes, HasRow, HasRows, IsWord};
 ghost use Rattle.row_sizes.specs.Sizing.{Small, AddsSymbol, Measures, Sized, Keeps, TypeSized};
@@ -23,77 +23,38 @@ pub struct Sums {
     pub filler: usize,
 }
 
-// A byte at full width.
-fn wide(x: u8) -> usize
-    ensures { (result ≡ x) × (result < 256) }
-{
-    x as usize
-}
-
-// A number held at 60,001.
-fn held(x: usize) -> usize
-    ensures { result ≡ held_length x }
-{
-    if x < OVER_BYTES {
-        return x;
-    }
-    OVER_BYTES
-}
-
-// The larger of two numbers.
-fn larger(a: usize, b: usize) -> usize
-    ensures { result ≡ max a b }
-{
-    if a < b {
-        return b;
-    }
-    a
-}
-
-// One less, 0 for 0.
-fn one_less(x: usize) -> usize
-    ensures { result ≡ x - 1 }
-{
-    if x == 0 {
-        return 0;
-    }
-    x - 1
-}
-
 // One symbol more.
-fn with_symbol(target: &[u16; TABLE], s: Sums, n: usize) -> Sums
+fn with_symbol(target: &[u16; TABLE], s: Sums, x: u8) -> Sums
     requires { Small s }
-    ensures { AddsSymbol target.now n s result }
+    ensures { AddsSymbol target.now x s result }
 {
     let depth = s.depth;
     let levels = s.levels;
-    if n < wide(FILLER) {
+    if x < FILLER {
         return Sums {
             depth: depth + 1,
-            levels: held(larger(levels, depth + 1)),
-            bytes: held(s.bytes + ELEMENT_BYTES),
+            levels: levels.max(depth + 1).min(OVER_BYTES),
+            bytes: (s.bytes + ELEMENT_BYTES).min(OVER_BYTES),
             filler: s.filler,
         };
     }
-    if n < wide(CHILD) {
-        let t = n - wide(FILLER);
+    if x < CHILD {
+        let t = usize::from(x - FILLER);
         let height = loaded_table::height(target, t);
         let fill = loaded_table::fill(target, t);
         return Sums {
             depth,
-            levels: held(larger(levels, depth + height)),
-            bytes: held(s.bytes + fill),
-            filler: held(s.filler + fill),
+            levels: levels.max(depth + height).min(OVER_BYTES),
+            bytes: (s.bytes + fill).min(OVER_BYTES),
+            filler: (s.filler + fill).min(OVER_BYTES),
         };
     }
-    if n <= wide(ITEMS) {
+    if x <= ITEMS {
         return s;
     }
     Sums {
-        depth: one_less(depth),
-        levels,
-        bytes: s.bytes,
-        filler: s.filler,
+        depth: depth.saturating_sub(1),
+        ..s
     }
 }
 
@@ -108,10 +69,8 @@ fn row_size(target: &[u16; TABLE], pool: &[u8], from: usize, to: usize, depth: u
         bytes: 0,
         filler: 0,
     };
-    let mut i = from;
-    while i < to {
-        sums = with_symbol(target, sums, wide(pool[i]));
-        i += 1;
+    for i in from..to {
+        sums = with_symbol(target, sums, pool[i]);
     }
     Size {
         levels: sums.levels,
@@ -134,10 +93,8 @@ pub fn size_rows(
     ensures { (map em : List ℕ) → Ready source.now target.now map em → Rows (setting_in source.now target.now map em) pool.now places.now → Sizes (setting_in source.now target.now map em) sizes.new }
 {
     let types = loaded_table::types(source);
-    let mut s = 0;
-    while s < types {
+    for s in 0..types {
         size_type(source, target, pool, places, sizes, s);
-        s += 1;
     }
 }
 
@@ -157,10 +114,8 @@ fn size_type(
     ensures { Keeps target.now pool.now places.now sizes.old sizes.new × TypeSized source.now target.now pool.now places.now sizes.new s }
 {
     let rows = rows_of(source, s);
-    let mut j = 0;
-    while j < rows {
+    for j in 0..rows {
         size_row(target, pool, places, sizes, MAX_TYPES + (s * TYPE_ROWS + j));
-        j += 1;
     }
     size_row(target, pool, places, sizes, item_row(s));
 }

@@ -1,11 +1,11 @@
 -- Laws of rows by number, and of the three numbers that are stored for a row.
 use Rattle.std.specs.Prelude.{◌≡◌, refl, List, [], ◌∷◌, true, false, ℕ, zero, suc, ◌+◌, ◌-◌, ◌*◌, ◌<◌, min, length, take, drop, get_or, set}
 use Rattle.std.proofs.Common.{sym, ap, ◌∙◌, arith, length-set, drop-cons, get_or-set_same, get_or-set_other, eq-eqb, ne_eqb}
-use Rattle.std.proofs.Math.Option.{Option, none, some}
+use Rattle.std.proofs.Math.Option.{Option, some}
 use Rattle.model.specs.Definitions.Basics.{pick, entry}
 use Rattle.loaded_table.specs.Loaded.{kind_from}
 use Rattle.loaded_table.specs.Kinds.{choice_code, other_codes, choice_from}
-use Rattle.rows.specs.Rows.{index_in, member_index, no_child, first_from, row_index, SizeAt, HasRow, set_row}
+use Rattle.rows.specs.Rows.{index_in, member_index, row_index, SizeAt, HasRow, set_row}
 
 -- the place of t in a part of a list: none are left; it stands first; another does
 pub index_none : (t n o : ℕ) (l : List ℕ) → n ≡ 0 → index_in t (take n (drop o l)) ≡ 0
@@ -36,15 +36,6 @@ row_of_choice t code count row e = rw (choice_from code count row e) refl
 pub row_of_other : (t : Option ℕ) (code count : ℕ) (row : List ℕ) → choice_code code ≡ false → row_index (kind_from code count row) t ≡ 0
 unfolding row_index
 row_of_other t code count row = other_codes (λ (k : ℕ). row_index (kind_from k count row) t ≡ 0) refl refl refl (λ k. refl) code
-
--- the type of the first child, as the code holds it
-pub first_none : (n : ℕ) → n ≡ no_child → first_from n ≡ none
-unfolding first_from pick
-first_none n e = rw (eq-eqb n no_child e) refl
-
-pub first_some : (n : ℕ) → (n ≡ no_child → ⊥) → first_from n ≡ some n
-unfolding first_from pick
-first_some n e = rw (ne_eqb n no_child e) refl
 
 -- what stands at a place of a list is the entry of the next number
 pub entry_there : (ms : List ℕ) (j : ℕ) → j < length ms → entry (suc j) ms ≡ some (get_or ms j 0)

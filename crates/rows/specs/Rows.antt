@@ -1,5 +1,5 @@
 -- Prepared templates as arrays: a pool of symbols, places that say where each row stands in it, and the sizes of rows.
-use Rattle.std.specs.Prelude.{◌≡◌, List, [], ◌∷◌, map, ℕ, suc, ◌+◌, ◌-◌, ◌*◌, ◌≤◌, ◌<◌, min, length, take, drop, get_or, set, eqb, ltb}
+use Rattle.std.specs.Prelude.{◌≡◌, List, [], ◌∷◌, map, ℕ, suc, ◌+◌, ◌-◌, ◌*◌, ◌≤◌, ◌<◌, min, length, take, drop, get_or, set, eqb, ltb, Option as Possible, Some, None}
 use Rattle.std.proofs.Math.Option.{Option, none, some}
 use Rattle.model.specs.Definitions.Basics.{pick}
 use Rattle.model.specs.Definitions.Commands.{Need, optional}
@@ -74,13 +74,10 @@ unfoldable pub index_in : ℕ → List ℕ → ℕ
 index_in t [] = 0
 index_in t (m ∷ ms) = pick (eqb t m) 0 (suc (index_in t ms))
 
--- what the code holds for the type of a first child where there is none
-abbrev pub no_child : ℕ
-no_child = 256
-
--- the type of the first child of an element, as the code holds it
-unfoldable pub first_from : ℕ → Option ℕ
-first_from n = pick (eqb n no_child) none (some n)
+-- the type of the first child of an element, if it has one, as the code holds it
+abbrev pub first_from : Possible ℕ → Option ℕ
+first_from None = none
+first_from (Some t) = some t
 
 -- the place of a choice's member among them; where there is none, the place behind them
 unfoldable pub member_index : Option ℕ → List ℕ → ℕ

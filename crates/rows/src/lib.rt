@@ -28,26 +28,16 @@ pub const CLOSING: u8 = 146;
 // Numbers of a row among places and among sizes.
 pub const NUMBERS: usize = 3;
 
-// What stands for the type of the first child of an element that has none: no byte is as large.
-pub const NO_CHILD: usize = 256;
-
 // Rows of a source type: one, or one for each member of a choice, and behind them that of an optional choice that holds nothing; the
 // last is that of an item of a list.
 pub const TYPE_ROWS: usize = 17;
-
-// A number at full width.
-fn wide(x: u32) -> usize
-    ensures { result ≡ x }
-{
-    x as usize
-}
 
 // Where row r begins in the pool.
 pub fn from(places: &[u32], r: usize) -> usize
     requires { HasRow places.now r }
     ensures { result ≡ from_of places.now r }
 {
-    wide(places[NUMBERS * r])
+    places[NUMBERS * r] as usize
 }
 
 // Where it ends.
@@ -55,7 +45,7 @@ pub fn to(places: &[u32], r: usize) -> usize
     requires { HasRow places.now r }
     ensures { result ≡ to_of places.now r }
 {
-    wide(places[NUMBERS * r + 1])
+    places[NUMBERS * r + 1] as usize
 }
 
 // How many elements are open around it.
@@ -63,7 +53,7 @@ pub fn depth(places: &[u32], r: usize) -> usize
     requires { HasRow places.now r }
     ensures { result ≡ depth_in places.now r }
 {
-    wide(places[NUMBERS * r + 2])
+    places[NUMBERS * r + 2] as usize
 }
 
 // The place of t among the first `count` members of type s; `count` where it is not there.
@@ -72,30 +62,28 @@ fn index_of(source: &[u16; TABLE], s: usize, count: usize, t: usize) -> usize
     requires bounded { Bounded source.now }
     ensures { (result ≡ index_in t (take count (drop (s * max_members) (members_in source.now)))) × (result ≤ max_members) }
 {
-    let mut i = 0;
-    while i < count {
+    for i in 0..count {
         if loaded_table::member(source, s, i) == t {
             return i;
         }
-        i += 1;
     }
-    i
+    count
 }
 
-// Which of the rows of the choice s with `count` members is that of a member of type t; for NO_CHILD the one behind them.
-fn choice_index(source: &[u16; TABLE], s: usize, count: usize, t: usize) -> usize
+// Which of the rows of the choice s with `count` members is that of a member of type t; without a type the one behind them.
+fn choice_index(source: &[u16; TABLE], s: usize, count: usize, t: Option<usize>) -> usize
     requires s_lt_max_types { (s < max_types) × (count ≤ max_members) }
     requires bounded { Bounded source.now }
     ensures { (result ≡ member_index (first_from t) (take count (drop (s * max_members) (members_in source.now)))) × (result ≤ max_members) }
 {
-    if t == NO_CHILD {
-        return count;
+    match t {
+        Some(t) => index_of(source, s, count, t),
+        None => count,
     }
-    index_of(source, s, count, t)
 }
 
-// The row of an element of source type s whose first child has type t; NO_CHILD where it has none.
-pub fn source_row(source: &[u16; TABLE], s: usize, t: usize) -> usize
+// The row of an element of source type s whose first child, if it has one, has type t.
+pub fn source_row(source: &[u16; TABLE], s: usize, t: Option<usize>) -> usize
     requires bounded { Bounded source.now }
     requires s_bound { s < types_in source.now }
     ensures { (result ≡ source_row (table_by source.now) s (first_from t)) × (result ≤ item_row s) }
@@ -142,17 +130,10 @@ pub fn size_of(sizes: &[u16], r: usize) -> Size
 {
     let i = NUMBERS * r;
     Size {
-        levels: narrow(sizes[i]),
-        bytes: narrow(sizes[i + 1]),
-        filler: narrow(sizes[i + 2]),
+        levels: usize::from(sizes[i]),
+        bytes: usize::from(sizes[i + 1]),
+        filler: usize::from(sizes[i + 2]),
     }
-}
-
-// A number at full width.
-fn narrow(x: u16) -> usize
-    ensures { result ≡ x }
-{
-    x as usize
 }
 
 // Stores the size of row r.

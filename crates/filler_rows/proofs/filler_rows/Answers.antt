@@ -8,46 +8,37 @@ use Rattle.filler_rows.proofs.Fillers.{fillers_none, fillers_more}
 use Rattle.filler_rows.proofs.filler_rows.Goals as goal
 
 pub loop-t-init : goal.loop-t-init
-loop-t-init c = (omega arith, fillers_none _ _ _ c.requires.within)
+loop-t-init c = fillers_none _ _ _ c.requires.within
 
 pub hollow-end-requires : goal.hollow-end-requires
 hollow-end-requires c =
     let inv = c.loop-t.invariant in
-    let less = c.loop-t-test.true in
     let types = c.types-types.ensures.0 in
-    record { sound = c.requires.sound; t_bound = (omega (arith, less, types), omega (arith, less, types, inv.1.few, inv.1.whole.pool_length, c.requires.room)) }
+    record { sound = c.requires.sound; t_bound = (omega (arith, types), omega (arith, types, inv.few, inv.whole.pool_length, c.requires.room)) }
 
 pub place-requires : goal.place-requires
 place-requires c =
     let inv = c.loop-t.invariant in
     let end = c.hollow-end.ensures in
-    let less = c.loop-t-test.true in
     let types = c.types-types.ensures.0 in
-    (omega (arith, less, types, inv.1.whole.places_length, c.requires.sound.bounded.few_types, c.requires.room), omega (arith, inv.1.whole.fits, c.requires.room), omega (arith, end.1, inv.1.few, less, types, c.requires.room), omega arith)
-
-pub overflow_add-t : goal.overflow_add-t
-overflow_add-t c = omega (arith, c.loop-t-test.true)
-
-pub loop-t-smaller : goal.loop-t-smaller
-loop-t-smaller c = omega (arith, c.loop-t-test.true)
+    (omega (arith, types, inv.whole.places_length, c.requires.sound.bounded.few_types, c.requires.room), omega (arith, inv.whole.fits, c.requires.room), omega (arith, end.1, inv.few, types, c.requires.room), omega arith)
 
 pub loop-t-preserved : goal.loop-t-preserved
 loop-t-preserved c =
     let inv = c.loop-t.invariant in
     let end = c.hollow-end.ensures in
-    let less = c.loop-t-test.true in
     let types = c.types-types.ensures.0 in
-    let fits : c.hollow-end.result ≤ length c.args.pool.now = omega (arith, end.1, inv.1.few, less, types, c.requires.room) in
-    (omega (arith, less), fillers_more inv.1 (made_as_written end.0 (omega (arith, fits, inv.1.whole.pool_length)) c.place.ensures) end.1 fits)
+    let fits : c.hollow-end.result ≤ length c.args.pool.now = omega (arith, end.1, inv.few, types, c.requires.room) in
+    fillers_more inv (made_as_written end.0 (omega (arith, fits, inv.whole.pool_length)) c.place.ensures) end.1 fits
 
 pub shape_of-pool : goal.shape_of-pool
-shape_of-pool c = c.loop-t.invariant.1.whole.pool_length
+shape_of-pool c = c.loop-t.invariant.whole.pool_length
 
 pub shape_of-places : goal.shape_of-places
-shape_of-places c = c.loop-t.invariant.1.whole.places_length
+shape_of-places c = c.loop-t.invariant.whole.places_length
 
 pub returns : goal.returns
 returns c =
     let inv = c.loop-t.invariant in
-    let all : c.loop-t.t ≡ types_in c.args.target.now = omega (arith, inv.0, c.loop-t-test.false, c.types-types.ensures.0) in
-    rw all at inv.1
+    let all : c.loop-t.t ≡ types_in c.args.target.now = omega (arith, c.types-types.ensures.0) in
+    rw all at inv

@@ -1,10 +1,6 @@
 -- `filler_rows` meets its contract.
-use Prim.Native.Nat.{◌-◌, ◌≤◌}
 use Rattle.filler_rows.specs.Storing.{FillersStored}
 use Rattle.filler_rows.proofs.filler_rows.Given as goal
 
 abbrev pub invariant-loop-t : goal.invariant-loop-t
-invariant-loop-t l = (l.t ≤ l.types) × FillersStored l.target l.initial.pool l.initial.places l.t l.pool l.places l.at
-
-abbrev pub decreases-loop-t : goal.decreases-loop-t
-decreases-loop-t l = l.types - l.t
+invariant-loop-t l = FillersStored l.target l.initial.pool l.initial.places l.t l.pool l.places l.at

@@ -35,23 +35,17 @@ loop-i-init c = λ sound exists. hollows_none sound exists _ _
 
 pub member-m-requires : goal.member-m-requires
 member-m-requires c =
-    (small c.requires.sound c.requires.t_bound.0, omega (arith, c.loop-i-test.true, c.count-count.ensures.0, c.requires.sound.bounded.few_members c.args.t))
+    (small c.requires.sound c.requires.t_bound.0, omega (arith, c.count-count.ensures.0, c.requires.sound.bounded.few_members c.args.t))
 
 pub put-place-requires : goal.put-place-requires
 put-place-requires c =
     let now = c.loop-i.invariant c.requires.sound c.requires.t_bound.0 in (
-      omega (arith, hollows-place c.requires.sound c.requires.t_bound.0 now, puts-length now.puts, c.requires.t_bound.1, c.loop-i-test.true, c.count-count.ensures.0, c.requires.sound.bounded.few_members c.args.t),
-      omega (arith, nth-small c.requires.sound c.requires.t_bound.0 now (omega (arith, c.loop-i-test.true, c.count-count.ensures.0)) c.member-m.ensures.0 c.kind-kind.ensures.0 c.if-kind-ne-SEQUENCE.false),
+      omega (arith, hollows-place c.requires.sound c.requires.t_bound.0 now, puts-length now.puts, c.requires.t_bound.1, c.count-count.ensures.0, c.requires.sound.bounded.few_members c.args.t),
+      omega (arith, nth-small c.requires.sound c.requires.t_bound.0 now (omega (arith, c.count-count.ensures.0)) c.member-m.ensures.0 c.kind-kind.ensures.0 c.if-kind-ne-SEQUENCE.false),
     )
 
-pub overflow_add-i : goal.overflow_add-i
-overflow_add-i c = omega (arith, c.loop-i-test.true, c.count-count.ensures.1)
-
-pub loop-i-smaller : goal.loop-i-smaller
-loop-i-smaller c = omega (arith, c.loop-i-test.true)
-
 pub loop-i-preserved : goal.loop-i-preserved
-loop-i-preserved c = λ sound exists. hollows-more sound exists (c.loop-i.invariant sound exists) (omega (arith, c.loop-i-test.true, c.count-count.ensures.0)) c.member-m.ensures.0 c.kind-kind.ensures.0 c.if-kind-ne-SEQUENCE.false c.put-place.ensures
+loop-i-preserved c = λ sound exists. hollows-more sound exists (c.loop-i.invariant sound exists) (omega (arith, c.count-count.ensures.0)) c.member-m.ensures.0 c.kind-kind.ensures.0 c.if-kind-ne-SEQUENCE.false c.put-place.ensures
 
 pub shape_of-pool : goal.shape_of-pool
 shape_of-pool c =
@@ -60,6 +54,6 @@ shape_of-pool c =
 pub returns : goal.returns
 returns c =
     let inv = (c.loop-i.invariant c.requires.sound c.requires.t_bound.0) in (
-      hollows-all c.requires.sound c.requires.t_bound.0 inv (omega (arith, c.loop-i-test.false, c.count-count.ensures.0)) c.kind-kind.ensures.0 c.if-kind-ne-SEQUENCE.false,
+      hollows-all c.requires.sound c.requires.t_bound.0 inv (omega (arith, c.count-count.ensures.0)) c.kind-kind.ensures.0 c.if-kind-ne-SEQUENCE.false,
       omega (arith, hollows-place c.requires.sound c.requires.t_bound.0 inv, inv.high, c.requires.sound.bounded.few_members c.args.t),
     )

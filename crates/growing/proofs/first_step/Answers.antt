@@ -1,12 +1,11 @@
 -- `first_step` meets its contract.
-use mathlib.Core.Path.{◌≡◌, refl, sym, ◌∙◌}
+use mathlib.Core.Path.{◌≡◌, refl, sym}
 use mathlib.Core.List.{List}
 use Prim.Native.Nat.{ℕ, zero, suc}
 use native.Mathlib.Omega.{arith}
 use lib.ListN.{get_or}
 use Rattle.loaded_embedding.specs.Loaded.{steps_from}
 use Rattle.growing.specs.Growing.{first_of}
-use borrow.Author.Rules.{rules}
 use Rattle.growing.proofs.first_step.Goals as goal
 
 -- some step is left
@@ -15,12 +14,5 @@ unfolding first_of steps_from
 first-is em o zero some = absurd (some refl)
 first-is em o (suc left) some = refl
 
-pub returns-then-left-eq0 : goal.returns-then-left-eq0
-unfolding first_of steps_from
-returns-then-left-eq0 c = search (rules, c.if-left-eq0.true)
-
-pub bounds-em-place : goal.bounds-em-place
-bounds-em-place c = c.requires (omega (arith, c.if-left-eq0.false))
-
 pub returns : goal.returns
-returns c = (c.wide.ensures.0 ∙ sym (first-is _ _ _ c.if-left-eq0.false), c.wide.ensures.1)
+returns c = (omega arith, rw (c.from-2.ensures, c.from.ensures) (sym (first-is _ _ _ c.if-left-eq0.false)), omega arith)

@@ -8,33 +8,26 @@ use Rattle.own_rows.proofs.edges.Goals as goal
 
 pub loop-i-init : goal.loop-i-init
 loop-i-init c =
-    (omega arith, subst (λ (e : Edges). EdgesFrom c.args.map.now c.args.first c.args.hole 0 e) (sym c.no_edges-e.ensures) (edges_none _ _ _))
+    subst (λ (e : Edges). EdgesFrom c.args.map.now c.args.first c.args.hole 0 e) (sym c.no_edges-e.ensures) (edges_none _ _ _)
 
 pub overflow_add-first : goal.overflow_add-first
-overflow_add-first c = omega (arith, c.loop-i-test.true, c.requires.count_le_max_members)
+overflow_add-first c = omega (arith, c.requires.count_le_max_members)
 
 pub overflow_cast-i : goal.overflow_cast-i
-overflow_cast-i c = omega (arith, c.loop-i-test.true, c.requires.count_le_max_members)
+overflow_cast-i c = omega (arith, c.requires.count_le_max_members)
 
 pub overflow_add-hole : goal.overflow_add-hole
-overflow_add-hole c = omega (arith, c.loop-i-test.true, c.requires.count_le_max_members)
+overflow_add-hole c = omega (arith, c.requires.count_le_max_members)
 
 pub with_edge-e-requires : goal.with_edge-e-requires
-with_edge-e-requires c = (omega (arith, c.loop-i.invariant.1.many, c.loop-i-test.true, c.requires.count_le_max_members), omega (arith, c.loop-i-test.true, c.requires.count_le_max_members), c.requires.small _)
-
-pub overflow_add-i : goal.overflow_add-i
-overflow_add-i c = omega (arith, c.loop-i-test.true)
-
-pub loop-i-smaller : goal.loop-i-smaller
-loop-i-smaller c = omega (arith, c.loop-i-test.true)
+with_edge-e-requires c = (omega (arith, c.loop-i.invariant.many, c.requires.count_le_max_members), omega (arith, c.requires.count_le_max_members), c.requires.small _)
 
 pub loop-i-preserved : goal.loop-i-preserved
 loop-i-preserved c =
-    let less = c.loop-i-test.true in
-    (omega (arith, less), subst (λ (e : Edges). EdgesFrom c.args.map.now c.args.first c.args.hole (c.loop-i.i + 1) e) (sym c.with_edge-e.ensures) (edges_more_lem c.loop-i.invariant.1 (omega (arith, less, c.requires.count_le_max_members)) c.requires.count_le_max_members.3 (omega (arith, less, c.requires.count_le_max_members))))
+    subst (λ (e : Edges). EdgesFrom c.args.map.now c.args.first c.args.hole (c.loop-i.i + 1) e) (sym c.with_edge-e.ensures) (edges_more_lem c.loop-i.invariant (omega (arith, c.requires.count_le_max_members)) c.requires.count_le_max_members.3 (omega (arith, c.requires.count_le_max_members)))
 
 pub returns : goal.returns
 returns c =
     let inv = c.loop-i.invariant in
-    let all : c.loop-i.i ≡ c.args.count = omega (arith, inv.0, c.loop-i-test.false) in
-    rw all at inv.1
+    let all : c.loop-i.i ≡ c.args.count = omega arith in
+    rw all at inv

@@ -21,7 +21,7 @@ pub loop-i-init : goal.loop-i-init
 loop-i-init c = added_none _ _
 
 pub steps-requires : goal.steps-requires
-steps-requires c = omega (arith, c.loop-i-test.true, c.requires)
+steps-requires c = omega (arith, c.requires)
 
 pub overflow_mul-total : goal.overflow_mul-total
 overflow_mul-total c = omega (arith, c.steps.ensures.1)
@@ -30,17 +30,11 @@ pub overflow_add-total : goal.overflow_add-total
 overflow_add-total c = omega (arith, c.steps.ensures.1)
 
 pub overflow_add-total-in-loop-i : goal.overflow_add-total-in-loop-i
-overflow_add-total-in-loop-i c = omega (arith, c.steps.ensures.1, c.loop-i.invariant.small, c.loop-i-test.true, c.requires)
-
-pub overflow_add-i : goal.overflow_add-i
-overflow_add-i c = omega (arith, c.loop-i-test.true, c.requires)
-
-pub loop-i-smaller : goal.loop-i-smaller
-loop-i-smaller c = omega (arith, c.loop-i-test.true)
+overflow_add-total-in-loop-i c = omega (arith, c.steps.ensures.1, c.loop-i.invariant.small, c.requires)
 
 pub loop-i-preserved : goal.loop-i-preserved
 loop-i-preserved c =
-    added_more c.loop-i.invariant c.loop-i-test.true (omega (arith, c.steps.ensures.1)) (step-more c.args.map.now c.loop-i.i c.steps.ensures.0)
+    added_more c.loop-i.invariant (omega arith) (omega (arith, c.steps.ensures.1)) (step-more c.args.map.now c.loop-i.i c.steps.ensures.0)
 
 pub returns : goal.returns
-returns c = added_all c.loop-i.invariant c.loop-i-test.false (no_room _)
+returns c = added_all c.loop-i.invariant (omega arith) (no_room _)

@@ -19,20 +19,14 @@ pub loop-s-init : goal.loop-s-init
 loop-s-init c = added_none _ _
 
 pub nothing_of-total-requires : goal.nothing_of-total-requires
-nothing_of-total-requires c = omega (arith, c.loop-s-test.true, c.requires)
+nothing_of-total-requires c = omega (arith, c.requires)
 
 pub overflow_add-total : goal.overflow_add-total
-overflow_add-total c = omega (arith, c.nothing_of-total.ensures.1, c.loop-s.invariant.small, c.loop-s-test.true, c.requires)
-
-pub overflow_add-s : goal.overflow_add-s
-overflow_add-s c = omega (arith, c.loop-s-test.true, c.requires)
-
-pub loop-s-smaller : goal.loop-s-smaller
-loop-s-smaller c = omega (arith, c.loop-s-test.true)
+overflow_add-total c = omega (arith, c.nothing_of-total.ensures.1, c.loop-s.invariant.small, c.requires)
 
 pub loop-s-preserved : goal.loop-s-preserved
 loop-s-preserved c =
-    added_more c.loop-s.invariant c.loop-s-test.true c.nothing_of-total.ensures.1 (step-more c.args.source.now c.args.map.now c.loop-s.s c.nothing_of-total.ensures.0)
+    added_more c.loop-s.invariant (omega arith) c.nothing_of-total.ensures.1 (step-more c.args.source.now c.args.map.now c.loop-s.s c.nothing_of-total.ensures.0)
 
 pub returns : goal.returns
-returns c = added_all c.loop-s.invariant c.loop-s-test.false (no_room _ _)
+returns c = added_all c.loop-s.invariant (omega arith) (no_room _ _)

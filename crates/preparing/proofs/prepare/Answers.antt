@@ -8,7 +8,7 @@ filler_rows-at-requires c = record { sound = target_sound c.requires.ready; room
 
 pub loop-s-init : goal.loop-s-init
 loop-s-init c =
-    (omega arith, progress_here (progress_fillers c.requires.ready c.requires.arrays.enough c.filler_rows-at.ensures))
+    (progress_here (progress_fillers c.requires.ready c.requires.arrays.enough c.filler_rows-at.ensures))
 
 pub type_rows-at-requires : goal.type_rows-at-requires
 type_rows-at-requires c =
@@ -18,30 +18,24 @@ type_rows-at-requires c =
       next = record {
         makeable = record {
           ready = c.requires.ready;
-          exists = omega (arith, c.loop-s-test.true, c.types-types.ensures.0);
-          small = omega (arith, c.requires.arrays.short, inv.1.whole.pool_length, fillers.pool_length);
-          long = omega (arith, c.requires.arrays.long, inv.1.whole.places_length, fillers.places_length);
+          exists = omega (arith, c.types-types.ensures.0);
+          small = omega (arith, c.requires.arrays.short, inv.whole.pool_length, fillers.pool_length);
+          long = omega (arith, c.requires.arrays.long, inv.whole.places_length, fillers.places_length);
         };
-        progress = progress_here inv.1;
+        progress = progress_here inv;
       };
     }
 
-pub overflow_add-s : goal.overflow_add-s
-overflow_add-s c = omega (arith, c.loop-s-test.true)
-
-pub loop-s-smaller : goal.loop-s-smaller
-loop-s-smaller c = omega (arith, c.loop-s-test.true)
-
 pub loop-s-preserved : goal.loop-s-preserved
-loop-s-preserved c = (omega (arith, c.loop-s-test.true), progress_on c.loop-s.invariant.1 c.type_rows-at.ensures)
+loop-s-preserved c = (progress_on c.loop-s.invariant c.type_rows-at.ensures)
 
 pub shape_of-pool : goal.shape_of-pool
-shape_of-pool c = c.loop-s.invariant.1.whole.pool_length ∙ c.filler_rows-at.ensures.whole.pool_length
+shape_of-pool c = c.loop-s.invariant.whole.pool_length ∙ c.filler_rows-at.ensures.whole.pool_length
 
 pub shape_of-places : goal.shape_of-places
-shape_of-places c = c.loop-s.invariant.1.whole.places_length ∙ c.filler_rows-at.ensures.whole.places_length
+shape_of-places c = c.loop-s.invariant.whole.places_length ∙ c.filler_rows-at.ensures.whole.places_length
 
 pub returns : goal.returns
 returns c =
     let inv = c.loop-s.invariant in
-    progress_all c.requires.ready (omega (arith, c.requires.arrays.long, c.filler_rows-at.ensures.whole.places_length)) (omega (arith, inv.0, c.loop-s-test.false, c.types-types.ensures.0)) inv.1
+    progress_all c.requires.ready (omega (arith, c.requires.arrays.long, c.filler_rows-at.ensures.whole.places_length)) (omega (arith, c.types-types.ensures.0)) inv

@@ -22,18 +22,6 @@ all-rows {source} bounded s exists e =
 one-row : (code count : ℕ) → (code ≡ 3 → ⊥) → (code ≡ 4 → ⊥) → 1 ≡ row_count code count
 one-row code count a b = other_codes (λ (k : ℕ). 1 ≡ row_count k count) refl refl refl (λ k. refl) code (other_code code a b)
 
-pub kind-kind-requires : goal.kind-kind-requires
-kind-kind-requires c = omega (arith, c.requires.s_bound, c.requires.bounded.few_types)
-
-pub count-requires : goal.count-requires
-count-requires c = omega (arith, c.requires.s_bound, c.requires.bounded.few_types)
-
-pub count-requires-in-4 : goal.count-requires-in-4
-count-requires-in-4 c = omega (arith, c.requires.s_bound, c.requires.bounded.few_types)
-
-pub overflow_add-result : goal.overflow_add-result
-overflow_add-result c = omega (arith, c.count-in-4.ensures.1)
-
 pub returns-in-3 : goal.returns-in-3
 returns-in-3 c =
     all-rows c.requires.bounded c.args.s c.requires.s_bound

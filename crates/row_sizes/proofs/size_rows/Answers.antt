@@ -1,20 +1,8 @@
-use mathlib.Core.Path.{refl, ◌∙◌}
+use mathlib.Core.Path.{◌∙◌}
 use native.Mathlib.Omega.{arith}
 use Rattle.row_sizes.specs.Sizes.{sized_all}
 use Rattle.row_sizes.proofs.Storing.{type_kept, below_more}
 use Rattle.row_sizes.proofs.size_rows.Goals as goal
-
-pub loop-s-init : goal.loop-s-init
-loop-s-init c = (refl, λ i low. absurd (omega arith))
-
-pub size_type-requires : goal.size_type-requires
-size_type-requires c = record { s_bound = omega (arith, c.loop-s-test.true, c.types-types.ensures.0); bounded = c.requires.bounded; long = (c.requires.long.0, omega (arith, c.requires.long.1, c.loop-s.invariant.0)); within = c.requires.within }
-
-pub overflow_add-s : goal.overflow_add-s
-overflow_add-s c = omega (arith, c.loop-s-test.true, c.types-types.ensures.1)
-
-pub loop-s-smaller : goal.loop-s-smaller
-loop-s-smaller c = omega (arith, c.loop-s-test.true)
 
 pub loop-s-preserved : goal.loop-s-preserved
 loop-s-preserved c =
@@ -22,11 +10,8 @@ loop-s-preserved c =
     let sized = c.size_type.ensures in
     (sized.0.long ∙ inv.0, below_more _ _ _ inv.1 (λ i. type_kept sized.0) sized.1)
 
-pub shape_of-sizes : goal.shape_of-sizes
-shape_of-sizes c = c.loop-s.invariant.0
-
 pub returns : goal.returns
 returns c =
     let inv = c.loop-s.invariant in
     λ map em ready rows.
-    sized_all ready rows (omega (arith, c.requires.long.1, inv.0)) (λ s exists. inv.1 s (omega (arith, exists, c.loop-s-test.false, c.types-types.ensures.0)))
+    sized_all ready rows (omega (arith, c.requires.long.1, inv.0)) (λ s exists. inv.1 s (omega (arith, exists, c.types-types.ensures.0)))

@@ -26,34 +26,17 @@ goes_on t n i o l e =
 places-within : {source : List ℕ} {s i : ℕ} → Bounded source → s < 64 → i < 16 → s * 16 + i < length (members_in source)
 places-within {source} {s} {i} b few less = omega (arith, b.size, length-take 1024 (drop 256 source), length-drop 256 source)
 
-pub loop-i-init : goal.loop-i-init
-loop-i-init c = (omega arith, starts c.args.t c.args.count (c.args.s * 16) (members_in c.args.source.now))
-
-pub member-requires : goal.member-requires
-member-requires c = (c.requires.s_lt_max_types.0, omega (arith, c.requires.s_lt_max_types.1, c.loop-i-test.true))
-
 pub returns-then-member-t : goal.returns-then-member-t
 returns-then-member-t c =
-    let loop = c.loop-i in
-    let less = c.loop-i-test.true in
-    let found = index_here c.args.t (c.args.count - loop.i) (c.args.s * 16 + loop.i) (members_in c.args.source.now) (omega (arith, less)) (places-within c.requires.bounded c.requires.s_lt_max_types.0 (omega (arith, less, c.requires.s_lt_max_types.1))) (sym c.member.ensures.0 ∙ c.if-member-t.true) in
-    (omega (arith, loop.invariant.1, found), omega (arith, less, c.requires.s_lt_max_types.1))
-
-pub overflow_add-i : goal.overflow_add-i
-overflow_add-i c = omega (arith, c.requires.s_lt_max_types.1, c.loop-i-test.true)
-
-pub loop-i-smaller : goal.loop-i-smaller
-loop-i-smaller c = omega arith
+    let found = index_here c.args.t (c.args.count - c.loop-i.i) (c.args.s * 16 + c.loop-i.i) (members_in c.args.source.now) (omega arith) (places-within c.requires.bounded c.requires.s_lt_max_types.0 (omega arith)) (sym c.member.ensures.0 ∙ c.if-member-t.true) in
+    (omega (arith, c.loop-i.invariant, found), omega arith)
 
 pub loop-i-preserved : goal.loop-i-preserved
 loop-i-preserved c =
-    let loop = c.loop-i in
-    let less = c.loop-i-test.true in
-    let later = index_later c.args.t (c.args.count - loop.i) (c.args.s * 16 + loop.i) (members_in c.args.source.now) (omega (arith, less)) (places-within c.requires.bounded c.requires.s_lt_max_types.0 (omega (arith, less, c.requires.s_lt_max_types.1))) (λ e. c.if-member-t.false (c.member.ensures.0 ∙ e)) in
-    (omega (arith, less), loop.invariant.1 ∙ goes_on _ _ _ _ _ later)
+    let later = index_later c.args.t (c.args.count - c.loop-i.i) (c.args.s * 16 + c.loop-i.i) (members_in c.args.source.now) (omega arith) (places-within c.requires.bounded c.requires.s_lt_max_types.0 (omega arith)) (λ e. c.if-member-t.false (c.member.ensures.0 ∙ e)) in
+    c.loop-i.invariant ∙ goes_on _ _ _ _ _ later
 
 pub returns : goal.returns
 returns c =
-    let loop = c.loop-i in
-    let none = index_none c.args.t (c.args.count - loop.i) (c.args.s * 16 + loop.i) (members_in c.args.source.now) (omega (arith, c.loop-i-test.false)) in
-    (omega (arith, loop.invariant.1, none), omega (arith, loop.invariant.0, c.requires.s_lt_max_types.1))
+    let none = index_none c.args.t (c.args.count - c.loop-i.i) (c.args.s * 16 + c.loop-i.i) (members_in c.args.source.now) (omega arith) in
+    (omega (arith, c.loop-i.invariant, none), omega arith)

@@ -1,6 +1,6 @@
 -- `index_of` meets its contract: t is not among the members passed, so its place is theirs and its place among the others.
 use mathlib.Core.Path.{◌≡◌}
-use Prim.Native.Nat.{◌+◌, ◌-◌, ◌*◌, ◌≤◌}
+use Prim.Native.Nat.{◌+◌, ◌-◌, ◌*◌}
 use lib.ListN.{take, drop}
 use Rattle.loaded_table.specs.Loaded.{members_in}
 use Rattle.rows.specs.Rows.{index_in}
@@ -8,8 +8,4 @@ use Rattle.rows.proofs.index_of.Given as goal
 
 -- the place of t among all members is i more than its place among those from i on
 abbrev pub invariant-loop-i : goal.invariant-loop-i
-invariant-loop-i l =
-    (l.i ≤ l.count) × (index_in l.t (take l.count (drop (l.s * 16) (members_in l.source))) ≡ l.i + index_in l.t (take (l.count - l.i) (drop (l.s * 16 + l.i) (members_in l.source))))
-
-abbrev pub decreases-loop-i : goal.decreases-loop-i
-decreases-loop-i l = l.count - l.i
+invariant-loop-i l = index_in l.t (take l.count (drop (l.s * 16) (members_in l.source))) ≡ l.i + index_in l.t (take (l.count - l.i) (drop (l.s * 16 + l.i) (members_in l.source)))

@@ -28,18 +28,6 @@ other_row source s t less is-other =
     let row = ap (λ κ. row_index κ t) (kind_of_lem source s less) ∙ row_of_other t (get_or (kinds_of source) s 0) (get_or (counts_of source) s 0) (drop (s * 16) (members_in source)) is-other in
     (omega (arith, row), omega arith)
 
-pub kind-requires : goal.kind-requires
-kind-requires c = omega (arith, c.requires.bounded.few_types, c.requires.s_bound)
-
-pub is_choice-requires : goal.is_choice-requires
-is_choice-requires c = tt
-
-pub count-count-requires : goal.count-count-requires
-count-count-requires c = omega (arith, c.requires.bounded.few_types, c.requires.s_bound)
-
-pub choice_index-requires : goal.choice_index-requires
-choice_index-requires c = record { s_lt_max_types = (omega (arith, c.requires.bounded.few_types, c.requires.s_bound), omega (arith, c.count-count.ensures.0, c.requires.bounded.few_members c.args.s)); bounded = c.requires.bounded }
-
 pub returns-then-is_choice : goal.returns-then-is_choice
 returns-then-is_choice c =
     let is_choice_lem = sym (ap choice_code c.kind.ensures.0) ∙ sym c.is_choice.ensures ∙ c.if-is_choice.true in

@@ -1,5 +1,6 @@
 -- `to` meets its contract: the second number of the row.
+use mathlib.Core.Path.{refl}
 use Rattle.rows.proofs.to.Goals as goal
 
 pub returns : goal.returns
-returns c = c.wide.ensures
+returns c = refl
