@@ -6,7 +6,7 @@ use Rattle.decimal.proofs.Written.{whole, at_start}
 use Rattle.decimal.proofs.write_decimal.Goals as goal
 
 pub returns-then-out-digits : goal.returns-then-out-digits
-returns-then-out-digits c = without_room (rw c.digits-digits.ensures c.decimal-text.ensures.form) (omega (arith, c.if-out-digits.true)) refl refl
+returns-then-out-digits c = without_room {text = c.digits-digits.result.now} (rw c.digits-digits.ensures c.decimal-text.ensures.form) (omega (arith, c.if-out-digits.true)) refl refl
 
 pub returns : goal.returns
 returns c = at_start (rw c.digits-digits.ensures c.decimal-text.ensures.form) c.if-out-digits.false (whole c.copy.ensures)
