@@ -1,5 +1,4 @@
 -- What the proofs of several functions use.
 pub mod Powers
-pub mod Finding
 pub mod Spelling
 pub mod Written

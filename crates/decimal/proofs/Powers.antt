@@ -1,12 +1,10 @@
 -- Powers of ten: in a table, and in sums.
 use mathlib.Core.Path.{◌≡◌, sym, ap, ◌∙◌}
 use mathlib.Core.List.{List, [], ◌∷◌}
-use Prim.Native.Nat.{ℕ, zero, suc, ◌+◌, ◌*◌, ◌^◌, ◌≤◌, ◌<◌}
+use Prim.Native.Nat.{ℕ, zero, suc, ◌+◌, ◌*◌, ◌^◌, ◌<◌}
 use native.Mathlib.Nat.{add-mul, mul_comm, mul_assoc, mul-one, pow-suc}
-use native.Mathlib.Decide.{dec_lt}
 use native.Mathlib.Omega.{arith}
 use lib.ListN.{get_or}
-use Rattle.decimal.specs.Digits.{most_digits, Reaches}
 
 -- a table of m numbers: p, and each ten times the one before
 unfoldable pub tenfold : ℕ → ℕ → List ℕ
@@ -25,14 +23,3 @@ pub next_digit : (v u d left : ℕ) → v * (u * 10) + (d * u + left) ≡ (10 * 
 next_digit v u d left =
     let moved : v * (u * 10) ≡ 10 * v * u = ap (λ (q : ℕ). v * q) (mul_comm u 10) ∙ sym (mul_assoc v 10 u) ∙ ap (λ (q : ℕ). q * u) (mul_comm v 10) in
     omega (arith, moved, add-mul (10 * v) d u)
-
--- one digit at least, and one more
-pub one_digit : (n : ℕ) → Reaches n 1
-one_digit n = record { some_digit = omega arith; not_more = omega arith; reached = λ k low high. absurd (omega arith) }
-
-pub reaches_more : (n w : ℕ) → Reaches n w → w < most_digits → 10 ^ w ≤ n → Reaches n (w + 1)
-reaches_more n w r few reached = record { some_digit = omega arith; not_more = omega arith; reached = λ k low high. go k low (dec_lt k w) high }
-  where
-    go : (k : ℕ) → 0 < k → Dec (k < w) → k < w + 1 → 10 ^ k ≤ n
-    go k low (yes less) high = r.reached k low less
-    go k low (no same) high = let e : k ≡ w = omega (arith, same) in rw e reached

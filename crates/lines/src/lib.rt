@@ -12,9 +12,9 @@ use decimal::{decimal, put_decimal};
 use writing::copy;
 
 // What stands before a number, and what ends a line.
-pub const BLANK: u8 = 0x20;
+pub const BLANK: u8 = b' ';
 
-pub const LINE_END: u8 = 0x0A;
+pub const LINE_END: u8 = b'\n';
 
 // The room that the line of an answer needs at most.
 pub const LINE_BYTES: usize = 80;
@@ -25,11 +25,9 @@ pub fn put_numbers(out: &mut [u8], at: usize, values: &[u64]) -> usize
     ensures { WritesNumbers values.now out.old out.new at result }
 {
     let mut next = at;
-    let mut i = 0;
-    while i < values.len() {
+    for value in values {
         out[next] = BLANK;
-        next = put_decimal(out, next + 1, values[i]);
-        i += 1;
+        next = put_decimal(out, next + 1, *value);
     }
     next
 }
@@ -96,7 +94,6 @@ pub fn kept_line(out: &mut [u8], height: u64, fill: u64) -> &mut [u8]
     ensures { KeptLine height fill result.now }
 {
     let text = decimal(height);
-    let digits = text.bytes;
-    let n = text.count;
-    line(out, &digits[..n], &[fill])
+    let digits = text.digits();
+    line(out, digits, &[fill])
 }

@@ -1,10 +1,6 @@
 -- `decimal` meets its contract: the digits that stand there and what is left are the number.
-use Prim.Native.Nat.{◌-◌}
 use Rattle.decimal.proofs.Spelling.{Spelled}
 use Rattle.decimal.proofs.decimal.Given as goal
 
 abbrev pub invariant-loop-i : goal.invariant-loop-i
 invariant-loop-i l = Spelled l.n l.count l.i l.left l.bytes
-
-abbrev pub decreases-loop-i : goal.decreases-loop-i
-decreases-loop-i l = l.count - l.i
