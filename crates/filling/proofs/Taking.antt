@@ -1,8 +1,8 @@
 -- Loops that give bytes to a sink: those so far are taken, and the others are left.
-use Rattle.std.proofs.Common.{◌≡◌, refl, sym, ap, ◌∙◌, subst, arith, List, [], ◌∷◌, ◌++◌, ℕ, ◌+◌, ◌≤◌, ◌<◌, length, get_or, ◌-◌, append_assoc, append-nil}
+use Rattle.std.proofs.Common.{◌≡◌, refl, sym, ap, ◌∙◌, subst, arith, List, [], ◌∷◌, ◌++◌, ℕ, ◌+◌, ◌≤◌, ◌<◌, get_or, ◌-◌, append_assoc, append-nil}
 use Rattle.rows.specs.Rows.{from_of}
 use Rattle.row_traversal.specs.Asked.{SomeAsked, FillerAsked}
-use Rattle.row_traversal.specs.FillerRows.{filler_left_lem, filler_starts, filler_symbol, filler-inner}
+use Rattle.row_traversal.specs.FillerRows.{filler_left_lem, filler_starts}
 use Rattle.row_traversal.specs.Loops.{Advance, Roomy, FillerGoes, filler_last, filler_then, RowGoes, SymbolDone, row_on}
 use Rattle.filling.specs.Sinks.{SinkLaws}
 
@@ -77,10 +77,6 @@ module _ {S : Type 0} {Takes : S → List ℕ → S → Type 0} {Refuses Fits : 
       pub inside_fits : (f : SomeAsked (FillerAsked pool places t) (Fits first)) → Fits start (filler_left_lem f.asked (from_of places t))
       inside_fits f = laws.later_fits (subst (Fits first) (filler_starts f.asked) f.room) opened
 
-      -- so fewer bytes can be taken inside
-      pub filler_falls : (f : SomeAsked (FillerAsked pool places t) (Fits first)) {now : S} {rest : List ℕ} → ToTake Takes start now (filler_left_lem f.asked (from_of places t)) rest → left now < left first
-      filler_falls f g = omega (arith, laws.fewer (opening_fits f) opened, left_falls (inside_fits f) g)
-
       filler_whole : {after : S} (bs : List ℕ) (a : FillerAsked pool places t bs) → Takes start (filler_left_lem a (from_of places t)) after → Takes first bs after
       filler_whole {after} bs a w = subst (λ (l : List ℕ). Takes first l after) (sym (filler_starts a)) (laws.both opened w)
 
@@ -88,6 +84,10 @@ module _ {S : Type 0} {Takes : S → List ℕ → S → Type 0} {Refuses Fits : 
       filler_other bs a w = subst (Refuses first) (sym (filler_starts a)) (laws.later_refused opened w)
 
       module _ {to i : ℕ} {now : S} (g : FillerGoes pool places t to i (ToTake Takes start now)) where
+        -- so fewer bytes can be taken inside
+        pub filler_falls : SomeAsked (FillerAsked pool places t) (Fits first) → left now < left first
+        filler_falls f = omega (arith, laws.fewer (opening_fits f) opened, left_falls (inside_fits f) (g.known _ f.asked))
+
         -- the element of a symbol is refused, and with it the whole
         pub filler_stops : (h : i < to) → ((bs : List ℕ) → FillerAsked pool places (get_or pool i 0 - 64) bs → Refuses now bs) → (bs : List ℕ) → FillerAsked pool places t bs → Refuses first bs
         filler_stops h w bs a = filler_other bs a (filler_then g h take_stops w bs a)

@@ -168,7 +168,15 @@ fn child<'a, S: Sink>(
 {
     let row = row_of(source, tr, o);
     let inside = o + 2;
-    run(source, pool, places, &tr[inside..], &sp[inside..], row, sink)
+    run(
+        source,
+        pool,
+        places,
+        &tr[inside..],
+        &sp[inside..],
+        row,
+        sink,
+    )
 }
 
 // Gives an item for each item of the source list at the start of tr; r is the row of an item. An item is handed on as the part
@@ -220,7 +228,7 @@ pub fn image<'a, S: Sink>(
 
 // An output that bytes are written to, one after the other.
 #[derive(Drop)]
-pub struct Writer<'b> {
+struct Writer<'b> {
     out: &'b mut [u8],
     at: usize,
 }

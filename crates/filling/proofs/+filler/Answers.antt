@@ -17,7 +17,8 @@ pub loop-i-init : goal.loop-i-init
 loop-i-init g t c =
     let is_row = c.from-row.ensures in
     let places = c.args.places.now in
-    filler_goes (c.to-to.ensures ∙ ap (to_of places) is_row) (c.from-from.ensures ∙ ap (from_of places) is_row)
+    filler_goes (◌∙◌ {b = to_of places c.from-row.result} c.to-to.ensures (ap (to_of places) is_row))
+    (◌∙◌ {b = from_of places c.from-row.result} c.from-from.ensures (ap (from_of places) is_row))
     (take_all g.S.Sink.laws (inside_fits g.S.Sink.laws c.in_ok-open.ensures.taken c.requires))
 
 pub overflow_sub-pool : goal.overflow_sub-pool
@@ -30,7 +31,7 @@ filler-requires g t c =
     let l = c.loop-i.invariant in
     let opened = c.in_ok-open.ensures.taken in
     λ κs lives.
-    (omega (arith, c.decreases, filler_falls g.S.Sink.laws opened f (l.known _ f.asked)), (lives, filler-asks l c.loop-i-test.true f.asked (take_room g.S.Sink.laws (inside_fits g.S.Sink.laws opened f))))
+    (omega (arith, c.decreases, filler_falls g.S.Sink.laws opened l f), (lives, filler-asks l c.loop-i-test.true f.asked (take_room g.S.Sink.laws (inside_fits g.S.Sink.laws opened f))))
 
 pub returns-in_err-filler-clause-refused : goal.returns-in_err-filler-clause-refused
 returns-in_err-filler-clause-refused g t c =
