@@ -1,1 +1,3 @@
-pub mod Writing
+pub mod Exits
+pub mod Images
+pub mod Taking

@@ -1,1 +1,3 @@
 pub mod Room
+pub mod Sinks
+pub mod Written

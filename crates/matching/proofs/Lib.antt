@@ -1,3 +1,1 @@
-pub mod Comparing
-pub mod Running
 pub mod Whole

@@ -1,36 +1,31 @@
--- The whole document: the root element, what it holds, and the end.
-use mathlib.Core.Path.{◌≡◌, refl, sym, ap, ◌∙◌}
-use mathlib.Core.Bool.{Bool, true, false}
-use mathlib.Core.List.{List, [], ◌∷◌, ◌++◌, append_assoc, append_cancel_left}
-use mathlib.Core.Logic.{◌↔◌}
-use Prim.Native.Nat.{ℕ}
-use lib.ListN.{drop}
+-- A whole document, compared with the bytes of an image.
+use Rattle.std.specs.Prelude.{Bool, true, false, ◌↔◌, Result, Ok, Err, OnOk, OnErr, is_ok}
+use Rattle.std.proofs.Common.{◌≡◌, refl, sym, ap, ◌∙◌, List, [], ◌∷◌, ◌++◌, ℕ, arith, length, length-append, append-nil, eqb, eqb-true, eq-eqb}
 use Rattle.model.proofs.Theorems.Tools.{true_false}
-use Rattle.row_traversal.specs.Asked.{ImageAsked}
-use Rattle.row_traversal.specs.Whole.{held, image_bytes}
-use Rattle.matching.specs.Same.{SameBytes, same_then}
 
--- the bytes of the image before its end, and its end
-image_parts : {source pool places tr : List ℕ} {bs : List ℕ} (a : ImageAsked source pool places tr bs) → bs ≡ ((0x30 ∷ 0 ∷ []) ++ held a) ++ (0x32 ∷ 0x3F ∷ [])
-image_parts a = image_bytes a ∙ ap (λ (r : List ℕ). 0x30 ∷ 0 ∷ r) (append_assoc (held a) (0x32 ∷ []) (0x3F ∷ []))
+-- what a test of a result tells
+pub if_ok : {T E P : Type 0} (r : Result T E) → OnOk r P → is_ok r ≡ true → P
+if_ok (Ok x) w e = w
+if_ok (Err y) w e = true_false e refl
 
-module _ {source pool places tr : List ℕ} {doc : List ℕ} {bs : List ℕ} (a : ImageAsked source pool places tr bs) where
-  -- a part of the image does not stand at the start
-  image_differs : (cs more : List ℕ) {b : Bool} {next : ℕ} → SameBytes doc 0 cs b next → b ≡ false → bs ≡ cs ++ more → (false ≡ true) ↔ (bs ≡ doc)
-  image_differs cs more s other e = (λ q. true_false q refl, λ q. absurd (s.differs other more (sym q ∙ e)))
+pub if_err : {T E P : Type 0} (r : Result T E) → OnErr r P → is_ok r ≡ false → P
+if_err (Ok x) w e = true_false refl e
+if_err (Err y) w e = w
 
-  module _ {b : Bool} {mid : ℕ} (opened : SameBytes doc 0 (0x30 ∷ 0 ∷ []) b mid) where
-    pub image-unopened : b ≡ false → (false ≡ true) ↔ (bs ≡ doc)
-    image-unopened other = image_differs (0x30 ∷ 0 ∷ []) ((held a ++ 0x32 ∷ []) ++ 0x3F ∷ []) opened other (image_bytes a)
+empty_list : (l : List ℕ) → length l ≡ 0 → l ≡ []
+empty_list [] e = refl
+empty_list (x ∷ l) e = absurd (omega (arith, e))
 
-    module _ (open-same : b ≡ true) {c : Bool} {next : ℕ} (inner : SameBytes doc mid (held a) c next) where
-      pub image-unlike : c ≡ false → (false ≡ true) ↔ (bs ≡ doc)
-      image-unlike other = image_differs ((0x30 ∷ 0 ∷ []) ++ held a) (0x32 ∷ 0x3F ∷ []) (same_then opened open-same inner) other (image_parts a)
+-- a document that begins with the bytes is they exactly where nothing is left
+pub nothing_left : {doc bs : List ℕ} {empty : Bool} (left : List ℕ) → doc ≡ bs ++ left → empty ≡ eqb (length left) 0 → (empty ≡ true) ↔ (bs ≡ doc)
+nothing_left {doc} {bs} {empty} left e is = (there, back)
+  where
+    there : empty ≡ true → bs ≡ doc
+    there y = sym (e ∙ ap (λ (l : List ℕ). bs ++ l) (empty_list left (eqb-true (length left) 0 (sym is ∙ y))) ∙ append-nil bs)
 
-      -- what the root holds stands there
-      pub image-ends : c ≡ true → {d : Bool} → (d ≡ true) ↔ (drop next doc ≡ 0x32 ∷ 0x3F ∷ []) → (d ≡ true) ↔ (bs ≡ doc)
-      image-ends same ends =
-          let all = same_then opened open-same inner in (
-            λ e. image_parts a ∙ sym (all.stands same ∙ ap (λ (r : List ℕ). ((0x30 ∷ 0 ∷ []) ++ held a) ++ r) (ends.0 e)),
-            λ q. ends.1 (append_cancel_left ((0x30 ∷ 0 ∷ []) ++ held a) (drop next doc) (0x32 ∷ 0x3F ∷ []) (sym (all.stands same) ∙ sym q ∙ image_parts a)),
-          )
+    back : bs ≡ doc → empty ≡ true
+    back same = is ∙ eq-eqb (length left) 0 (omega (arith, ap length e, ap length same, length-append bs left))
+
+-- one that does not is not they
+pub other_document : {doc bs : List ℕ} {same : Bool} → ((rest : List ℕ) → doc ≡ bs ++ rest → ⊥) → same ≡ false → (same ≡ true) ↔ (bs ≡ doc)
+other_document {bs = bs} differs e = (λ y. true_false y e, λ is. absurd (differs [] (sym is ∙ sym (append-nil bs))))

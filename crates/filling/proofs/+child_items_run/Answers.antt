@@ -1,111 +1,142 @@
 -- The cycle of calls {child, items, run}.
-use native.Mathlib.Omega.{arith}
+use Rattle.std.proofs.Common.{arith}
+use Rattle.std.proofs.lemmas.Result.{on_ok_weaker, on_err_weaker}
 use Rattle.row_traversal.specs.Contents.{spans_from, behind_none, behind_same}
 use Rattle.row_traversal.specs.RowNumbers.{rank_bounds, item_rank}
 use Rattle.row_traversal.specs.Turns.{row_there, items-rank}
 use Rattle.row_traversal.specs.Elements.{element_within, child_row}
-use Rattle.row_traversal.specs.Loops.{row_goes, row_last, row-less, row-symbol-there, row-sought, asks-items, asks-child, asks-plain, items_done, child-done, plain_done, list_goes, list_within, list_last, item-inside, item-passed, item-asks, item_on}
-use Rattle.filling.proofs.Writing.{write_all, write_room, write_turn, all_written, row_writes}
+use Rattle.row_traversal.specs.Loops.{row_goes, row_last, row-less, row-sought, asks-items, asks-child, asks-plain, items_done, child-done, plain_done, row-then, list_goes, list_within, list_last, item-inside, item-passed, item-asks, item_then, item_on}
+use Rattle.filling.proofs.Exits.{on_err}
+use Rattle.filling.proofs.Taking.{take_all, take_room, take_turn, take_stops, all_taken, as_row, row_takes}
 use Rattle.filling.proofs.+child_items_run.Goals as goal
-use Rattle.filling.proofs.+child_items_run.Goals.{run-then-x, run-else-x+then-number-lt-MAX_MEMBERS, run-else-x+else-number-lt-MAX_MEMBERS}
+use Rattle.filling.proofs.+child_items_run.Goals.{run-then-x+in_ok-items, run-else-x+then-number-lt-MAX_MEMBERS+in_ok-child, run-else-x+else-number-lt-MAX_MEMBERS+in_ok-plain}
 
 -- ---- a child
 
 pub child-overflow_add-inside : goal.child-overflow_add-inside
-child-overflow_add-inside t c = omega (arith, element_within c.requires.task.asked, c.requires.spans.short)
+child-overflow_add-inside g t c = omega (arith, element_within c.requires.task.asked, c.requires.spans.short)
 
 pub child-slice_bounds-run-count : goal.child-slice_bounds-run-count
-child-slice_bounds-run-count t c = omega (arith, element_within c.requires.task.asked)
+child-slice_bounds-run-count g t c = omega (arith, element_within c.requires.task.asked)
 
 pub child-slice_bounds-run-start : goal.child-slice_bounds-run-start
-child-slice_bounds-run-start t c = omega (arith, element_within c.requires.task.asked, c.requires.spans.whole)
+child-slice_bounds-run-start g t c = omega (arith, element_within c.requires.task.asked, c.requires.spans.whole)
 
 pub child-run-requires : goal.child-run-requires
-child-run-requires t c =
+child-run-requires g t c =
     let f = c.requires.task in
     let row = c.row_of-row in
-    (omega (arith, c.decreases, element_within f.asked, (rank_bounds row.result).1), (spans_from _ c.requires.spans, record { bytes = f.bytes; asked = child_row f.asked row.ensures; room = f.room }))
+    λ κs lives.
+    (omega (arith, c.decreases, element_within f.asked, (rank_bounds row.result).1), (lives, (spans_from _ c.requires.spans, record { bytes = f.bytes; asked = child_row f.asked row.ensures; room = f.room })))
 
-pub child-returns : goal.child-returns
-child-returns t c = λ bs a. c.run.ensures bs (child_row a c.row_of-row.ensures)
+pub child-returns-clause-taken : goal.child-returns-clause-taken
+child-returns-clause-taken g t c = on_ok_weaker _ (as_row (λ bs a. child_row a c.row_of-row.ensures)) c.run.ensures.taken
+
+pub child-returns-clause-refused : goal.child-returns-clause-refused
+child-returns-clause-refused g t c = on_err_weaker _ (as_row (λ bs a. child_row a c.row_of-row.ensures)) c.run.ensures.refused
 
 -- ---- the items of a list
 
 pub items-loop-o-init : goal.items-loop-o-init
-items-loop-o-init t c = list_goes write_all
+items-loop-o-init g t c = list_goes (take_all g.S.Sink.laws c.requires.task.room)
 
 pub items-bounds-tr-o : goal.items-bounds-tr-o
-items-bounds-tr-o t c = list_within c.loop-o.invariant c.requires.task.asked
+items-bounds-tr-o g t c = list_within c.loop-o.invariant c.requires.task.asked
 
-pub items-run-next-requires : goal.items-run-next-requires
-items-run-next-requires t c =
+pub items-run-requires : goal.items-run-requires
+items-run-requires g t c =
     let f = c.requires.task in
-    (omega (arith, c.decreases, item_rank f.asked.listed.type c.args.r f.asked.listed.is_row), (spans_from _ c.requires.spans, item-asks c.loop-o.invariant c.loop-o-test.true f.asked (write_room f.room)))
+    λ κs lives.
+    (omega (arith, c.decreases, item_rank f.asked.listed.type c.args.r f.asked.listed.is_row), (lives, (spans_from _ c.requires.spans, item-asks c.loop-o.invariant c.loop-o-test.true f.asked (take_room g.S.Sink.laws f.room))))
+
+pub items-returns-in_err-run-clause-refused : goal.items-returns-in_err-run-clause-refused
+items-returns-in_err-run-clause-refused g t c =
+    on_err _ (item_then c.loop-o.invariant c.loop-o-test.true (take_stops g.S.Sink.laws) c.in_err-run.ensures.refused)
 
 pub items-close_of-close-requires-clause-content : goal.items-close_of-close-requires-clause-content
-items-close_of-close-requires-clause-content t c = item-inside c.loop-o.invariant c.loop-o-test.true c.requires.task.asked
+items-close_of-close-requires-clause-content g t c = item-inside c.loop-o.invariant c.loop-o-test.true c.requires.task.asked
 
 pub items-overflow_add-o-in-loop-o : goal.items-overflow_add-o-in-loop-o
-items-overflow_add-o-in-loop-o t c = omega (arith, (item-passed c.loop-o.invariant c.loop-o-test.true c.requires.task.asked c.close_of-close.ensures).1, c.requires.spans.short)
+items-overflow_add-o-in-loop-o g t c =
+    omega (arith, (item-passed c.loop-o.invariant c.loop-o-test.true c.requires.task.asked c.close_of-close.ensures).1, c.requires.spans.short)
 
 pub items-loop-o-smaller : goal.items-loop-o-smaller
-items-loop-o-smaller t c =
+items-loop-o-smaller g t c =
     let far = item-passed c.loop-o.invariant c.loop-o-test.true c.requires.task.asked c.close_of-close.ensures in
     omega (arith, far.0, far.1)
 
 pub items-loop-o-preserved : goal.items-loop-o-preserved
-items-loop-o-preserved t c = item_on c.loop-o.invariant c.loop-o-test.true write_turn c.run-next.ensures c.close_of-close.ensures
+items-loop-o-preserved g t c = item_on c.loop-o.invariant c.loop-o-test.true (take_turn g.S.Sink.laws) c.in_ok-run.ensures.taken c.close_of-close.ensures
 
-pub items-returns : goal.items-returns
-items-returns t c bs a = all_written (list_last c.loop-o.invariant c.loop-o-test.false bs a)
+pub items-returns-clause-taken : goal.items-returns-clause-taken
+items-returns-clause-taken g t c bs a = all_taken g.S.Sink.laws (list_last c.loop-o.invariant c.loop-o-test.false bs a)
 
 -- ---- a row
 
-pub run-to-to-requires : goal.run-to-to-requires
-run-to-to-requires t c = row_there c.requires.task.asked
+pub run-from-from-requires : goal.run-from-from-requires
+run-from-from-requires g t c = row_there c.requires.task.asked
 
-pub run-from-i-requires : goal.run-from-i-requires
-run-from-i-requires t c = row_there c.requires.task.asked
+pub run-to-to-requires : goal.run-to-to-requires
+run-to-to-requires g t c = row_there c.requires.task.asked
 
 pub run-loop-i-init : goal.run-loop-i-init
-run-loop-i-init t c = (row_goes c.to-to.ensures c.from-i.ensures write_all, behind_none)
+run-loop-i-init g t c = (row_goes c.to-to.ensures c.from-from.ensures (take_all g.S.Sink.laws c.requires.task.room), behind_none)
 
-pub run-bounds-pool-i : goal.run-bounds-pool-i
-run-bounds-pool-i t c = row-symbol-there c.loop-i.invariant.0 c.loop-i-test.true c.requires.task.asked
-
-pub run-items-next-requires : goal.run-items-next-requires
-run-items-next-requires t c =
+pub run-items-requires : goal.run-items-requires
+run-items-requires g t c =
     let f = c.requires.task in
-    let g = c.loop-i.invariant.0 in
+    let l = c.loop-i.invariant.0 in
     let h = c.loop-i-test.true in
     let e = c.if-x.true in
-    (omega (arith, c.decreases, items-rank f.asked c.loop-i.i g.low (row-less g h) e), (c.requires.spans, asks-items g h f.asked (write_room f.room) e))
+    λ κs lives.
+    (omega (arith, c.decreases, items-rank f.asked c.loop-i.i l.low (row-less l h) e), (lives, (c.requires.spans, asks-items l h f.asked (take_room g.S.Sink.laws f.room) e)))
+
+pub run-returns-in_err-items-clause-refused : goal.run-returns-in_err-items-clause-refused
+run-returns-in_err-items-clause-refused g t c =
+    let l = c.loop-i.invariant.0 in
+    let h = c.loop-i-test.true in
+    on_err _ (row-then l h (take_stops g.S.Sink.laws) (items_done l h c.if-x.true c.in_err-items.ensures.refused))
 
 pub run-element_from-near-requires-clause-content : goal.run-element_from-near-requires-clause-content
-run-element_from-near-requires-clause-content t c =
+run-element_from-near-requires-clause-content g t c =
     row-sought c.loop-i.invariant.0 c.loop-i-test.true c.requires.task.asked (c.child_of-number.ensures.0 c.if-number-lt-MAX_MEMBERS.true)
 
-pub run-child-next-requires : goal.run-child-next-requires
-run-child-next-requires t c =
+pub run-child-requires : goal.run-child-requires
+run-child-requires g t c =
     let f = c.requires.task in
-    (omega (arith, c.decreases, (rank_bounds c.args.r).0), (c.requires.spans, asks-child c.loop-i.invariant.0 c.loop-i-test.true f.asked (write_room f.room) (c.child_of-number.ensures.0 c.if-number-lt-MAX_MEMBERS.true) c.element_from-near.ensures))
+    λ κs lives.
+    (omega (arith, c.decreases, (rank_bounds c.args.r).0), (lives, (c.requires.spans, asks-child c.loop-i.invariant.0 c.loop-i-test.true f.asked (take_room g.S.Sink.laws f.room) (c.child_of-number.ensures.0 c.if-number-lt-MAX_MEMBERS.true) c.element_from-near.ensures)))
 
-pub run-plain-next-requires-clause-task : goal.run-plain-next-requires-clause-task
-run-plain-next-requires-clause-task t c =
+pub run-returns-in_err-child-clause-refused : goal.run-returns-in_err-child-clause-refused
+run-returns-in_err-child-clause-refused g t c =
+    let l = c.loop-i.invariant.0 in
+    let h = c.loop-i-test.true in
+    on_err _
+    (row-then l h (take_stops g.S.Sink.laws)
+    (child-done l h (c.child_of-number.ensures.0 c.if-number-lt-MAX_MEMBERS.true) c.element_from-near.ensures c.in_err-child.ensures.refused))
+
+pub run-plain-requires-clause-task : goal.run-plain-requires-clause-task
+run-plain-requires-clause-task g t c =
     let f = c.requires.task in
-    asks-plain c.loop-i.invariant.0 c.loop-i-test.true f.asked (write_room f.room) (c.child_of-number.ensures.1 c.if-number-lt-MAX_MEMBERS.false) c.if-x.false
+    asks-plain c.loop-i.invariant.0 c.loop-i-test.true f.asked (take_room g.S.Sink.laws f.room) (c.child_of-number.ensures.1 c.if-number-lt-MAX_MEMBERS.false) c.if-x.false
+
+pub run-returns-in_err-plain-clause-refused : goal.run-returns-in_err-plain-clause-refused
+run-returns-in_err-plain-clause-refused g t c =
+    let l = c.loop-i.invariant.0 in
+    let h = c.loop-i-test.true in
+    on_err _ (row-then l h (take_stops g.S.Sink.laws) (plain_done l h (c.child_of-number.ensures.1 c.if-number-lt-MAX_MEMBERS.false) c.if-x.false c.in_err-plain.ensures.refused))
 
 pub run-loop-i-preserved : goal.run-loop-i-preserved
-run-loop-i-preserved t c =
-    let g = c.loop-i.invariant.0 in
+run-loop-i-preserved g t c =
+    let l = c.loop-i.invariant.0 in
     let b = c.loop-i.invariant.1 in
     let h = c.loop-i-test.true in
     let number = c.child_of-number.ensures in
     elim c.if-x.branch [
-      | run-then-x w ↦ (row_writes g h w.out-is w.next-is (items_done g h w.if-x.true w.items-next.ensures), behind_same w.seen-is w.near-is b)
-      | run-else-x+then-number-lt-MAX_MEMBERS w ↦ (row_writes g h w.out-is w.next-is (child-done g h (number.0 w.if-number-lt-MAX_MEMBERS.true) w.element_from-near.ensures w.child-next.ensures), behind_same w.seen-is w.near-is w.element_from-near.ensures)
-      | run-else-x+else-number-lt-MAX_MEMBERS w ↦ (row_writes g h w.out-is w.next-is (plain_done g h (number.1 w.if-number-lt-MAX_MEMBERS.false) w.if-x.false w.plain-next.ensures), behind_same w.seen-is w.near-is b)
+      | run-then-x+in_ok-items w ↦ (row_takes g.S.Sink.laws l h w.sink-is (items_done l h w.if-x.true w.in_ok-items.ensures.taken), behind_same w.seen-is w.near-is b)
+      | run-else-x+then-number-lt-MAX_MEMBERS+in_ok-child w ↦ (row_takes g.S.Sink.laws l h w.sink-is (child-done l h (number.0 w.if-number-lt-MAX_MEMBERS.true) w.element_from-near.ensures w.in_ok-child.ensures.taken), behind_same w.seen-is w.near-is w.element_from-near.ensures)
+      | run-else-x+else-number-lt-MAX_MEMBERS+in_ok-plain w ↦ (row_takes g.S.Sink.laws l h w.sink-is (plain_done l h (number.1 w.if-number-lt-MAX_MEMBERS.false) w.if-x.false w.in_ok-plain.ensures.taken), behind_same w.seen-is w.near-is b)
     ]
 
-pub run-returns : goal.run-returns
-run-returns t c bs a = all_written (row_last c.loop-i.invariant.0 c.loop-i-test.false bs a)
+pub run-returns-clause-taken : goal.run-returns-clause-taken
+run-returns-clause-taken g t c bs a = all_taken g.S.Sink.laws (row_last c.loop-i.invariant.0 (omega arith) bs a)
