@@ -9,8 +9,11 @@ use lib.ListN.{length, length-append}
 use lib.Seq.{sets}
 use lib.Arith.{digits_div}
 use borrow.Author.Tests.{le-leb}
-use Rattle.answers.specs.declared.Carried.{Carried}
-use Rattle.answers.specs.Answers.{carried_result}
+use Rattle.std.specs.Prelude.{Result, Ok, Err}
+use Rattle.answers.specs.declared.Refusal.{Refusal}
+use Rattle.answers.specs.declared.Refusal.TheVariants.{ImageTooDeep, ImageTooLong, OutputTooShort}
+use Rattle.answers.specs.declared.Written.{Written}
+use Rattle.answers.specs.Answers.{written_result}
 use Rattle.carry_prepared.specs.Carrying.{Carriable, Carries}
 use Rattle.loaded_setting.specs.Ready.{setting_in}
 use Rattle.measuring.specs.Measured.{Measurable, ImageSize}
@@ -57,29 +60,29 @@ module _ (X : Setting) (tr old : List ℕ) where
   k = content_of tr
 
   -- an outcome that is the model's gives answer and output
-  outcome : (new : List ℕ) (r : Carried) {o : Outcome} → carry_content old X k ≡ o → carried_result r ≡ o.result → new ≡ o.output → Carries X tr old new r
+  outcome : (new : List ℕ) (r : Result Written Refusal) {o : Outcome} → carry_content old X k ≡ o → written_result r ≡ o.result → new ≡ o.output → Carries X tr old new r
   outcome new r is answer output =
       record { same_answer = answer ∙ sym (ap (λ (o : Outcome). o.result) is); same_output = output ∙ sym (ap (λ (o : Outcome). o.output) is) }
 
   -- a 129th level
-  pub too_deep : (high : ℕ) → high ≡ min 60001 (image_levels X k) → 128 < high → Carries X tr old old Carried.TooDeep
-  too_deep high is far = outcome old Carried.TooDeep (content_too_deep X old k (omega (arith, image-levels X k))) refl refl
+  pub too_deep : (high : ℕ) → high ≡ min 60001 (image_levels X k) → 128 < high → Carries X tr old old (Err ImageTooDeep)
+  too_deep high is far = outcome old (Err ImageTooDeep) (content_too_deep X old k (omega (arith, image-levels X k))) refl refl
 
   module _ (high size : ℕ) (high_is : high ≡ min 60001 (image_levels X k)) (size_is : size ≡ min 60001 (image_length X k)) (low : high ≤ 128) where
     within-levels : suc (levels (image X k)) ≤ max_levels
     within-levels = omega (arith, image-levels X k)
 
     -- more than 60,000 bytes
-    pub too_long : 60000 < size → Carries X tr old old Carried.TooLong
-    too_long long = outcome old Carried.TooLong (content_too_long X old k within-levels (omega (arith, image-length X k))) refl refl
+    pub too_long : 60000 < size → Carries X tr old old (Err ImageTooLong)
+    too_long long = outcome old (Err ImageTooLong) (content_too_long X old k within-levels (omega (arith, image-length X k))) refl refl
 
     module _ (short : size ≤ 60000) where
       within-bytes : length (document 0 (image X k)) ≤ max_length
       within-bytes = omega (arith, image-length X k)
 
       -- no room
-      pub no_room : length old < size → Carries X tr old old Carried.NoRoom
-      no_room less = outcome old Carried.NoRoom (content_no_room X old k within-levels within-bytes (omega (arith, image-length X k))) refl refl
+      pub no_room : length old < size → Carries X tr old old (Err OutputTooShort)
+      no_room less = outcome old (Err OutputTooShort) (content_no_room X old k within-levels within-bytes (omega (arith, image-length X k))) refl refl
 
       -- there is room for the image
       pub has_room : size ≤ length old → length (document 0 (image X k)) ≤ length old
@@ -87,11 +90,11 @@ module _ (X : Setting) (tr old : List ℕ) where
 
       -- it is written
       pub carries : (new : List ℕ) (n filler : ℕ) → size ≤ length old → new ≡ sets old 0 (document 0 (image X k)) → n ≡ length (document 0 (image X k)) → filler ≡ image_filler X k
-          → Carries X tr old new (Carried.Written n filler)
+          → Carries X tr old new (Ok (record { length = n; filler = filler }))
       unfolding carry_content carry_within written
       carries new n filler enough done is_length is_filler =
           let room : length (document 0 (image X k)) ≤ length old = has_room enough in
-          outcome new (Carried.Written n filler) {o = written old (document 0 (image X k)) (image_filler X k)}
+          outcome new (Ok (record { length = n; filler = filler })) {o = written old (document 0 (image X k)) (image_filler X k)}
           (rw (image-levels X k, image-length X k, le-leb _ _ within-levels, le-leb _ _ within-bytes, le-leb _ _ room) refl)
           (ap₂ (λ (m f : ℕ). accepted m f) is_length is_filler) done
 
@@ -109,13 +112,13 @@ module _ {source map pool places sizes tr : List ℕ} (g : Carriable source map 
     sizes-are : ImageSize Y (content_of tr) high size fill
     sizes-are = measured record { target = g.target; em = g.em; ready = g.ready; sized = g.sized; is_document = g.tree.form; holds = g.tree.holds }
 
-    pub carry-too-deep : 128 < high → Carries Y tr old old Carried.TooDeep
+    pub carry-too-deep : 128 < high → Carries Y tr old old (Err ImageTooDeep)
     carry-too-deep far = too_deep Y tr old high sizes-are.levels_are far
 
-    pub carry-too-long : high ≤ 128 → 60000 < size → Carries Y tr old old Carried.TooLong
+    pub carry-too-long : high ≤ 128 → 60000 < size → Carries Y tr old old (Err ImageTooLong)
     carry-too-long low long = too_long Y tr old high size sizes-are.levels_are sizes-are.bytes_are low long
 
-    pub carry-no-room : high ≤ 128 → size ≤ 60000 → length old < size → Carries Y tr old old Carried.NoRoom
+    pub carry-no-room : high ≤ 128 → size ≤ 60000 → length old < size → Carries Y tr old old (Err OutputTooShort)
     carry-no-room low short less = no_room Y tr old high size sizes-are.levels_are sizes-are.bytes_are low short less
 
     pub carry-fits : high ≤ 128 → size ≤ 60000 → size ≤ length old → ImageFits (ImageAsked source pool places tr) 0 (length old)
@@ -123,7 +126,7 @@ module _ {source map pool places sizes tr : List ℕ} (g : Carriable source map 
         record { bytes = document 0 (image Y (content_of tr)); asked = asked; room = omega (arith, has_room Y tr old high size sizes-are.levels_are sizes-are.bytes_are low short enough) }
 
     pub carry_writes : high ≤ 128 → size ≤ 60000 → size ≤ length old → (new : List ℕ) (n : ℕ) → ((bs : List ℕ) → ImageAsked source pool places tr bs → Writes old new 0 bs n)
-        → Carries Y tr old new (Carried.Written n (fill / 3))
+        → Carries Y tr old new (Ok (record { length = n; filler = fill / 3 }))
     carry_writes low short enough new n writes =
         let done = writes (document 0 (image Y (content_of tr))) asked in
         carries Y tr old high size sizes-are.levels_are sizes-are.bytes_are low short new n (fill / 3) enough done.written (omega (arith, done.after))

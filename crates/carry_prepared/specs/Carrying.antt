@@ -1,7 +1,8 @@
 -- What carrying a document needs and gives.
-use Rattle.std.specs.Prelude.{◌≡◌, List, ℕ}
-use Rattle.answers.specs.declared.Carried.{Carried}
-use Rattle.answers.specs.Answers.{carried_result}
+use Rattle.std.specs.Prelude.{◌≡◌, List, ℕ, Result}
+use Rattle.answers.specs.declared.Refusal.{Refusal}
+use Rattle.answers.specs.declared.Written.{Written}
+use Rattle.answers.specs.Answers.{written_result}
 use Rattle.loaded_table.specs.Loaded.{table_by}
 use Rattle.loaded_setting.specs.Ready.{setting_in, Ready}
 use Rattle.loaded_setting.specs.Trees.{SoundTree}
@@ -20,6 +21,6 @@ pub record Carriable (source map pool places sizes tr : List ℕ) : Type 0 where
   pub tree : SoundTree (table_by source) tr
 
 -- answer and output are the model's
-pub record Carries (X : Setting) (tr old new : List ℕ) (r : Carried) : Type 0 where
-  pub same_answer : carried_result r ≡ (carry_content old X (content_of tr)).result
+pub record Carries (X : Setting) (tr old new : List ℕ) (r : Result Written Refusal) : Type 0 where
+  pub same_answer : written_result r ≡ (carry_content old X (content_of tr)).result
   pub same_output : new ≡ (carry_content old X (content_of tr)).output

@@ -11,7 +11,7 @@ ghost use Rattle.filling.specs.Room.{ImageFits};
 ghost use Rattle.carry_prepared.specs.Carrying.{Carriable, Carries};
 ghost use Rattle.model.specs.Definitions.Refusals.{max_length};
 
-use answers::Carried;
+use answers::{Refusal, Written};
 use codes::{ELEMENT_BYTES, MAX_BYTES, MAX_LEVELS};
 use filling::write_image;
 use loaded_embedding::MAP;
@@ -65,20 +65,23 @@ pub fn carry_prepared<'a>(
     sizes: &'a [u16],
     tr: &'a [u8],
     out: &mut [u8],
-) -> Carried
+) -> Result<Written, Refusal>
     requires { Carriable source.now map.now pool.now places.now sizes.now tr.now }
     ensures { (g : Carriable source.now map.now pool.now places.now sizes.now tr.now) → Carries (setting_in source.now g.target map.now g.em) tr.now out.old out.new result }
 {
     let size = measure(source, map, sizes, tr);
     if MAX_LEVELS < size.levels {
-        return Carried::TooDeep;
+        return Err(Refusal::ImageTooDeep);
     }
     if MAX_BYTES < size.bytes {
-        return Carried::TooLong;
+        return Err(Refusal::ImageTooLong);
     }
     if out.len() < size.bytes {
-        return Carried::NoRoom;
+        return Err(Refusal::OutputTooShort);
     }
     let length = write(source, pool, places, tr, out);
-    Carried::Written(length, size.filler / ELEMENT_BYTES)
+    Ok(Written {
+        length,
+        filler: size.filler / ELEMENT_BYTES,
+    })
 }

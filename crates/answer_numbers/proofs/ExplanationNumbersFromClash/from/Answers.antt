@@ -1,13 +1,10 @@
--- `clashing` meets its contract: the numbers of a clash.
+-- `from` meets its contract: the numbers of a clash.
 use mathlib.Core.Path.{refl}
 use Rattle.model.specs.Definitions.Refusals.{fault_number, fault_mark, document_number, numbers_of}
 use Rattle.model.specs.Definitions.Entries.{answer_of}
 use Rattle.model.specs.Definitions.Explanation.{explanation_numbers}
-use Rattle.answer_numbers.proofs.clashing.Goals as goal
-
-pub reason_number-requires : goal.reason_number-requires
-reason_number-requires c = tt
+use Rattle.answer_numbers.proofs.ExplanationNumbersFromClash.from.Goals as goal
 
 pub returns : goal.returns
 unfolding explanation_numbers answer_of numbers_of fault_number fault_mark document_number
-returns c = rw c.reason_number.ensures refl
+returns c = rw c.from.ensures refl
