@@ -1,11 +1,11 @@
 -- The members of a choice so far, as the flags that the code keeps: the order in which they came does not matter.
 use mathlib.Core.Path.{◌≡◌, refl, sym, ap, ◌∙◌}
-use mathlib.Core.Bool.{Bool, true, false, not, ◌||◌}
+use mathlib.Core.Bool.{Bool, true, false, ◌||◌}
 use mathlib.Core.Logic.{◌⊎◌, inl, inr}
 use mathlib.Core.List.{List, [], ◌∷◌}
-use Prim.Native.Nat.{ℕ, zero, suc, ◌+◌, ◌≤◌, ◌<◌}
+use Prim.Native.Nat.{ℕ, zero, suc, ◌+◌, ◌<◌}
 use native.Mathlib.Omega.{arith}
-use lib.ListN.{length, drop, get_or, set, replicate, length-set}
+use lib.ListN.{length, drop, get_or, set, replicate}
 use lib.Seq.{get_or-set_same, get_or-set_other}
 use lib.Dec.{eqb}
 use borrow.Author.Tests.{eqb-true, eqb-false, ne_eqb, eq-eqb}
@@ -121,7 +121,6 @@ ends s e = rw e refl
 pub joins : (s : Chosen) {d : Code} {m : ℕ} {n : Next Chosen} → d ≡ Code.Member m → n ≡ chooses s m → n ≡ repeat_step s (command d)
 unfolding repeat_step
 joins s e h = rw e h
-
 
 -- outside a choice it changes nothing
 pub not_inside : {within : Bool} (seen : List Bool) (m : ℕ) → within ≡ false → goes (chosen within seen) ≡ chooses (chosen within seen) m

@@ -30,6 +30,7 @@ impl Named {
 
 impl Check for Named {
     ghost fits = { λ n. ⊤ };
+
     ghost rest = { operands_left };
 
     fn step(&mut self, document: &[u8], at: usize) -> Option<usize> {

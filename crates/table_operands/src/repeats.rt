@@ -16,6 +16,7 @@ pub struct Members {
 
 impl Check for Members {
     ghost fits = { Flagged };
+
     ghost rest = { repeats_left };
 
     fn step(&mut self, document: &[u8], at: usize) -> Option<usize> {
