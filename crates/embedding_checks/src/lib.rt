@@ -77,7 +77,7 @@ fn type_fault(
     let mut i = 0;
     while i < n {
         if !edge_right(check, source, target, em, map, s, i, &paths) {
-            return Verdict::Fails(loaded_embedding::start(map, s * MAX_MEMBERS + i));
+            return Err(loaded_embedding::start(map, s * MAX_MEMBERS + i));
         }
         i += 1;
     }

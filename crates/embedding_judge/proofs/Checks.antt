@@ -9,9 +9,8 @@ use lib.ListN.{length, get_or}
 use borrow.Author.Tests.{le-leb, lt-leb}
 use Rattle.embedding_judge.specs.Judging.{edge_checks, path_checks, Judgeable, UpToClashes, EmbeddingJudged}
 use Rattle.answers.specs.Answers.{verdict, fault, judged}
-use Rattle.answers.specs.declared.Verdict.{Verdict}
+use Rattle.std.specs.Prelude.{Result, Ok, Err, ⊤}
 use Rattle.answers.specs.declared.Fault.{Fault}
-use Rattle.answers.specs.declared.Judged.{Judged}
 use Rattle.loaded_table.specs.Loaded.{table_by, length_of_lem}
 use Rattle.loaded_embedding.specs.Loaded.{embedding_by}
 use Rattle.embedding_clash.specs.Ready.{Checkable}
@@ -36,64 +35,64 @@ other_fault f {j} other p (inr q) = absurd (other q.0 (same-fault (sym p ∙ q.1
     same-fault {g} {h} e = cc
 
 -- the model's verdict, where the code's is known
-pub verdict_is : (v : Verdict) {w m : model.Verdict} → verdict v ≡ w → (x : Verdict) → v ≡ x → verdict x ≡ m → w ≡ m
+pub verdict_is : (v : Result ⊤ ℕ) {w m : model.Verdict} → verdict v ≡ w → (x : Result ⊤ ℕ) → v ≡ x → verdict x ≡ m → w ≡ m
 verdict_is v p x q e = sym p ∙ ap verdict q ∙ e
 
 -- ---- checks 7 to 10
 
 module _ (S T : Table) (E : Embedding) where
-  pub root_moved : root_to_root E ≡ false → judged (Judged.Has Fault.RootMoved) ≡ path_checks S T E
+  pub root_moved : root_to_root E ≡ false → judged (Err Fault.RootMoved) ≡ path_checks S T E
   unfolding path_checks fault_unless
   root_moved e = sym (rw e refl)
 
   -- the root is kept: the other checks decide
-  pub root_kept : (j : Judged) → root_to_root E ≡ true → judged j ≡ edge_checks S T E → judged j ≡ path_checks S T E
+  pub root_kept : (j : Result ⊤ Fault) → root_to_root E ≡ true → judged j ≡ edge_checks S T E → judged j ≡ path_checks S T E
   unfolding path_checks fault_unless
   root_kept j r e = rw r e
 
-  pub ends_wrong : (at : ℕ) → wrong_end_verdict S T E ≡ fails at → judged (Judged.Has (Fault.WrongEnd at)) ≡ edge_checks S T E
+  pub ends_wrong : (at : ℕ) → wrong_end_verdict S T E ≡ fails at → judged (Err (Fault.WrongEnd at)) ≡ edge_checks S T E
   unfolding edge_checks fault_at
   ends_wrong at e = sym (rw e refl)
 
-  pub steps_wrong : (at : ℕ) → wrong_end_verdict S T E ≡ passes → wrong_steps_verdict S T E ≡ fails at → judged (Judged.Has (Fault.WrongSteps at)) ≡ edge_checks S T E
+  pub steps_wrong : (at : ℕ) → wrong_end_verdict S T E ≡ passes → wrong_steps_verdict S T E ≡ fails at → judged (Err (Fault.WrongSteps at)) ≡ edge_checks S T E
   unfolding edge_checks fault_at
   steps_wrong at e f = sym (rw (e, f) refl)
 
-  pub paths_clash : (at : ℕ) → wrong_end_verdict S T E ≡ passes → wrong_steps_verdict S T E ≡ passes → path_clash_verdict S T E ≡ fails at → judged (Judged.Has (Fault.PathClash at)) ≡ edge_checks S T E
+  pub paths_clash : (at : ℕ) → wrong_end_verdict S T E ≡ passes → wrong_steps_verdict S T E ≡ passes → path_clash_verdict S T E ≡ fails at → judged (Err (Fault.PathClash at)) ≡ edge_checks S T E
   unfolding edge_checks fault_at
   paths_clash at e f g = sym (rw (e, f, g) refl)
 
-  pub paths_right : wrong_end_verdict S T E ≡ passes → wrong_steps_verdict S T E ≡ passes → path_clash_verdict S T E ≡ passes → judged Judged.Sound ≡ edge_checks S T E
+  pub paths_right : wrong_end_verdict S T E ≡ passes → wrong_steps_verdict S T E ≡ passes → path_clash_verdict S T E ≡ passes → judged (Ok tt) ≡ edge_checks S T E
   unfolding edge_checks fault_at
   paths_right e f g = sym (rw (e, f, g) refl)
 
 -- ---- all checks
 
 module _ (S T : Table) (bs map : List ℕ) where
-  refused : (f : Fault) → ((at : ℕ) → fault f ≡ refusals.path_clash at → ⊥) → judged_embedding S T bs ≡ has (fault f) → EmbeddingJudged S T bs (Judged.Has f) map
+  refused : (f : Fault) → ((at : ℕ) → fault f ≡ refusals.path_clash at → ⊥) → judged_embedding S T bs ≡ has (fault f) → EmbeddingJudged S T bs (Err f) map
   refused f other g = record { judgement = sym g; loaded = other_fault (fault f) other g }
 
-  pub length_refused : 60000 < length bs → EmbeddingJudged S T bs (Judged.Has Fault.TooLong) map
+  pub length_refused : 60000 < length bs → EmbeddingJudged S T bs (Err Fault.TooLong) map
   unfolding judged_embedding fault_unless fits
   length_refused long = refused Fault.TooLong (λ at e. let z : ◌≡◌ {A = ℕ} 0 1 = cc in absurd (omega arith)) (rw (lt-leb (length bs) 60000 long) refl)
 
   module _ (short : length bs ≤ 60000) where
-    pub form_refused : (at : ℕ) → embedding_form S bs ≡ fails at → EmbeddingJudged S T bs (Judged.Has (Fault.BadForm at)) map
+    pub form_refused : (at : ℕ) → embedding_form S bs ≡ fails at → EmbeddingJudged S T bs (Err (Fault.BadForm at)) map
     unfolding judged_embedding fault_unless fault_at fits
     form_refused at e = refused (Fault.BadForm at) (λ m e. let z : ◌≡◌ {A = ℕ} 0 1 = cc in absurd (omega arith)) (rw (le-leb (length bs) 60000 short, e) refl)
 
     module _ (f : embedding_form S bs ≡ passes) where
-      pub limit_refused : (at : ℕ) → embedding_limits bs ≡ fails at → EmbeddingJudged S T bs (Judged.Has (Fault.OverLimit at)) map
+      pub limit_refused : (at : ℕ) → embedding_limits bs ≡ fails at → EmbeddingJudged S T bs (Err (Fault.OverLimit at)) map
       unfolding judged_embedding fault_unless fault_at fits
       limit_refused at e = refused (Fault.OverLimit at) (λ m e. let z : ◌≡◌ {A = ℕ} 0 1 = cc in absurd (omega arith)) (rw (le-leb (length bs) 60000 short, f, e) refl)
 
       module _ (l : embedding_limits bs ≡ passes) where
-        pub operand_refused : (at : ℕ) → embedding_operands T bs ≡ fails at → EmbeddingJudged S T bs (Judged.Has (Fault.BadOperand at)) map
+        pub operand_refused : (at : ℕ) → embedding_operands T bs ≡ fails at → EmbeddingJudged S T bs (Err (Fault.BadOperand at)) map
         unfolding judged_embedding fault_unless fault_at fits
         operand_refused at e = refused (Fault.BadOperand at) (λ m e. let z : ◌≡◌ {A = ℕ} 0 1 = cc in absurd (omega arith)) (rw (le-leb (length bs) 60000 short, f, l, e) refl)
 
         -- after the first four checks those of the paths decide
-        pub paths-decide : (r : Judged) → embedding_operands T bs ≡ passes → EmbeddingLoaded bs S map → judged r ≡ path_checks S T (embedding_by bs S map) → EmbeddingJudged S T bs r map
+        pub paths-decide : (r : Result ⊤ Fault) → embedding_operands T bs ≡ passes → EmbeddingLoaded bs S map → judged r ≡ path_checks S T (embedding_by bs S map) → EmbeddingJudged S T bs r map
         paths-decide r o loaded e =
             record { judgement = e ∙ ap (path_checks S T) loaded.same_embedding ∙ sym same; loaded = λ reached. loaded }
           where
