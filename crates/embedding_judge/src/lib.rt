@@ -22,7 +22,12 @@ use loaded_embedding::MAP;
 use loaded_table::TABLE;
 
 // Checks 8 to 10 of a loaded embedding, one after the other.
-fn judge_each(source: &[u16; TABLE], target: &[u16; TABLE], em: &[u8], map: &[u16; MAP]) -> Result<(), Fault>
+fn judge_each(
+    source: &[u16; TABLE],
+    target: &[u16; TABLE],
+    em: &[u8],
+    map: &[u16; MAP],
+) -> Result<(), Fault>
     requires { Checkable source.now target.now em.now map.now }
     ensures { judged result ≡ edge_checks (table_by source.now) (table_by target.now) (embedding_by em.now (table_by source.now) map.now) }
 {
@@ -33,7 +38,12 @@ fn judge_each(source: &[u16; TABLE], target: &[u16; TABLE], em: &[u8], map: &[u1
 
 // Checks 7 to 10 of a loaded embedding. Where nothing is wrong one pass over the edges shows it; else the checks are made one
 // after the other.
-fn judge_paths(source: &[u16; TABLE], target: &[u16; TABLE], em: &[u8], map: &[u16; MAP]) -> Result<(), Fault>
+fn judge_paths(
+    source: &[u16; TABLE],
+    target: &[u16; TABLE],
+    em: &[u8],
+    map: &[u16; MAP],
+) -> Result<(), Fault>
     requires { Checkable source.now target.now em.now map.now }
     ensures { judged result ≡ path_checks (table_by source.now) (table_by target.now) (embedding_by em.now (table_by source.now) map.now) }
 {
