@@ -9,7 +9,6 @@ ghost use Rattle.model.specs.Definitions.EmbeddingChecks.{embedding_step, embedd
 
 use super::command::{EmbeddingCommand, command_at, width};
 use super::edges::edges_of;
-use answers::Verdict;
 use loaded_table::TABLE;
 
 // Due: edges still due for the last type, the number of the next type, whether a step may stand here. Ended: after 2F.
@@ -93,7 +92,7 @@ fn form_step(source: &[u16; TABLE], state: FormState, c: EmbeddingCommand) -> Fo
 
 // The verdict on the form of an embedding e of a source table. The loop runs the machine over the commands: the verdict
 // of what is left is the verdict of the whole.
-pub fn form(source: &[u16; TABLE], e: &[u8]) -> Verdict
+pub fn form(source: &[u16; TABLE], e: &[u8]) -> Result<(), usize>
     requires { Bounded source.now }
     ensures { verdict result ≡ embedding_form (table_by source.now) e.now }
 {
@@ -106,11 +105,11 @@ pub fn form(source: &[u16; TABLE], e: &[u8]) -> Verdict
                 state = next;
                 at += width(c);
             }
-            FormNext::Stops => return Verdict::Fails(at),
+            FormNext::Stops => return Err(at),
         }
     }
     match state {
-        FormState::Due(_, _, _) => Verdict::Fails(at),
-        FormState::Ended => Verdict::Passes,
+        FormState::Due(_, _, _) => Err(at),
+        FormState::Ended => Ok(()),
     }
 }

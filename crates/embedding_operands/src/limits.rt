@@ -5,7 +5,6 @@ ghost use Rattle.embedding_form.specs.Commands.{command};
 ghost use Rattle.embedding_operands.specs.States.{count_next};
 ghost use Rattle.model.specs.Definitions.EmbeddingChecks.{step_count, embedding_limits};
 
-use answers::Verdict;
 use codes::MAX_STEPS;
 use embedding_form::command::{EmbeddingCommand, command_at, width};
 
@@ -37,7 +36,7 @@ fn step_count(n: usize, c: EmbeddingCommand) -> CountNext
 
 // The verdict on the limits of an embedding e. The loop counts the steps of the path that it is in: the verdict of what is
 // left is the verdict of the whole.
-pub fn limits(e: &[u8]) -> Verdict
+pub fn limits(e: &[u8]) -> Result<(), usize>
     ensures { verdict result ≡ embedding_limits e.now }
 {
     let mut at: usize = 0;
@@ -49,8 +48,8 @@ pub fn limits(e: &[u8]) -> Verdict
                 steps = next;
                 at += width(c);
             }
-            CountNext::Stops => return Verdict::Fails(at),
+            CountNext::Stops => return Err(at),
         }
     }
-    Verdict::Passes
+    Ok(())
 }

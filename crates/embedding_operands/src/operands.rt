@@ -8,7 +8,6 @@ ghost use Rattle.model.specs.Definitions.EmbeddingChecks.{path_step, embedding_o
 ghost use Rattle.model.proofs.Theorems.Facts.{WellFormed};
 
 use super::step::{Stepped, step_from};
-use answers::Verdict;
 use embedding_form::command::{EmbeddingCommand, command_at, width};
 use loaded_table::TABLE;
 
@@ -47,7 +46,7 @@ fn path_step(target: &[u16; TABLE], start: usize, here: usize, c: EmbeddingComma
 
 // The verdict on the operands of an embedding e into a target table. The loop follows each path through the table's types:
 // the verdict of what is left is the verdict of the whole.
-pub fn operands(target: &[u16; TABLE], e: &[u8]) -> Verdict
+pub fn operands(target: &[u16; TABLE], e: &[u8]) -> Result<(), usize>
     requires bounded { Bounded target.now }
     requires well_formed { WellFormed (table_by target.now) }
     ensures { verdict result ≡ embedding_operands (table_by target.now) e.now }
@@ -63,8 +62,8 @@ pub fn operands(target: &[u16; TABLE], e: &[u8]) -> Verdict
                 here = h;
                 at += width(c);
             }
-            ReachNext::Stops => return Verdict::Fails(at),
+            ReachNext::Stops => return Err(at),
         }
     }
-    Verdict::Passes
+    Ok(())
 }
