@@ -81,7 +81,7 @@ impl State {
 }
 
 impl Check for State {
-    ghost fits = { λ s. ⊤ };
+    ghost fits = { λ s at. ⊤ };
 
     ghost rest = { form_left };
 

@@ -17,7 +17,7 @@ pub struct Both {
 }
 
 impl Check for Both {
-    ghost fits = { λ b. ⊤ };
+    ghost fits = { λ b at. ⊤ };
 
     ghost rest = { both_left };
 

@@ -67,7 +67,7 @@ impl Counts {
 }
 
 impl Check for Counts {
-    ghost fits = { λ n. ⊤ };
+    ghost fits = { λ n at. ⊤ };
 
     ghost rest = { limits_left };
 

@@ -29,7 +29,7 @@ impl Named {
 }
 
 impl Check for Named {
-    ghost fits = { λ n. ⊤ };
+    ghost fits = { λ n at. ⊤ };
 
     ghost rest = { operands_left };
 

@@ -15,7 +15,7 @@ pub struct Members {
 }
 
 impl Check for Members {
-    ghost fits = { Flagged };
+    ghost fits = { λ s at. Flagged s };
 
     ghost rest = { repeats_left };
 
