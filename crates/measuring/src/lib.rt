@@ -11,7 +11,7 @@ ghost use Rattle.loaded_table.specs.Loaded.{Bounded, table_by, types_in, held_le
 ghost use Rattle.loaded_embedding.specs.Loaded.{lengths_of};
 ghost use Rattle.loaded_setting.specs.Ready.{setting_in};
 ghost use Rattle.scanning.specs.Scanning.{ContentAt};
-ghost use Rattle.rows.specs.Rows.{levels_in, bytes_in, filler_in, no_child, first_from, item_row};
+ghost use Rattle.rows.specs.Rows.{levels_in, bytes_in, filler_in, first_from, item_row};
 ghost use Rattle.measuring.specs.Measured.{edge_number, type_ahead, Held, Given, Measured, Measurable, ImageSize};
 ghost use Rattle.model.specs.Definitions.TableChecks.{max_members};
 
@@ -20,36 +20,14 @@ use loaded_embedding::MAP;
 use loaded_table::{LIST, SEQUENCE, TABLE};
 use rows::{Size, TYPE_ROWS};
 
-// A byte at full width.
-pub fn wide(x: u8) -> usize
-    ensures { (result ≡ x) × (result < 256) }
-{
-    x as usize
-}
-
-// A number held at 60,001.
-pub fn held(n: usize) -> usize
-    ensures { result ≡ held_length n }
-{
-    if n < OVER_BYTES { n } else { OVER_BYTES }
-}
-
-// The larger of two numbers.
-fn larger(a: usize, b: usize) -> usize
-    ensures { result ≡ max a b }
-{
-    if a < b { b } else { a }
-}
-
 // A size with one character more.
 fn with_character(size: Size) -> Size
     requires { Held size.levels size.bytes size.filler }
     ensures { (result.levels ≡ size.levels) × (result.bytes ≡ held_length (size.bytes + 2)) × (result.filler ≡ size.filler) }
 {
     Size {
-        levels: size.levels,
-        bytes: held(size.bytes + 2),
-        filler: size.filler,
+        bytes: (size.bytes + 2).min(OVER_BYTES),
+        ..size
     }
 }
 
@@ -61,24 +39,23 @@ fn with_child(size: Size, around: Size, depth: usize, inner: Size) -> Size
     ensures bytes { result.bytes ≡ held_length (size.bytes + around.bytes + inner.bytes) }
     ensures filler { result.filler ≡ held_length (size.filler + around.filler + inner.filler) }
 {
-    let below = held(depth + inner.levels);
-    let deeper = larger(around.levels, below);
+    let below = (depth + inner.levels).min(OVER_BYTES);
     Size {
-        levels: larger(size.levels, deeper),
-        bytes: held(size.bytes + around.bytes + inner.bytes),
-        filler: held(size.filler + around.filler + inner.filler),
+        levels: size.levels.max(around.levels.max(below)),
+        bytes: (size.bytes + around.bytes + inner.bytes).min(OVER_BYTES),
+        filler: (size.filler + around.filler + inner.filler).min(OVER_BYTES),
     }
 }
 
-// The type of the element that content begins with at `from`; NO_CHILD where it begins with none.
-pub fn type_ahead(tr: &[u8], from: usize) -> usize
+// The type of the element that content begins with at `from`, if it begins with one.
+pub fn type_ahead(tr: &[u8], from: usize) -> Option<usize>
     requires { (k : Content) × ContentAt tr.now from k }
     ensures { (k : Content) → ContentAt tr.now from k → first_from result ≡ type_ahead k }
 {
     if tr[from] == OPENS {
-        return wide(tr[from + 1]);
+        return Some(usize::from(tr[from + 1]));
     }
-    rows::NO_CHILD
+    None
 }
 
 // The size of what stands around each item of source type s; zeros where s is no list.
@@ -102,14 +79,14 @@ fn item_size<'a>(source: &'a [u16; TABLE], sizes: &'a [u16], s: usize) -> Size
 // The number of the edge of child number i, of type t, of an element of type s.
 fn edge_of(source: &[u16; TABLE], s: usize, i: usize, t: usize) -> usize
     requires bounded { Bounded source.now }
-    requires s_bound { (s < types_in source.now) × (t < no_child) }
+    requires s_bound { s < types_in source.now }
     ensures { result ≡ edge_number (kind_of (table_by source.now) s) i t }
 {
     if loaded_table::kind(source, s) == SEQUENCE {
         return i;
     }
     let base = MAX_TYPES + s * TYPE_ROWS;
-    rows::source_row(source, s, t) - base
+    rows::source_row(source, s, Some(t)) - base
 }
 
 // The steps that lead to that child's image.
@@ -121,7 +98,7 @@ fn child_depth<'a>(
     t: usize,
 ) -> usize
     requires bounded { Bounded source.now }
-    requires s_bound { (s < types_in source.now) × (t < no_child) × (edge_number (kind_of (table_by source.now) s) i t < max_members) }
+    requires s_bound { (s < types_in source.now) × (edge_number (kind_of (table_by source.now) s) i t < max_members) }
     ensures { (result ≡ get_or (lengths_of map.now) (s * max_members + edge_number (kind_of (table_by source.now) s) i t) 0) × (result < 65536) }
 {
     let edge = edge_of(source, s, i, t);
@@ -158,7 +135,7 @@ fn element<'a>(
             size = with_character(size);
             o += 2;
         } else {
-            let t = wide(tr[o + 1]);
+            let t = usize::from(tr[o + 1]);
             let depth = child_depth(source, map, s, i, t);
             let p = element(source, map, sizes, tr, t, o + 2);
             let inner = p.size;
@@ -167,7 +144,7 @@ fn element<'a>(
             i += 1;
         }
     }
-    ElementSize { size: size, end: o }
+    ElementSize { size, end: o }
 }
 
 // The levels, the bytes and the bytes of filler of the image of a conforming document. The root element and the end of the
@@ -184,8 +161,8 @@ pub fn measure<'a>(
     let root = element(source, map, sizes, tr, 0, 2);
     let size = root.size;
     Size {
-        levels: held(size.levels + 1),
-        bytes: held(size.bytes + ROOT_BYTES),
+        levels: (size.levels + 1).min(OVER_BYTES),
+        bytes: (size.bytes + ROOT_BYTES).min(OVER_BYTES),
         filler: size.filler,
     }
 }

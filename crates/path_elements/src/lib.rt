@@ -15,9 +15,9 @@ ghost use Rattle.loaded_setting.specs.Ready.{setting_in};
 ghost use Rattle.rows.specs.Rows.{HasRow, row_in, row_at, to_of, item_row};
 ghost use Rattle.path_elements.specs.PathElements.{Given, Built, Countable};
 
-use codes::{CHARACTER, CLOSES};
+use codes::{CHARACTER, CLOSES, OVER_BYTES};
 use loaded_table::{LIST, TABLE};
-use measuring::{held, type_ahead, wide};
+use measuring::type_ahead;
 use rows::FILLER;
 
 // How many symbols of the row from one place of the pool up to another open an element.
@@ -26,12 +26,10 @@ fn openings(pool: &[u8], from: usize, to: usize) -> usize
     ensures { result ≡ row_built (row_in pool.now from to) }
 {
     let mut n: usize = 0;
-    let mut i = from;
-    while i < to {
+    for i in from..to {
         if pool[i] < FILLER {
             n += 1;
         }
-        i += 1;
     }
     n
 }
@@ -43,7 +41,7 @@ fn row_openings<'a>(pool: &'a [u8], places: &'a [u32], r: usize) -> usize
 {
     let from = rows::from(places, r);
     let to = rows::to(places, r);
-    held(openings(pool, from, to))
+    openings(pool, from, to).min(OVER_BYTES)
 }
 
 // The same of the row of an item of source type s; 0 where s is no list.
@@ -85,16 +83,13 @@ fn element<'a>(
         if tr[o] == CHARACTER {
             o += 2;
         } else {
-            let t = wide(tr[o + 1]);
+            let t = usize::from(tr[o + 1]);
             let inner = element(source, pool, places, tr, t, o + 2);
-            count = held(count + around + inner.count);
+            count = (count + around + inner.count).min(OVER_BYTES);
             o = inner.end + 1;
         }
     }
-    Counted {
-        count: count,
-        end: o,
-    }
+    Counted { count, end: o }
 }
 
 // The number of elements that paths build in the image of a conforming document, held at 60,001.

@@ -44,6 +44,10 @@ pass_all {tr} {i} = let none : i - i ≡ 0 = omega arith in record { few = omega
 pub pass_from : {tr : List ℕ} {i seen near : ℕ} → seen ≤ i → Behind tr seen near → ToPass tr i near (i - seen)
 pass_from {tr} {i} {seen} less b = let back : i - (i - seen) ≡ seen = omega arith in record { few = omega arith; behind = rw back b }
 
+-- their number, written in another way
+pub pass_more : {tr : List ℕ} {i o left now : ℕ} → left ≡ now → ToPass tr i o left → ToPass tr i o now
+pass_more {tr} {i} {o} e p = subst (ToPass tr i o) e p
+
 module _ {tr : List ℕ} {i o left : ℕ} (p : ToPass tr i o left) where
   -- all content at the start of the document has an element here
   next_opens : ChildThere tr i → (k : Content) (there : ContentAt tr 0 k) → OpensElement tr o (after_first (i - left) k) (p.behind.begins k there).rest

@@ -2,7 +2,7 @@
 
 #![tactic(auto)]
 
-ghost use Rattle.std.specs.Prelude.{◌≡◌, ◌-◌, ◌≤◌, ◌<◌};
+ghost use Rattle.std.specs.Prelude.{◌≡◌, ◌-◌, ◌≤◌, ◌<◌, MatchOption};
 ghost use Rattle.model.specs.Definitions.Templates.{first_in};
 ghost use Rattle.model.specs.Definitions.TableChecks.{max_members};
 ghost use Rattle.loaded_table.specs.Loaded.{Bounded, table_by};
@@ -10,7 +10,7 @@ ghost use Rattle.rows.specs.Rows.{first_from, child_symbol, characters_symbol};
 ghost use Rattle.scanning.specs.Spanning.{Spans};
 ghost use Rattle.row_traversal.specs.Contents.{ChildThere, Behind, Conforms, FirstThere, RowIs};
 
-use codes::{MAX_MEMBERS, OPENS};
+use codes::OPENS;
 use loaded_table::TABLE;
 use rows::{CHARACTERS, CHILD};
 use scanning::spans::close_of;
@@ -36,24 +36,23 @@ pub fn element_from<'a>(tr: &'a [u8], sp: &'a [u16], i: usize, seen: usize, near
         o = near;
         left = i - seen;
     }
-    while 0 < left {
+    for _passed in 0..left {
         let close = close_of(tr, sp, o + 2);
         o = close + 1;
-        left -= 1;
     }
     o
 }
 
-// The type of the first child of the content at offset o; NO_CHILD where it has none.
-fn first_type(tr: &[u8], o: usize) -> usize
+// The type of the first child of the content at offset o, if it has one.
+fn first_type(tr: &[u8], o: usize) -> Option<usize>
     requires { Conforms tr.now o }
     ensures { (c : Conforms tr.now o) → first_from result ≡ first_in c.inside }
 {
     if tr[o] == OPENS {
         let second = o + 1;
-        return wide(tr[second]);
+        return Some(usize::from(tr[second]));
     }
-    rows::NO_CHILD
+    None
 }
 
 // The row of the source element that opens at offset o.
@@ -63,20 +62,17 @@ pub fn row_of<'a>(source: &'a [u16; TABLE], tr: &'a [u8], o: usize) -> usize
     ensures { RowIs (table_by source.now) tr.now o result }
 {
     let second = o + 1;
-    let s = wide(tr[second]);
+    let s = usize::from(tr[second]);
     let t = first_type(tr, o + 2);
     rows::source_row(source, s, t)
 }
 
-// The number of the child that symbol x stands for; 16 where it is another symbol.
-pub fn child_of(x: u8) -> usize
-    ensures { (result < max_members → (result ≡ x - child_symbol) × (child_symbol ≤ x) × (x < characters_symbol)) × (max_members ≤ result → child_symbol ≤ x → x < characters_symbol → ⊥) }
+// The number of the child that symbol x stands for, if it stands for one.
+pub fn child_of(x: u8) -> Option<usize>
+    ensures { MatchOption result (child_symbol ≤ x → x < characters_symbol → ⊥) (λ n. (n ≡ x - child_symbol) × (child_symbol ≤ x) × (x < characters_symbol) × (n < max_members)) }
 {
-    if x < CHILD {
-        return MAX_MEMBERS;
+    if CHILD <= x && x < CHARACTERS {
+        return Some(usize::from(x - CHILD));
     }
-    if x < CHARACTERS {
-        return wide(x - CHILD);
-    }
-    MAX_MEMBERS
+    None
 }

@@ -38,17 +38,17 @@ bounds-tr-o-else-tr-o-eq-CHARACTER t c = turn-opens c.loop-o.invariant c.require
 
 pub child_depth-depth-requires-clause-s_bound : goal.child_depth-depth-requires-clause-s_bound
 child_depth-depth-requires-clause-s_bound t c =
-    let ahead = turn-ahead c.loop-o.invariant c.requires c.if-tr-o-eq-CHARACTER.false c.loop-o-test.true c.wide-t.result c.wide-t.ensures.0 in
-    (c.requires.exists, c.wide-t.ensures.1, ahead.few)
+    let ahead = turn-ahead c.loop-o.invariant c.requires c.if-tr-o-eq-CHARACTER.false c.loop-o-test.true c.from-t.result c.from-t.ensures in
+    (c.requires.exists, ahead.few)
 
 pub overflow_add-o-else-tr-o-eq-CHARACTER-2 : goal.overflow_add-o-else-tr-o-eq-CHARACTER-2
 overflow_add-o-else-tr-o-eq-CHARACTER-2 t c =
-    let ahead = turn-ahead c.loop-o.invariant c.requires c.if-tr-o-eq-CHARACTER.false c.loop-o-test.true c.wide-t.result c.wide-t.ensures.0 in
+    let ahead = turn-ahead c.loop-o.invariant c.requires c.if-tr-o-eq-CHARACTER.false c.loop-o-test.true c.from-t.result c.from-t.ensures in
     omega (arith, ahead.two)
 
 pub element-p-requires : goal.element-p-requires
 element-p-requires t c =
-    let ahead = turn-ahead c.loop-o.invariant c.requires c.if-tr-o-eq-CHARACTER.false c.loop-o-test.true c.wide-t.result c.wide-t.ensures.0 in
+    let ahead = turn-ahead c.loop-o.invariant c.requires c.if-tr-o-eq-CHARACTER.false c.loop-o-test.true c.from-t.result c.from-t.ensures in
     (omega (arith, c.decreases, c.loop-o.invariant.far, ahead.two), ahead.given)
 
 -- it was measured
@@ -56,7 +56,7 @@ element-turned : (t : ℕ) (c : After-element-p t)
     → ChildMeasured c.args.source.now c.args.map.now c.args.sizes.now c.args.tr.now c.args.s c.args.from c.loop-o.o c.loop-o.i c.loop-o.size.levels c.loop-o.size.bytes c.loop-o.size.filler c.item_size-around.result.levels c.item_size-around.result.bytes c.item_size-around.result.filler c.child_depth-depth.result c.element-p.result.size.levels c.element-p.result.size.bytes c.element-p.result.size.filler c.element-p.result.end
 element-turned t c =
     let around = c.item_size-around.ensures in
-    turn-child c.loop-o.invariant c.requires c.if-tr-o-eq-CHARACTER.false c.loop-o-test.true c.wide-t.result c.wide-t.ensures.0 around.levels around.bytes around.filler c.child_depth-depth.ensures.0 c.element-p.ensures
+    turn-child c.loop-o.invariant c.requires c.if-tr-o-eq-CHARACTER.false c.loop-o-test.true c.from-t.result c.from-t.ensures around.levels around.bytes around.filler c.child_depth-depth.ensures.0 c.element-p.ensures
 
 pub with_child-size-requires : goal.with_child-size-requires
 with_child-size-requires t c =

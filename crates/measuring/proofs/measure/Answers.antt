@@ -18,4 +18,4 @@ overflow_add-size-2 c =
 
 pub returns : goal.returns
 returns c =
-    λ m. whole-size m (c.element-root.ensures (root_given m)).0 c.held.ensures c.held-2.ensures
+    λ m. whole-size m (c.element-root.ensures (root_given m)).0 (omega (arith, c.min.ensures)) (omega (arith, c.min-2.ensures))

@@ -6,7 +6,6 @@ use Prim.Native.Nat.{ℕ, ◌+◌}
 use native.Mathlib.Omega.{arith}
 use lib.ListN.{get_or}
 use Rattle.model.specs.Definitions.Content.{Content, end, char, elem}
-use Rattle.rows.specs.Laws.{first_none, first_some}
 use Rattle.scanning.specs.Scanning.{ContentAt}
 use Rattle.scanning.specs.Laws.{content_within, element_first, opens}
 use Rattle.measuring.specs.Measured.{type_ahead}
@@ -35,7 +34,7 @@ pub bounds-tr-from-then-tr-from-eq-OPENS : goal.bounds-tr-from-then-tr-from-eq-O
 bounds-tr-from-then-tr-from-eq-OPENS c = (opens c.requires.0 c.requires.1 c.if-tr-from-eq-OPENS.true).two
 
 pub returns-then-tr-from-eq-OPENS : goal.returns-then-tr-from-eq-OPENS
-returns-then-tr-from-eq-OPENS c = λ k a. first_some c.wide.result (λ e. omega (arith, c.wide.ensures.1)) ∙ ap some c.wide.ensures.0 ∙ ahead-opens k a c.if-tr-from-eq-OPENS.true
+returns-then-tr-from-eq-OPENS c = λ k a. ap some c.from.ensures ∙ ahead-opens k a c.if-tr-from-eq-OPENS.true
 
 pub returns : goal.returns
-returns c = λ k a. first_none 256 refl ∙ sym (ahead_none k a c.if-tr-from-eq-OPENS.false)
+returns c = λ k a. sym (ahead_none k a c.if-tr-from-eq-OPENS.false)

@@ -39,13 +39,13 @@ overflow_add-o-else-tr-o-eq-CHARACTER-2 t c = omega (arith, turn-opens c.loop-o.
 pub element-inner-requires : goal.element-inner-requires
 element-inner-requires t c =
     let opens = turn-opens c.loop-o.invariant c.requires c.if-tr-o-eq-CHARACTER.false c.loop-o-test.true in
-    (omega (arith, c.decreases, c.loop-o.invariant.far, opens), turn-ahead c.loop-o.invariant c.requires c.if-tr-o-eq-CHARACTER.false c.loop-o-test.true c.wide-t.result c.wide-t.ensures.0)
+    (omega (arith, c.decreases, c.loop-o.invariant.far, opens), turn-ahead c.loop-o.invariant c.requires c.if-tr-o-eq-CHARACTER.false c.loop-o-test.true c.from-t.result c.from-t.ensures)
 
 -- it was counted
 element-turn : (t : ℕ) (c : After-element-inner t)
     → ChildCounted c.args.source.now c.args.pool.now c.args.places.now c.args.tr.now c.args.s c.args.from c.loop-o.o c.loop-o.count c.item_openings-around.result c.element-inner.result.count c.element-inner.result.end
 element-turn t c =
-    turn-child c.loop-o.invariant c.requires c.if-tr-o-eq-CHARACTER.false c.loop-o-test.true c.wide-t.result c.wide-t.ensures.0 c.item_openings-around.ensures c.element-inner.ensures
+    turn-child c.loop-o.invariant c.requires c.if-tr-o-eq-CHARACTER.false c.loop-o-test.true c.from-t.result c.from-t.ensures c.item_openings-around.ensures c.element-inner.ensures
 
 pub overflow_add-count : goal.overflow_add-count
 overflow_add-count t c =
@@ -69,7 +69,7 @@ loop-o-smaller t c =
 
 -- its count is joined to the count so far
 pub loop-o-preserved : goal.loop-o-preserved
-loop-o-preserved t c = (element-turn t (goal.at.loop-o-preserved t c).After-element-inner).joined (omega (arith, c.held-count.ensures))
+loop-o-preserved t c = (element-turn t (goal.at.loop-o-preserved t c).After-element-inner).joined (omega (arith, c.min-count.ensures))
 
 pub returns : goal.returns
 returns t c = turn_done c.loop-o.invariant c.requires c.loop-o-test.false

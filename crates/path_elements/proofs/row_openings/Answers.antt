@@ -1,7 +1,8 @@
 -- `row_openings` meets its contract: the row stands where its places say.
-use mathlib.Core.Path.{◌∙◌}
+use native.Mathlib.Omega.{arith}
 use Rattle.path_elements.proofs.row_openings.Goals as goal
 
 pub returns : goal.returns
 returns c =
-    c.held.ensures ∙ rw (c.openings.ensures, c.from-from.ensures, c.to-to.ensures)
+    let counted = rw (c.from-from.ensures, c.to-to.ensures) at c.openings.ensures in
+    omega (arith, counted, c.min.ensures)

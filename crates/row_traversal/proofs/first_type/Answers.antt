@@ -1,8 +1,7 @@
 -- `first_type` meets its contract: a first byte 30 is that of an element, whose type stands next.
-use mathlib.Core.Path.{◌∙◌, sym, ap, refl}
+use mathlib.Core.Path.{◌∙◌, sym, ap}
 use mathlib.Core.Option.{some}
 use native.Mathlib.Omega.{arith}
-use Rattle.rows.specs.Laws as rows
 use Rattle.scanning.specs.Laws.{content_within}
 use Rattle.row_traversal.specs.Contents.{first_some, first_none}
 use Rattle.row_traversal.proofs.first_type.Goals as goal
@@ -17,7 +16,7 @@ pub bounds-tr-second : goal.bounds-tr-second
 bounds-tr-second c = omega (arith, (first_some c.requires.there c.if-tr-o-eq-OPENS.true).0)
 
 pub returns-then-tr-o-eq-OPENS : goal.returns-then-tr-o-eq-OPENS
-returns-then-tr-o-eq-OPENS c = λ k. rows.first_some c.wide.result (λ e. omega (arith, c.wide.ensures.1)) ∙ ap some c.wide.ensures.0 ∙ (first_some k.there c.if-tr-o-eq-OPENS.true).1
+returns-then-tr-o-eq-OPENS c = λ k. ap some c.from.ensures ∙ (first_some k.there c.if-tr-o-eq-OPENS.true).1
 
 pub returns : goal.returns
-returns c = λ k. rows.first_none 256 refl ∙ sym (first_none k.holds k.there c.if-tr-o-eq-OPENS.false)
+returns c = λ k. sym (first_none k.holds k.there c.if-tr-o-eq-OPENS.false)

@@ -20,9 +20,9 @@ pub first_type-t-requires : goal.first_type-t-requires
 first_type-t-requires c = first_conforms c.requires.element
 
 pub source_row-requires : goal.source_row-requires
-source_row-requires c = record { bounded = c.requires.bounded; s_bound = omega (arith, c.requires.element.is_type, c.requires.element.element.named, c.wide-s.ensures.0, length_of_lem c.args.source.now) }
+source_row-requires c = record { bounded = c.requires.bounded; s_bound = omega (arith, c.requires.element.is_type, c.requires.element.element.named, c.from-s.ensures, length_of_lem c.args.source.now) }
 
 pub returns : goal.returns
 returns c =
     λ k. c.source_row.ensures.0
-    ∙ ap₂ (source_row (table_by c.args.source.now)) (c.wide-s.ensures.0 ∙ k.element.named) (c.first_type-t.ensures (first_conforms k))
+    ∙ ap₂ (source_row (table_by c.args.source.now)) (c.from-s.ensures ∙ k.element.named) (c.first_type-t.ensures (first_conforms k))
