@@ -1,5 +1,6 @@
 -- From the verdicts of the checks, in order, to the judgement.
-use mathlib.Core.Path.{◌≡◌, sym, ap, ◌∙◌, subst}
+use mathlib.Core.Path.{◌≡◌, refl, sym, ap, ◌∙◌, subst}
+use mathlib.Core.Bool.{true}
 use mathlib.Core.List.{List}
 use mathlib.Core.Logic.{inl}
 use Prim.Native.Nat.{ℕ, ◌≤◌, ◌<◌}
@@ -10,6 +11,9 @@ use Rattle.table_judge.specs.Judging.{TableJudged, AfterLimits, later_checks}
 use Rattle.answers.specs.Answers.{verdict, fault}
 use Rattle.answers.specs.declared.Fault.{Fault}
 use Rattle.std.specs.Prelude.{⊤, Result, Ok, Err}
+use Rattle.std.specs.Result.{MatchResult, IsErrAnd, is_ok}
+use Rattle.std.proofs.lemmas.Result.{err_from_is_err_and}
+use Rattle.model.proofs.Theorems.Tools.{true_false}
 use Rattle.loaded_table.specs.Loaded as loaded_table
 use Rattle.loaded_table.specs.Loaded.{types_in, heights_of, Bounded, Kept, length_of_lem}
 use Rattle.table_load.specs.Loading.{TableLoaded}
@@ -31,9 +35,29 @@ use Rattle.model.proofs.Theorems.JudgedTables.{table_sound}
 has_sound : {X : Type 0} {f : refusals.Fault} {j : refusals.Judged} → j ≡ has f → j ≡ sound → X
 has_sound {f = f} {j} p q = let z : ◌≡◌ {A = ℕ} 0 1 = cc in absurd (omega arith)
 
--- the model's verdict, where the code's is known
-pub verdict_is : (v : Result ⊤ ℕ) {w m : model.Verdict} → verdict v ≡ w → (x : Result ⊤ ℕ) → v ≡ x → verdict x ≡ m → w ≡ m
-verdict_is v p x q e = sym p ∙ ap verdict q ∙ e
+-- ---- what a check's result comes to
+
+-- a check whose result is right has passed
+pub right : (r : Result ⊤ ℕ) {v : model.Verdict} → verdict r ≡ v → true ≡ is_ok r → v ≡ passes
+right (Ok done) said e = sym said
+right (Err at) said e = true_false (sym e) refl
+
+-- what the fault of a check that is not right comes to, behind `map_err` and `?`
+pub record Refuses (v : model.Verdict) (K : ℕ → Fault) (out : Result ⊤ Fault) : Type 0 where
+  pub at : ℕ
+  pub failed : v ≡ fails at
+  pub answer : out ≡ Err (K at)
+
+pub refuses : (r : Result ⊤ ℕ) (mapped out : Result ⊤ Fault) {f : Fault} {v : model.Verdict} (K : ℕ → Fault) → verdict r ≡ v
+    → MatchResult r (λ done. mapped ≡ Ok done) (λ at. IsErrAnd mapped (λ g. g ≡ K at)) → mapped ≡ Err f → IsErrAnd out (λ g. g ≡ f) → Refuses v K out
+refuses (Ok done) mapped out {f = f} K said h e gave =
+    let same : ◌≡◌ {A = Result ⊤ Fault} (Ok done) (Err f) = sym h ∙ e in let z : ◌≡◌ {A = ℕ} 0 1 = cc in absurd (omega arith)
+refuses (Err at) mapped out {f = f} K said h e gave =
+    let given = err_from_is_err_and out gave in
+    let there = err_from_is_err_and mapped h in
+    let (x, a, b) = given in
+    let (y, p, q) = there in
+    let answer : out ≡ Err (K at) = cc in record { at = at; failed = sym said; answer = answer }
 
 -- ---- checks 4 to 6
 
