@@ -32,7 +32,7 @@ pub struct Progress<'a> {
 }
 
 impl Check for Progress<'_> {
-    ghost fits = { λ f. Bounded f.source.now };
+    ghost fits = { λ f at. Bounded f.source.now };
 
     ghost rest = { form_left };
 

@@ -16,7 +16,7 @@ pub struct Steps {
 }
 
 impl Check for Steps {
-    ghost fits = { λ s. ⊤ };
+    ghost fits = { λ s at. ⊤ };
 
     ghost rest = { limits_left };
 

@@ -27,7 +27,7 @@ pub struct Walk<'a> {
 }
 
 impl Check for Walk<'_> {
-    ghost fits = { Within };
+    ghost fits = { λ s at. Within s };
 
     ghost rest = { operands_left };
 
