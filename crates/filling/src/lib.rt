@@ -136,10 +136,9 @@ fn run<'a, S: Sink>(
     let mut near = 0;
     for i in from..to {
         let x = pool[i];
-        let number = child_of(x);
         if x == ITEMS {
             items(source, pool, places, tr, sp, r + MAX_MEMBERS, sink)?;
-        } else if number < MAX_MEMBERS {
+        } else if let Some(number) = child_of(x) {
             near = element_from(tr, sp, number, seen, near);
             seen = number;
             child(source, pool, places, tr, sp, near, sink)?;

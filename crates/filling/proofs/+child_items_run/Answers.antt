@@ -9,7 +9,11 @@ use Rattle.row_traversal.specs.Loops.{row_goes, row_last, row-less, row-sought, 
 use Rattle.filling.proofs.Exits.{on_err}
 use Rattle.filling.proofs.Taking.{take_all, take_room, take_turn, take_stops, all_taken, as_row, row_takes}
 use Rattle.filling.proofs.+child_items_run.Goals as goal
-use Rattle.filling.proofs.+child_items_run.Goals.{run-then-x+in_ok-items, run-else-x+then-number-lt-MAX_MEMBERS+in_ok-child, run-else-x+else-number-lt-MAX_MEMBERS+in_ok-plain}
+use Rattle.filling.proofs.+child_items_run.Goals.{run-then-x+in_ok-items, run-else-x+in-Some+in_ok-child, run-else-x+in_default+in_ok-plain}
+
+-- what the rows' laws ask of a child's number
+child_known : {A B C D : Type 0} → A × B × C × D → A × B × C
+child_known (a, b, c, d) = (a, b, c)
 
 -- ---- a child
 
@@ -99,13 +103,13 @@ run-returns-in_err-items-clause-refused g t c =
 
 pub run-element_from-near-requires-clause-content : goal.run-element_from-near-requires-clause-content
 run-element_from-near-requires-clause-content g t c =
-    row-sought c.loop-i.invariant.0 c.loop-i-test.true c.requires.task.asked (c.child_of-number.ensures.0 c.if-number-lt-MAX_MEMBERS.true)
+    row-sought c.loop-i.invariant.0 c.loop-i-test.true c.requires.task.asked (child_known c.in-Some.ensures)
 
 pub run-child-requires : goal.run-child-requires
 run-child-requires g t c =
     let f = c.requires.task in
     λ κs lives.
-    (omega (arith, c.decreases, (rank_bounds c.args.r).0), (lives, (c.requires.spans, asks-child c.loop-i.invariant.0 c.loop-i-test.true f.asked (take_room g.S.Sink.laws f.room) (c.child_of-number.ensures.0 c.if-number-lt-MAX_MEMBERS.true) c.element_from-near.ensures)))
+    (omega (arith, c.decreases, (rank_bounds c.args.r).0), (lives, (c.requires.spans, asks-child c.loop-i.invariant.0 c.loop-i-test.true f.asked (take_room g.S.Sink.laws f.room) (child_known c.in-Some.ensures) c.element_from-near.ensures)))
 
 pub run-returns-in_err-child-clause-refused : goal.run-returns-in_err-child-clause-refused
 run-returns-in_err-child-clause-refused g t c =
@@ -113,29 +117,28 @@ run-returns-in_err-child-clause-refused g t c =
     let h = c.loop-i-test.true in
     on_err _
     (row-then l h (take_stops g.S.Sink.laws)
-    (child-done l h (c.child_of-number.ensures.0 c.if-number-lt-MAX_MEMBERS.true) c.element_from-near.ensures c.in_err-child.ensures.refused))
+    (child-done l h (child_known c.in-Some.ensures) c.element_from-near.ensures c.in_err-child.ensures.refused))
 
 pub run-plain-requires-clause-task : goal.run-plain-requires-clause-task
 run-plain-requires-clause-task g t c =
     let f = c.requires.task in
-    asks-plain c.loop-i.invariant.0 c.loop-i-test.true f.asked (take_room g.S.Sink.laws f.room) (c.child_of-number.ensures.1 c.if-number-lt-MAX_MEMBERS.false) c.if-x.false
+    asks-plain c.loop-i.invariant.0 c.loop-i-test.true f.asked (take_room g.S.Sink.laws f.room) c.in_default.ensures c.if-x.false
 
 pub run-returns-in_err-plain-clause-refused : goal.run-returns-in_err-plain-clause-refused
 run-returns-in_err-plain-clause-refused g t c =
     let l = c.loop-i.invariant.0 in
     let h = c.loop-i-test.true in
-    on_err _ (row-then l h (take_stops g.S.Sink.laws) (plain_done l h (c.child_of-number.ensures.1 c.if-number-lt-MAX_MEMBERS.false) c.if-x.false c.in_err-plain.ensures.refused))
+    on_err _ (row-then l h (take_stops g.S.Sink.laws) (plain_done l h c.in_default.ensures c.if-x.false c.in_err-plain.ensures.refused))
 
 pub run-loop-i-preserved : goal.run-loop-i-preserved
 run-loop-i-preserved g t c =
     let l = c.loop-i.invariant.0 in
     let b = c.loop-i.invariant.1 in
     let h = c.loop-i-test.true in
-    let number = c.child_of-number.ensures in
     elim c.if-x.branch [
       | run-then-x+in_ok-items w ↦ (row_takes g.S.Sink.laws l h w.sink-is (items_done l h w.if-x.true w.in_ok-items.ensures.taken), behind_same w.seen-is w.near-is b)
-      | run-else-x+then-number-lt-MAX_MEMBERS+in_ok-child w ↦ (row_takes g.S.Sink.laws l h w.sink-is (child-done l h (number.0 w.if-number-lt-MAX_MEMBERS.true) w.element_from-near.ensures w.in_ok-child.ensures.taken), behind_same w.seen-is w.near-is w.element_from-near.ensures)
-      | run-else-x+else-number-lt-MAX_MEMBERS+in_ok-plain w ↦ (row_takes g.S.Sink.laws l h w.sink-is (plain_done l h (number.1 w.if-number-lt-MAX_MEMBERS.false) w.if-x.false w.in_ok-plain.ensures.taken), behind_same w.seen-is w.near-is b)
+      | run-else-x+in-Some+in_ok-child w ↦ (row_takes g.S.Sink.laws l h w.sink-is (child-done l h (child_known w.in-Some.ensures) w.element_from-near.ensures w.in_ok-child.ensures.taken), behind_same w.seen-is w.near-is w.element_from-near.ensures)
+      | run-else-x+in_default+in_ok-plain w ↦ (row_takes g.S.Sink.laws l h w.sink-is (plain_done l h w.in_default.ensures w.if-x.false w.in_ok-plain.ensures.taken), behind_same w.seen-is w.near-is b)
     ]
 
 pub run-returns-clause-taken : goal.run-returns-clause-taken
