@@ -2,7 +2,9 @@
 use Rattle.std.specs.Prelude.{◌≡◌, refl, List, ℕ}
 use Rattle.answer_numbers.specs.declared.Answer.{Answer}
 use Rattle.answer_numbers.specs.declared.ExplanationNumbers.{ExplanationNumbers}
-use Rattle.model.specs.Definitions.Refusals.{Refusal}
+use Rattle.answers.specs.declared.Fault.{Fault}
+use Rattle.answers.specs.Answers.{fault}
+use Rattle.model.specs.Definitions.Refusals.{Refusal, Document, document_number, faulty, fault_number, fault_mark, numbers_of}
 use Rattle.model.specs.Definitions.Entries as model
 use Rattle.model.specs.Definitions.Entries.{Outcome, answer_of, refused, untouched}
 use Rattle.model.specs.Definitions.Explanation as explanations
@@ -13,6 +15,15 @@ numbers a = record { refusal = a.refusal; document = a.document; mark = a.mark; 
 -- the five numbers of a refusal
 abbrev pub refusal_numbers : ℕ → ℕ → ℕ → model.Answer
 refusal_numbers number document mark = record { refusal = number; document = document; mark = mark; value = 0; filler = 0 }
+
+-- the answer for a fault of the document that has this number, whichever number that is
+abbrev pub ForFault : Fault → ℕ → Answer → Type 0
+ForFault f n a = numbers a ≡ refusal_numbers (fault_number (fault f)) n (fault_mark (fault f))
+
+-- for 01's documents it is the model's answer
+pub fault_answer : (d : Document) (f : Fault) (a : Answer) → ForFault f (document_number d) a → numbers a ≡ answer_of (refused (faulty d (fault f)))
+unfolding answer_of numbers_of
+fault_answer d f a answer = answer
 
 -- answer and output are those of an outcome
 pub record Answers (o : Outcome) (new : List ℕ) (a : Answer) : Type 0 where

@@ -5,14 +5,12 @@
 ghost use Rattle.std.specs.Prelude.{◌≡◌};
 ghost use Rattle.model.specs.Definitions.Entries.{answer_of};
 ghost use Rattle.model.specs.Definitions.Entries as model;
-ghost use Rattle.model.specs.Definitions.Refusals.{document_number, faulty};
 ghost use Rattle.model.specs.Definitions.Explanation as explanations;
 ghost use Rattle.model.specs.Definitions.Explanation.{explanation_numbers};
-ghost use Rattle.answers.specs.Answers as answers;
-ghost use Rattle.answers.specs.Answers.{fault, refusal, counted_result, written_result, clash, explanation};
-ghost use Rattle.answer_numbers.specs.Numbers.{numbers, refusal_numbers, ten_numbers, unexplained_numbers};
+ghost use Rattle.answers.specs.Answers.{refusal, counted_result, written_result, clash, explanation};
+ghost use Rattle.answer_numbers.specs.Numbers.{numbers, refusal_numbers, ForFault, ten_numbers, unexplained_numbers};
 
-use answers::{Clash, Document, Explanation, Fault, Refusal, Written};
+use answers::{Clash, Explanation, Fault, Refusal, Written};
 
 // Fields that don't apply are 0; so is `refusal` where the input is accepted.
 #[repr(C)]
@@ -38,22 +36,22 @@ pub fn accepting(value: u64, filler: u64) -> Answer
     }
 }
 
-// The answer of refusal by a number, a document and a mark.
-fn refusing(refusal: u64, document: Document, mark: usize) -> Answer
-    ensures { numbers result ≡ refusal_numbers refusal (document_number (answers.document document)) mark }
+// The answer of refusal by a number, a document's number and a mark.
+fn refusing(refusal: u64, document: u64, mark: usize) -> Answer
+    ensures { numbers result ≡ refusal_numbers refusal document mark }
 {
     Answer {
         refusal,
-        document: u64::from(document),
+        document,
         mark: mark as u64,
         value: 0,
         filler: 0,
     }
 }
 
-// The answer for a fault of a document.
-fn faulting(document: Document, f: Fault) -> Answer
-    ensures { numbers result ≡ answer_of (model.refused (faulty (answers.document document) (fault f))) }
+// The answer for a fault of a document, which is given by its number: `ForFault` holds for every number, so it stays one.
+pub fn faulting(f: Fault, document: u64) -> Answer
+    ensures { ForFault f document result }
 {
     match f {
         Fault::TooLong => refusing(codes::TOO_LONG, document, 0),
@@ -76,13 +74,13 @@ impl From<Refusal> for Answer {
 
     fn from(r: Refusal) -> Answer {
         match r {
-            Refusal::Faulty(document, f) => faulting(document, f),
-            Refusal::NoImage => refusing(codes::NO_IMAGE, Document::Tree, 0),
-            Refusal::Unreadable(at) => refusing(codes::UNREADABLE, Document::Tree, at),
-            Refusal::ImageTooDeep => refusing(codes::IMAGE_TOO_DEEP, Document::Output, 0),
-            Refusal::ImageTooLong => refusing(codes::IMAGE_TOO_LONG, Document::Output, 0),
-            Refusal::OutputTooShort => refusing(codes::OUTPUT_TOO_SHORT, Document::Output, 0),
-            Refusal::NoChoice => refusing(codes::NO_CHOICE, Document::SourceTable, 0),
+            Refusal::Faulty(document, f) => faulting(f, u64::from(document)),
+            Refusal::NoImage => refusing(codes::NO_IMAGE, codes::TREE, 0),
+            Refusal::Unreadable(at) => refusing(codes::UNREADABLE, codes::TREE, at),
+            Refusal::ImageTooDeep => refusing(codes::IMAGE_TOO_DEEP, codes::OUTPUT, 0),
+            Refusal::ImageTooLong => refusing(codes::IMAGE_TOO_LONG, codes::OUTPUT, 0),
+            Refusal::OutputTooShort => refusing(codes::OUTPUT_TOO_SHORT, codes::OUTPUT, 0),
+            Refusal::NoChoice => refusing(codes::NO_CHOICE, codes::SOURCE_TABLE, 0),
         }
     }
 }

@@ -1,10 +1,11 @@
 -- `from` meets its contract: each refusal has its number, document and mark.
 use Rattle.model.specs.Definitions.Refusals.{numbers_of, document_number}
 use Rattle.model.specs.Definitions.Entries.{answer_of}
+use Rattle.answer_numbers.specs.Numbers.{fault_answer}
 use Rattle.answer_numbers.proofs.AnswerFromRefusal.from.Goals as goal
 
 pub returns-in-Faulty : goal.returns-in-Faulty
-returns-in-Faulty c = rw c.in-Faulty.is c.faulting.ensures
+returns-in-Faulty c = rw c.in-Faulty.is (fault_answer _ _ _ (rw c.from.ensures at c.faulting.ensures))
 
 pub returns-in-NoImage : goal.returns-in-NoImage
 unfolding answer_of numbers_of document_number
