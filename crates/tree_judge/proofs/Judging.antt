@@ -36,11 +36,11 @@ pub same_error : {f : answers.Fault} (part whole : Result ⊤ answers.Fault) →
 same_error part whole e end = ap judged (error_of whole end ∙ sym e)
 
 -- one check, whose offset gets the name of a fault
-pub check_named : (name : ℕ → answers.Fault) {named : Result ⊤ answers.Fault} {w : Verdict} (r : Result ⊤ ℕ) → verdict r ≡ w
+pub check_named : (name : ℕ → answers.Fault) (named : Result ⊤ answers.Fault) {w : Verdict} (r : Result ⊤ ℕ) → verdict r ≡ w
     → MatchResult r (λ x. named ≡ Ok x) (λ at. IsErrAnd named (λ f. f ≡ name at)) → judged named ≡ fault_at (λ at. fault (name at)) w (λ u. sound)
 unfolding fault_at
-check_named name (Ok x) told e = ap judged e ∙ ap (λ (v : Verdict). fault_at (λ at. fault (name at)) v (λ u. sound)) told
-check_named name {named} (Err at) told e = ap judged (error_of named e) ∙ ap (λ (v : Verdict). fault_at (λ at. fault (name at)) v (λ u. sound)) told
+check_named name named (Ok x) told e = ap judged e ∙ ap (λ (v : Verdict). fault_at (λ at. fault (name at)) v (λ u. sound)) told
+check_named name named (Err at) told e = ap judged (error_of named e) ∙ ap (λ (v : Verdict). fault_at (λ at. fault (name at)) v (λ u. sound)) told
 
 -- where it finds a fault, it decides
 fault_here : (name : ℕ → Fault) (w : Verdict) (rest : Unit {0} → Judged) {f : Fault} → has f ≡ fault_at name w (λ u. sound) → has f ≡ fault_at name w rest
@@ -125,8 +125,8 @@ pub by_types : (rows bs : List ℕ) {x : Judged} {n : ℕ} → n ≡ types_in ro
 by_types rows bs n e = rw (length_of_lem rows, ← n) e
 
 -- a document that has a fault is refused for it
-pub refused : {S : Table} {bs : List ℕ} {f : answers.Fault} (whole : Result ℕ answers.Fault) → IsErrAnd whole (λ g. g ≡ f) → has (fault f) ≡ judged_tree S bs → TreeJudged S bs whole
-refused {S} {bs} whole end h = subst (TreeJudged S bs) (sym (error_of whole end)) (sym h)
+pub refused : (S : Table) (bs : List ℕ) (f : answers.Fault) (whole : Result ℕ answers.Fault) → IsErrAnd whole (λ g. g ≡ f) → has (fault f) ≡ judged_tree S bs → TreeJudged S bs whole
+refused S bs f whole end h = subst (TreeJudged S bs) (sym (error_of whole end)) (sym h)
 
 -- ---- the pass
 
