@@ -1,6 +1,6 @@
 -- From what the checks of an operation find to what it answers.
 use mathlib.Core.Path.{◌≡◌, refl, sym, ap, ap₂, ◌∙◌, subst}
-use mathlib.Core.Bool.{true, false}
+use mathlib.Core.Bool.{Bool, true, false}
 use mathlib.Core.List.{List, [], ◌∷◌, ◌++◌}
 use mathlib.Core.Logic.{inl, inr}
 use mathlib.Core.Option.{Option, none, some}
@@ -10,11 +10,12 @@ use native.Mathlib.Omega.{arith}
 use lib.ListN.{length, get_or}
 use lib.Dec.{eqb}
 use borrow.Author.Tests.{eqb-true, eqb-false}
-use Rattle.answers.specs.Answers.{verdict, fault}
-use Rattle.answers.specs.declared.Verdict.{Verdict}
-use Rattle.answers.specs.declared.Judged.{Judged}
+use Rattle.answers.specs.Answers.{verdict, refusal}
 use Rattle.answers.specs.declared.Fault.{Fault}
-use Rattle.answers.specs.declared.Extension.{Extension}
+use Rattle.answers.specs.declared.Document.{Document}
+use Rattle.answers.specs.declared.Refusal.{Refusal as Why}
+use Rattle.std.specs.Prelude.{⊤, Result, Ok, Err}
+use Rattle.std.specs.Result.{is_err}
 use Rattle.loaded_table.specs.Loaded.{types_in, counts_of, table_by, Bounded, length_of_lem}
 use Rattle.model.specs.Definitions.Basics as basics
 use Rattle.model.specs.Definitions.Basics.{passes, fails, is_there, member_of}
@@ -22,7 +23,7 @@ use Rattle.model.specs.Definitions.Table.{Kind, Table, is_choice, kind_of, membe
 use Rattle.model.specs.Definitions.Heights.{height_of}
 use Rattle.model.specs.Definitions.TableChecks.{table_operands, table_repeats}
 use Rattle.model.specs.Definitions.ValidTable.{ValidTable, kind_bytes}
-use Rattle.model.specs.Definitions.Refusals.{over_limit, bad_operand, repeated_member, no_finite_instance, Refusal, source_table, faulty, no_choice}
+use Rattle.model.specs.Definitions.Refusals.{over_limit, bad_operand, repeated_member, no_finite_instance, Refusal, source_table, faulty}
 use Rattle.model.specs.Definitions.Entries.{refused, accepted}
 use Rattle.model.specs.Definitions.Operations.{type_in, Operation, append_type, append_member, Changed, unchanged, changed_to, append_kind, type_appended, operate, member_appended, extended_at}
 use Rattle.model.proofs.Theorems.Operations.{type_in_exactly, type_many, type-unknown, type-repeated, grown-well-formed, type-endless, type-appended, no_choice_there, member_many, member-unknown, member-repeated, member-appended}
@@ -37,16 +38,13 @@ use Rattle.table_growth.specs.Growth.{Loaded, IsLoaded, Grown, TypeChecked, MayJ
 
 -- ---- any operation
 
--- refused for a fault, or since there is nothing to extend
+-- refused
 module _ (o : Operation) (rows after : List ℕ) where
-  pub refused_fault : (f : Fault) → (operate (table_by rows) o).result ≡ refused (faulty source_table (fault f)) → Grown o rows (Extension.Faulty f) after
-  refused_fault f e = record { answer = sym e; done = λ n same. let z : ◌≡◌ {A = ℕ} 0 1 = cc in absurd (omega arith) }
-
-  pub refused_choice : (operate (table_by rows) o).result ≡ refused no_choice → Grown o rows Extension.NoChoice after
-  refused_choice e = record { answer = sym e; done = λ n same. let z : ◌≡◌ {A = ℕ} 0 1 = cc in absurd (omega arith) }
+  pub refused_as : (why : Why) → (operate (table_by rows) o).result ≡ refused (refusal why) → Grown o rows (Err why) after
+  refused_as why e = record { answer = sym e; done = λ n same. let z : ◌≡◌ {A = ℕ} 0 1 = cc in absurd (omega arith) }
 
   -- done
-  pub done_as : {all : ℕ} {T : Table} → operate (table_by rows) o ≡ record { result = accepted all 0; table = T } → Loaded after T → Grown o rows (Extension.Types all) after
+  pub done_as : {all : ℕ} {T : Table} → operate (table_by rows) o ≡ record { result = accepted all 0; table = T } → Loaded after T → Grown o rows (Ok all) after
   done_as e loaded = record { answer = sym (ap (λ (c : Changed). c.result) e); done = λ n same. subst (Loaded after) (sym (ap (λ (c : Changed). c.table) e)) loaded }
 
 -- ---- a type
@@ -62,14 +60,16 @@ unfolding is_there
 there_isn't none e = refl
 there_isn't (some κ) e = true_false refl e
 
--- a verdict that fails is the model's
-pub fails_as : {v : Verdict} {w : basics.Verdict} {at : ℕ} → verdict v ≡ w → v ≡ Verdict.Fails at → w ≡ fails at
-fails_as p q = sym p ∙ ap verdict q
+-- a check that answers an error has failed, and one that answers none has passed
+pub fails_as : (r : Result ⊤ ℕ) {w : basics.Verdict} {b : Bool} → verdict r ≡ w → b ≡ is_err r → b ≡ true → (at : ℕ) × (w ≡ fails at)
+fails_as (Ok done) p q e = true_false e q
+fails_as (Err at) p q e = (at, sym p)
 
-pub passes_as : {v : Verdict} {w : basics.Verdict} → verdict v ≡ w → v ≡ Verdict.Passes → w ≡ passes
-passes_as p q = sym p ∙ ap verdict q
+pub passes_as : (r : Result ⊤ ℕ) {w : basics.Verdict} {b : Bool} → verdict r ≡ w → b ≡ is_err r → b ≡ false → w ≡ passes
+passes_as (Ok done) p q e = sym p
+passes_as (Err at) p q e = true_false q e
 
-pub not_one : (all : ℕ) (cs : List ℕ) → is_one_type cs ≡ false → TypeChecked all cs (Judged.Has (Fault.BadForm 0))
+pub not_one : (all : ℕ) (cs : List ℕ) → is_one_type cs ≡ false → TypeChecked all cs (Err (Why.Faulty Document.SourceTable (Fault.BadForm 0)))
 unfolding type_appended append_kind unchanged
 not_one all cs e T valid long = ap (λ o. (append_kind T o).result) (there_isn't (type_in cs) e)
 
@@ -145,41 +145,41 @@ module _ (rows after : List ℕ) (t m : ℕ) (loaded : IsLoaded rows) where
   unfolding operate
   by e = ap (λ (c : Changed). c.result) e
 
-  pub nothing_to_extend : is_choice (kind_of T t) ≡ false → Grown (append_member t m) rows Extension.NoChoice after
+  pub nothing_to_extend : is_choice (kind_of T t) ≡ false → Grown (append_member t m) rows (Err Why.NoChoice) after
   unfolding unchanged
-  nothing_to_extend e = refused_choice (append_member t m) rows after (by (no_choice_there T t m e))
+  nothing_to_extend e = refused_as (append_member t m) rows after Why.NoChoice (by (no_choice_there T t m e))
 
   module _ (exists : t < types_in rows) (chooses : is_choice (kind_of T t) ≡ true) where
     long : length (members_at rows t) ≡ get_or (counts_of rows) t 0
     long = members_long rows t (bounded, exists) refl
 
-    pub too_many : eqb (get_or (counts_of rows) t 0) 16 ≡ true → Grown (append_member t m) rows (Extension.Faulty (Fault.OverLimit 0)) after
+    pub too_many : eqb (get_or (counts_of rows) t 0) 16 ≡ true → Grown (append_member t m) rows (Err (Why.Faulty Document.SourceTable (Fault.OverLimit 0))) after
     unfolding unchanged
     too_many e =
-        refused_fault (append_member t m) rows after (Fault.OverLimit 0) (by (member_many T loaded.valid t _ _ (choice_is rows t exists chooses) m (omega (arith, long, eqb-true (get_or (counts_of rows) t 0) 16 e))))
+        refused_as (append_member t m) rows after (Why.Faulty Document.SourceTable (Fault.OverLimit 0)) (by (member_many T loaded.valid t _ _ (choice_is rows t exists chooses) m (omega (arith, long, eqb-true (get_or (counts_of rows) t 0) 16 e))))
 
     module _ (room : eqb (get_or (counts_of rows) t 0) 16 ≡ false) where
       few : get_or (counts_of rows) t 0 < 16
       few = omega (arith, bounded.few_members t, eqb-false (get_or (counts_of rows) t 0) 16 room)
 
-      pub unknown : types_in rows ≤ m → Grown (append_member t m) rows (Extension.Faulty (Fault.BadOperand 0)) after
+      pub unknown : types_in rows ≤ m → Grown (append_member t m) rows (Err (Why.Faulty Document.SourceTable (Fault.BadOperand 0))) after
       unfolding unchanged
       unknown e =
-          refused_fault (append_member t m) rows after (Fault.BadOperand 0)
+          refused_as (append_member t m) rows after (Why.Faulty Document.SourceTable (Fault.BadOperand 0))
           (by (member-unknown T loaded.valid t _ _ (choice_is rows t exists chooses) m (omega (arith, long, few)) (omega (arith, length_of_lem rows))))
 
       module _ (known : m < types_in rows) where
-        pub repeated : member_of m (members_at rows t) ≡ true → Grown (append_member t m) rows (Extension.Faulty (Fault.RepeatedMember 0)) after
+        pub repeated : member_of m (members_at rows t) ≡ true → Grown (append_member t m) rows (Err (Why.Faulty Document.SourceTable (Fault.RepeatedMember 0))) after
         unfolding unchanged
         repeated e =
-            refused_fault (append_member t m) rows after (Fault.RepeatedMember 0)
+            refused_as (append_member t m) rows after (Why.Faulty Document.SourceTable (Fault.RepeatedMember 0))
             (by (member-repeated T loaded.valid t _ _ (choice_is rows t exists chooses) m (omega (arith, long, few)) (omega (arith, length_of_lem rows)) e))
 
         module _ (new : member_of m (members_at rows t) ≡ false) where
           pub may-join : MayJoin rows t m
           may-join = record { loaded = loaded; chooses = chooses; exists = exists; room = few; known = known; new = new }
 
-          pub joined : {all : ℕ} → all ≡ types_in rows → Loaded after (extended_at T t m) → Grown (append_member t m) rows (Extension.Types all) after
+          pub joined : {all : ℕ} → all ≡ types_in rows → Loaded after (extended_at T t m) → Grown (append_member t m) rows (Ok all) after
           unfolding operate
           joined {all} e there =
               done_as (append_member t m) rows after

@@ -8,7 +8,9 @@ use native.Mathlib.Numerals.{add-one}
 use native.Mathlib.Omega.{arith}
 use lib.ListN.{length, get_or, set, length-set}
 use Rattle.answers.specs.declared.Fault.{Fault}
-use Rattle.answers.specs.declared.Extension.{Extension}
+use Rattle.answers.specs.declared.Document.{Document}
+use Rattle.answers.specs.declared.Refusal.{Refusal}
+use Rattle.std.specs.Prelude.{Ok, Err}
 use Rattle.loaded_table.specs.Loaded.{types_in, counts_of, heights_of, fill_of, table_by, Bounded, Kept, section-kept, length_of_lem}
 use Rattle.loaded_table.specs.Places.{section_apart, bounded_then, table_grown}
 use Rattle.model.specs.Definitions.Table.{Kind, Table}
@@ -21,7 +23,7 @@ use Rattle.model.proofs.Theorems.GrownTables.{beyond_height, older_height, older
 use Rattle.model.proofs.Theorems.Operations.{valid_sound}
 use Rattle.table_heights.specs.Sections.{table_elsewhere, bounded_elsewhere}
 use Rattle.type_commands.specs.Types.{type_written, TypePut}
-use Rattle.table_growth.proofs.Appending.{refused_fault, done_as, well-formed-then, endless-type, type-done}
+use Rattle.table_growth.proofs.Appending.{refused_as, done_as, well-formed-then, endless-type, type-done}
 use Rattle.table_growth.specs.Growth.{IsLoaded, Grown, TypeFits, KeptBefore, LastKept}
 
 module _ (rows cs : List ℕ) (loaded : IsLoaded rows) {all : ℕ} (counted : all ≡ types_in rows) (fits : TypeFits all cs) where
@@ -93,14 +95,14 @@ module _ (rows cs : List ℕ) (loaded : IsLoaded rows) {all : ℕ} (counted : al
     new-height = ap (λ S. height_of S all) table.0 ∙ ap (height_of then) (sym long)
 
     -- it has no finite instance
-    pub grown-endless : {last : List ℕ} {finite : Bool} → LastKept whole all finite last → finite ≡ false → Grown (append_type cs) rows (Extension.Faulty (Fault.NoFiniteInstance 0)) last
+    pub grown-endless : {last : List ℕ} {finite : Bool} → LastKept whole all finite last → finite ≡ false → Grown (append_type cs) rows (Err (Refusal.Faulty Document.SourceTable (Fault.NoFiniteInstance 0))) last
     unfolding operate
     grown-endless {last} h no-instance =
-        refused_fault (append_type cs) rows last (Fault.NoFiniteInstance 0)
+        refused_as (append_type cs) rows last (Refusal.Faulty Document.SourceTable (Fault.NoFiniteInstance 0))
         (endless-type cs fits.one T loaded.valid few fits.short long fits.known fits.distinct (omega (arith, h.endless no-instance, new-height, long)))
 
     -- or is the last of the table
-    pub grown-done : {last : List ℕ} {finite : Bool} → LastKept whole all finite last → finite ≡ true → Grown (append_type cs) rows (Extension.Types (all + 1)) last
+    pub grown-done : {last : List ℕ} {finite : Bool} → LastKept whole all finite last → finite ≡ true → Grown (append_type cs) rows (Ok (all + 1)) last
     grown-done {last} h has_instance_lem =
         let appended = type-done cs fits.one T loaded.valid few fits.short long fits.known fits.distinct (omega (arith, h.low has_instance_lem, new-height, long)) in
         let same : table_by last ≡ table_by whole = table_elsewhere (omega arith) (omega arith) h.elsewhere in

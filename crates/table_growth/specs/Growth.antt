@@ -1,11 +1,8 @@
 -- What the contracts of this crate say: loaded tables, what the checks of a new type and what is kept with it, and what each operation of
 -- 02, N8 answers and leaves.
-use Rattle.std.specs.Prelude.{◌≡◌, Bool, true, false, List, ◌⊎◌, ℕ, ◌+◌, ◌≤◌, ◌<◌, ◌/◌, length, get_or}
-use Rattle.answers.specs.Answers.{fault, extension_result}
-use Rattle.answers.specs.declared.Judged.{Judged}
-use Rattle.answers.specs.declared.Judged.TheVariants.{Sound, Has}
-use Rattle.answers.specs.declared.Extension.{Extension}
-use Rattle.answers.specs.declared.Extension.TheVariants.{Types}
+use Rattle.std.specs.Prelude.{◌≡◌, ⊤, Result, Ok, Err, Bool, true, false, List, ◌⊎◌, ℕ, ◌+◌, ◌≤◌, ◌<◌, ◌/◌, length, get_or}
+use Rattle.answers.specs.Answers.{refusal, counted_result}
+use Rattle.answers.specs.declared.Refusal.{Refusal}
 use Rattle.loaded_table.specs.Loaded.{types_in, counts_of, heights_of, fill_of, table_by, Bounded, Kept, Stands}
 use Rattle.model.specs.Definitions.Basics.{passes, member_of}
 use Rattle.model.specs.Definitions.Commands.{Need, optional}
@@ -13,7 +10,6 @@ use Rattle.model.specs.Definitions.Table.{Table, choice, is_choice, kind_of}
 use Rattle.model.specs.Definitions.Heights.{height_of, heights, lowest}
 use Rattle.model.specs.Definitions.TableChecks.{table_operands, table_repeats}
 use Rattle.model.specs.Definitions.ValidTable.{ValidTable}
-use Rattle.model.specs.Definitions.Refusals.{source_table, faulty}
 use Rattle.model.specs.Definitions.Entries.{refused}
 use Rattle.model.specs.Definitions.Operations.{kept_length, Operation, operate, type_appended}
 use Rattle.model.proofs.Theorems.Facts.{WellFormed, SoundTable}
@@ -32,9 +28,9 @@ abbrev pub IsLoaded : List ℕ → Type 0
 IsLoaded rows = Loaded rows (table_by rows)
 
 -- what an operation answers; where it is done, the array holds the table then
-pub record Grown (o : Operation) (rows : List ℕ) (r : Extension) (after : List ℕ) : Type 0 where
-  pub answer : extension_result r ≡ (operate (table_by rows) o).result
-  pub done : (n : ℕ) → r ≡ Types n → Loaded after (operate (table_by rows) o).table
+pub record Grown (o : Operation) (rows : List ℕ) (r : Result ℕ Refusal) (after : List ℕ) : Type 0 where
+  pub answer : counted_result r ≡ (operate (table_by rows) o).result
+  pub done : (n : ℕ) → r ≡ Ok n → Loaded after (operate (table_by rows) o).table
 
 -- ---- a type
 
@@ -46,10 +42,10 @@ pub record TypeFits (all : ℕ) (cs : List ℕ) : Type 0 where
   pub known : table_operands (all + 1) cs ≡ passes
   pub distinct : table_repeats cs ≡ passes
 
--- it does, or its fault is the one for which it can't be appended to any valid table of so many types
-abbrev pub TypeChecked : ℕ → List ℕ → Judged → Type 0
-TypeChecked all cs Sound = TypeFits all cs
-TypeChecked all cs (Has f) = (T : Table) → ValidTable T → length T ≡ all → (type_appended T cs).result ≡ refused (faulty source_table (fault f))
+-- it does, or this is why it can't be appended to any valid table of so many types
+abbrev pub TypeChecked : ℕ → List ℕ → Result ⊤ Refusal → Type 0
+TypeChecked all cs (Ok done) = TypeFits all cs
+TypeChecked all cs (Err why) = (T : Table) → ValidTable T → length T ≡ all → (type_appended T cs).result ≡ refused (refusal why)
 
 -- what is kept is right for all types but the last, t; of filler lengths where the table is sound
 pub record KeptBefore (rows : List ℕ) (t : ℕ) : Type 0 where

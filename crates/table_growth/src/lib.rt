@@ -10,9 +10,11 @@ ghost use Rattle.model.specs.Definitions.Operations.{append_type, append_member,
 ghost use Rattle.model.specs.Definitions.Table.{is_choice, kind_of};
 ghost use Rattle.model.specs.Definitions.TableChecks.{max_members, max_types};
 ghost use Rattle.table_heights.specs.Sections.{members_at};
+ghost use Rattle.answers.specs.declared.Document.TheVariants.{SourceTable};
+ghost use Rattle.answers.specs.declared.Refusal.TheVariants.{Faulty};
 ghost use Rattle.table_growth.specs.Growth.{Loaded, IsLoaded, Grown, TypeChecked, KeptBefore, LastKept, MayJoin, StaysUnless};
 
-use answers::{Extension, Fault, Judged, Verdict};
+use answers::{Document, Fault, Refusal};
 use codes::{MAX_MEMBERS, MAX_TYPES};
 use loaded_table::{
     CHOICE, TABLE, count, height, is_choice, kind, member, set_fill, set_height, set_types, types,
@@ -20,33 +22,40 @@ use loaded_table::{
 use table_fill::{fill_of, find_fill};
 use table_heights::{next_height, settle_heights};
 use table_load::join;
+use table_operands::operands::operands;
+use table_operands::repeats::repeats;
 use type_commands::{one_type, put_type};
 
 // ---- a type
 
+// The refusal for a fault of the table.
+fn faulty(f: Fault) -> Refusal
+    ensures { result ≡ Faulty SourceTable f }
+{
+    Refusal::Faulty(Document::SourceTable, f)
+}
+
 // Checks 2 to 5 of the type that its own commands write, behind so many types.
-fn check_type(all: usize, cs: &[u8]) -> Judged
+fn check_type(all: usize, cs: &[u8]) -> Result<(), Refusal>
     requires { all ≤ max_types }
     ensures { TypeChecked all cs.now result }
 {
     if !one_type(cs) {
-        return Judged::Has(Fault::BadForm(0));
+        return Err(faulty(Fault::BadForm(0)));
     }
     if all == MAX_TYPES {
-        return Judged::Has(Fault::OverLimit(0));
+        return Err(faulty(Fault::OverLimit(0)));
     }
     if MAX_MEMBERS < cs.len() / 2 {
-        return Judged::Has(Fault::OverLimit(0));
+        return Err(faulty(Fault::OverLimit(0)));
     }
-    let operands = table_operands::operands::operands(cs, all + 1);
-    if let Verdict::Fails(_) = operands {
-        return Judged::Has(Fault::BadOperand(0));
+    if operands(cs, all + 1).is_err() {
+        return Err(faulty(Fault::BadOperand(0)));
     }
-    let repeats = table_operands::repeats::repeats(cs);
-    if let Verdict::Fails(_) = repeats {
-        return Judged::Has(Fault::RepeatedMember(0));
+    if repeats(cs).is_err() {
+        return Err(faulty(Fault::RepeatedMember(0)));
     }
-    Judged::Sound
+    Ok(())
 }
 
 // Finds what is kept with the last type, t, of a table in which that of the others is right: whether the type has a finite instance.
@@ -62,39 +71,33 @@ fn keep_last(table: &mut [u16; TABLE], t: usize) -> bool
     h <= t + 1
 }
 
-// One type more, by its own commands. Where it is refused, the array may hold anything.
-pub fn grow_type(table: &mut [u16; TABLE], cs: &[u8]) -> Extension
+// One type more, by its own commands: how many types there are then. Where it is refused, the array may hold anything.
+pub fn grow_type(table: &mut [u16; TABLE], cs: &[u8]) -> Result<usize, Refusal>
     requires { IsLoaded table.old }
     ensures { Grown (append_type cs.now) table.old result table.new }
 {
     let all = types(table);
-    let checked = check_type(all, cs);
-    if let Judged::Has(f) = checked {
-        return Extension::Faulty(f);
-    }
+    check_type(all, cs)?;
     put_type(table, all, cs);
     set_types(table, all as u16 + 1);
     if keep_last(table, all) {
-        Extension::Types(all + 1)
+        Ok(all + 1)
     } else {
-        Extension::Faulty(Fault::NoFiniteInstance(0))
+        Err(faulty(Fault::NoFiniteInstance(0)))
     }
 }
 
 // ---- a member
 
-// Whether type t names m. The loop has asked the first i members.
+// Whether type t names m.
 fn names(table: &[u16; TABLE], t: usize, m: usize) -> bool
     requires { Bounded table.now × (t < types_in table.now) }
     ensures { result ≡ member_of m (members_at table.now t) }
 {
-    let many = count(table, t);
-    let mut i = 0;
-    while i < many {
+    for i in 0..count(table, t) {
         if member(table, t, i) == m {
             return true;
         }
-        i += 1;
     }
     false
 }
@@ -141,26 +144,26 @@ fn is_full(table: &[u16; TABLE], t: usize) -> bool
     count(table, t) == MAX_MEMBERS
 }
 
-// One member more of type t. Where it is refused, the array may hold anything.
-pub fn grow_member(table: &mut [u16; TABLE], t: usize, m: usize) -> Extension
+// One member more of type t: how many types there are. Where it is refused, the array may hold anything.
+pub fn grow_member(table: &mut [u16; TABLE], t: usize, m: usize) -> Result<usize, Refusal>
     requires { IsLoaded table.old }
     ensures { Grown (append_member t m) table.old result table.new }
 {
     let missing = !extends(table, t);
     let full = is_full(table, t);
     if missing {
-        return Extension::NoChoice;
+        return Err(Refusal::NoChoice);
     }
     if full {
-        return Extension::Faulty(Fault::OverLimit(0));
+        return Err(faulty(Fault::OverLimit(0)));
     }
     let all = types(table);
     if all <= m {
-        return Extension::Faulty(Fault::BadOperand(0));
+        return Err(faulty(Fault::BadOperand(0)));
     }
     if names(table, t, m) {
-        return Extension::Faulty(Fault::RepeatedMember(0));
+        return Err(faulty(Fault::RepeatedMember(0)));
     }
     add_member(table, t, m);
-    Extension::Types(all)
+    Ok(all)
 }

@@ -26,12 +26,6 @@ room c = sym c.is_full-full.ensures ∙ c.if-full.false
 known : (c : Else-all-m) → c.args.m < types_in c.args.table.now
 known c = omega (arith, c.if-all-m.false, c.types-all.ensures.0)
 
-pub extends-missing-requires : goal.extends-missing-requires
-extends-missing-requires c = c.requires.stands.bounded
-
-pub is_full-full-requires : goal.is_full-full-requires
-is_full-full-requires c = tt
-
 pub returns-then-missing : goal.returns-then-missing
 returns-then-missing c =
     nothing_to_extend _ _ _ _ c.requires (sym c.extends-missing.ensures.0 ∙ c.if-missing.true)
@@ -39,21 +33,18 @@ returns-then-missing c =
 pub returns-then-full : goal.returns-then-full
 returns-then-full c =
     let is : c.extends-missing.result ≡ true = cc in
-    too_many _ _ _ _ c.requires (c.extends-missing.ensures.1 is) (sym c.extends-missing.ensures.0 ∙ is) (sym c.is_full-full.ensures ∙ c.if-full.true)
-
-pub types-all-requires : goal.types-all-requires
-types-all-requires c = tt
+    rw c.faulty.ensures (too_many _ _ _ _ c.requires (c.extends-missing.ensures.1 is) (sym c.extends-missing.ensures.0 ∙ is) (sym c.is_full-full.ensures ∙ c.if-full.true))
 
 pub returns-then-all-m : goal.returns-then-all-m
 returns-then-all-m c =
-    unknown _ _ _ _ c.requires (there (goal.at.returns-then-all-m c).Else-missing) (chooses (goal.at.returns-then-all-m c).Else-missing) (room (goal.at.returns-then-all-m c).Else-full) (omega (arith, c.if-all-m.true, c.types-all.ensures.0))
+    rw c.faulty-then-all-m.ensures (unknown _ _ _ _ c.requires (there (goal.at.returns-then-all-m c).Else-missing) (chooses (goal.at.returns-then-all-m c).Else-missing) (room (goal.at.returns-then-all-m c).Else-full) (omega (arith, c.if-all-m.true, c.types-all.ensures.0)))
 
 pub names-requires : goal.names-requires
 names-requires c = (c.requires.stands.bounded, there (goal.at.names-requires c).Else-missing)
 
 pub returns-then-names : goal.returns-then-names
 returns-then-names c =
-    repeated _ _ _ _ c.requires (there (goal.at.returns-then-names c).Else-missing) (chooses (goal.at.returns-then-names c).Else-missing) (room (goal.at.returns-then-names c).Else-full) (known (goal.at.returns-then-names c).Else-all-m) (sym c.names.ensures ∙ c.if-names.true)
+    rw c.faulty-then-names.ensures (repeated _ _ _ _ c.requires (there (goal.at.returns-then-names c).Else-missing) (chooses (goal.at.returns-then-names c).Else-missing) (room (goal.at.returns-then-names c).Else-full) (known (goal.at.returns-then-names c).Else-all-m) (sym c.names.ensures ∙ c.if-names.true))
 
 pub add_member-requires : goal.add_member-requires
 add_member-requires c =

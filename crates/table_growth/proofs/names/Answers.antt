@@ -1,53 +1,32 @@
-use mathlib.Core.Path.{◌≡◌, refl, sym, ◌∙◌}
+use mathlib.Core.Path.{◌≡◌, sym, ◌∙◌}
 use Prim.Native.Nat.{◌<◌}
 use native.Mathlib.Omega.{arith}
 use lib.ListN.{length, get_or}
 use Rattle.table_heights.specs.Sections.{members_at, members_long, member_is}
 use Rattle.table_growth.proofs.Naming.{named_here, not_named_here, named_nowhere}
 use Rattle.table_growth.proofs.names.Goals as goal
-use Rattle.table_growth.proofs.names.Goals.{After-count-many, After-member, In-loop-i}
-
--- the members are as many as are counted
-long : (c : After-count-many) → length (members_at c.args.table.now c.args.t) ≡ c.count-many.result
-long c = members_long _ _ c.requires c.count-many.ensures.0
+use Rattle.table_growth.proofs.names.Goals.{After-member, In-loop-i}
 
 -- what is asked is member i
-asked : (c : After-member)
-    → let a = c.args in
-    c.member.result ≡ get_or (members_at a.table.now a.t) c.loop-i.i 0
+asked : (c : After-member) → let a = c.args in c.member.result ≡ get_or (members_at a.table.now a.t) c.loop-i.i 0
 asked c =
     let a = c.args in
-    member_is a.table.now a.t c.loop-i.i (omega (arith, c.loop-i-test.true, c.count-many.ensures.0)) c.member.ensures.0
+    member_is a.table.now a.t c.loop-i.i (omega (arith, c.loop-i-test.true, c.count-i-end.ensures.0)) c.member.ensures.0
 
 here : (c : In-loop-i) → let a = c.args in c.loop-i.i < length (members_at a.table.now a.t)
-here c = omega (arith, c.loop-i-test.true, members_long _ _ c.requires c.count-many.ensures.0)
-
-pub count-many-requires : goal.count-many-requires
-count-many-requires c = omega (arith, c.requires.1, c.requires.0.few_types)
-
-pub loop-i-init : goal.loop-i-init
-loop-i-init c = (omega arith, refl)
-
-pub member-requires : goal.member-requires
-member-requires c = (omega (arith, c.requires.1, c.requires.0.few_types), omega (arith, c.loop-i-test.true, c.count-many.ensures.0, c.requires.0.few_members c.args.t))
+here c = omega (arith, c.loop-i-test.true, members_long _ _ c.requires c.count-i-end.ensures.0)
 
 pub returns-then-member-m : goal.returns-then-member-m
 returns-then-member-m c =
     let a = c.args in
-    sym (sym c.loop-i.invariant.1 ∙ named_here a.m (members_at a.table.now a.t) c.loop-i.i (here (goal.at.returns-then-member-m c).In-loop-i) (sym (asked (goal.at.returns-then-member-m c).After-member) ∙ c.if-member-m.true))
-
-pub overflow_add-i : goal.overflow_add-i
-overflow_add-i c = omega (arith, c.count-many.ensures.1, c.loop-i-test.true)
-
-pub loop-i-smaller : goal.loop-i-smaller
-loop-i-smaller c = omega (arith, c.loop-i-test.true)
+    sym (sym c.loop-i.invariant ∙ named_here a.m (members_at a.table.now a.t) c.loop-i.i (here (goal.at.returns-then-member-m c).In-loop-i) (sym (asked (goal.at.returns-then-member-m c).After-member) ∙ c.if-member-m.true))
 
 pub loop-i-preserved : goal.loop-i-preserved
 loop-i-preserved c =
     let a = c.args in
-    (omega (arith, c.loop-i-test.true), not_named_here a.m (members_at a.table.now a.t) c.loop-i.i (here (goal.at.loop-i-preserved c).In-loop-i) (λ e. c.if-member-m.false (asked (goal.at.loop-i-preserved c).After-member ∙ e)) ∙ c.loop-i.invariant.1)
+    not_named_here a.m (members_at a.table.now a.t) c.loop-i.i (here (goal.at.loop-i-preserved c).In-loop-i) (λ e. c.if-member-m.false (asked (goal.at.loop-i-preserved c).After-member ∙ e)) ∙ c.loop-i.invariant
 
 pub returns : goal.returns
 returns c =
     let a = c.args in
-    sym (sym c.loop-i.invariant.1 ∙ named_nowhere a.m (members_at a.table.now a.t) c.loop-i.i (omega (arith, c.loop-i-test.false, long (goal.at.returns c).After-count-many)))
+    sym (sym c.loop-i.invariant ∙ named_nowhere a.m (members_at a.table.now a.t) c.loop-i.i (omega (arith, c.loop-i-test.false, members_long _ _ c.requires c.count-i-end.ensures.0)))
