@@ -91,16 +91,8 @@ pub fn find_lost<'a>(
     loop {
         match next(source, target, map, em, tr, sp, image, cursor) {
             Ok(Some(child)) => {
-                if let Some(at) = find_lost(
-                    source,
-                    target,
-                    map,
-                    em,
-                    tr,
-                    sp,
-                    child.image,
-                    depth - 1,
-                ) {
+                let inside = child.image;
+                if let Some(at) = find_lost(source, target, map, em, tr, sp, inside, depth - 1) {
                     return Some(at);
                 }
                 cursor = child.then;
