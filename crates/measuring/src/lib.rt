@@ -113,7 +113,7 @@ struct ElementSize {
 }
 
 // The size of what the image of an element of type s holds, whose content begins at `from`. The loop goes over the
-// characters and children.
+// characters and children, which have different lengths.
 fn element<'a>(
     source: &'a [u16; TABLE],
     map: &'a [u16; MAP],

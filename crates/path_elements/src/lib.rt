@@ -20,7 +20,8 @@ use loaded_table::{LIST, TABLE};
 use measuring::type_ahead;
 use rows::FILLER;
 
-// How many symbols of the row from one place of the pool up to another open an element.
+// How many symbols of the row from one place of the pool up to another open an element. A slice would ask that the first place is not
+// behind the other.
 fn openings(pool: &[u8], from: usize, to: usize) -> usize
     requires { to ≤ length pool.now }
     ensures { result ≡ row_built (row_in pool.now from to) }
@@ -62,8 +63,8 @@ struct Counted {
     end: usize,
 }
 
-// The same for an element of type s whose content begins at `from`. The loop goes over the characters and children; a character
-// adds nothing.
+// The same for an element of type s whose content begins at `from`. The loop goes over the characters and children, which have
+// different lengths; a character adds nothing.
 fn element<'a>(
     source: &'a [u16; TABLE],
     pool: &'a [u8],

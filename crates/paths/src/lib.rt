@@ -11,7 +11,8 @@ ghost use Rattle.paths.specs.Following.{Followable, Cuts};
 
 use loaded_table::{LIST, TABLE, is_choice, kind, member};
 
-// The number of steps before the first step of a path that leaves a list, and the item type of that list.
+// The number of steps before the first step of a path that leaves a list, and the item type of that list; without a list the item is
+// 0, as `divide` of the model has it.
 #[derive(Clone, Copy)]
 pub struct Cut {
     pub depth: usize,

@@ -58,7 +58,8 @@ fn with_symbol(target: &[u16; TABLE], s: Sums, x: u8) -> Sums
     }
 }
 
-// The size of the row that stands in the pool from one place up to another, `depth` elements being open around it.
+// The size of the row that stands in the pool from one place up to another, `depth` elements being open around it. A slice would ask
+// that the first place is not behind the other.
 fn row_size(target: &[u16; TABLE], pool: &[u8], from: usize, to: usize, depth: usize) -> Size
     requires { (to ≤ length pool.now) × IsWord depth }
     ensures { Measures target.now (row_in pool.now from to) depth result }

@@ -56,7 +56,7 @@ pub fn depth(places: &[u32], r: usize) -> usize
     places[NUMBERS * r + 2] as usize
 }
 
-// The place of t among the first `count` members of type s; `count` where it is not there.
+// The place of t among the first `count` members of type s; where it is not there the place behind them, `count`, as `index_in` says.
 fn index_of(source: &[u16; TABLE], s: usize, count: usize, t: usize) -> usize
     requires s_lt_max_types { (s < max_types) × (count ≤ max_members) }
     requires bounded { Bounded source.now }
