@@ -4,29 +4,14 @@
 
 #![tactic(auto)]
 
-use answer_numbers::Answer;
-use codes::MAX_BYTES;
-use console::{FILE_BYTES, read_file};
+use bring_entry::bring_back;
+use console::call_on_files;
 use lines::{LINE_BYTES, bring_line};
 use std::io;
-use std::rt::Files;
 
-// Brings back by the files' contents, into 60,000 bytes.
-fn bring_files(rt: &impl Files) -> io::Result<Answer> {
-    let mut s = [0u8; FILE_BYTES];
-    let mut t = [0u8; FILE_BYTES];
-    let mut e = [0u8; FILE_BYTES];
-    let mut d = [0u8; FILE_BYTES];
-    let source = read_file(rt, "s1", &mut s)?;
-    let target = read_file(rt, "s2", &mut t)?;
-    let embedding = read_file(rt, "em", &mut e)?;
-    let tree = read_file(rt, "tr", &mut d)?;
-    let mut out = [0u8; MAX_BYTES];
-    Ok(bring_entry::bring_back(source, target, embedding, tree, &mut out))
-}
-
+// Brings back by the files' contents, and prints the line of the answer.
 fn main(rt: HostRuntime) -> io::Result<()> {
-    let answer = bring_files(&rt)?;
+    let answer = call_on_files(&rt, bring_back)?;
     let mut room = [0u8; LINE_BYTES];
     let text = bring_line(&mut room, answer);
     rt.write_all(text)

@@ -1,11 +1,11 @@
 -- Bytes written in hexadecimal, one after the other, and the line around them.
-use mathlib.Core.Path.{◌≡◌, refl, ap, ◌∙◌, subst}
+use mathlib.Core.Path.{◌≡◌, refl, ap, ◌∙◌}
 use mathlib.Core.List.{List, [], ◌∷◌, ◌++◌}
 use Prim.Native.Nat.{ℕ, ◌+◌, ◌*◌, ◌/◌, ◌%◌, ◌≤◌, ◌<◌}
 use native.Mathlib.Numerals.{add-one}
 use native.Mathlib.Omega.{arith}
-use lib.ListN.{length, take, get_or, set, length-take, length-set, length-append}
-use lib.Seq.{take-suc, take_all}
+use lib.ListN.{length, take, get_or, set, length-set, length-append}
+use lib.Seq.{take-suc}
 use Rattle.writing.specs.Writing.{Writes}
 use Rattle.writing.specs.Laws.{writes_then, writes-length, stored, written_from_start}
 use Rattle.lines.specs.Lines.{number_bytes, WritesNumbers}
@@ -23,31 +23,16 @@ unfolding hex_text
 hex_behind [] b = refl
 hex_behind (x ∷ bs) b = ap (λ (t : List ℕ). hex_digit (x / 16) ∷ hex_digit (x % 16) ∷ t) (hex_behind bs b)
 
--- the first i bytes are written
-pub record Hexed (bytes old : List ℕ) (at : ℕ) (line : List ℕ) (to i : ℕ) : Type 0 where
-  pub so_far : Writes old line at (hex_text (take i bytes)) to
-  pub not_beyond : i ≤ length bytes
-
-pub none_hexed : (bytes old : List ℕ) (at : ℕ) → Hexed bytes old at old at 0
-unfolding hex_text
-none_hexed bytes old at = record { so_far = record { written = refl; after = omega arith }; not_beyond = omega arith }
-
--- there is room for two digits more
-pub room_for_byte : {bytes old : List ℕ} {at : ℕ} {line : List ℕ} {to i : ℕ} → Hexed bytes old at line to i → i < length bytes → at + 2 * length bytes ≤ length old → to + 2 ≤ length line
-room_for_byte {bytes} {i = i} h less room = omega (arith, h.so_far.after, hex_length (take i bytes), length-take i bytes, writes-length h.so_far)
-
-pub one_more_hexed : (bytes old : List ℕ) (at : ℕ) (line : List ℕ) (to i high low : ℕ) → Hexed bytes old at line to i → i < length bytes
-    → high ≡ hex_digit (get_or bytes i 0 / 16) → low ≡ hex_digit (get_or bytes i 0 % 16) → Hexed bytes old at (set (set line to high) (to + 1) low) (to + 2) (i + 1)
-one_more_hexed bytes old at line to i high low h less is-high is_low =
+-- the two digits of a byte behind those of the bytes before it
+pub one_more_hexed : (bytes old : List ℕ) (at : ℕ) (line : List ℕ) (to i high low next : ℕ) → Writes old line at (hex_text (take i bytes)) to → i < length bytes
+    → high ≡ hex_digit (get_or bytes i 0 / 16) → low ≡ hex_digit (get_or bytes i 0 % 16) → next ≡ to + 2
+    → Writes old (set (set line to high) (to + 1) low) at (hex_text (take (i + 1) bytes)) next
+one_more_hexed bytes old at line to i high low next w less is-high is_low behind =
     let b = get_or bytes i 0 in
     let more : take (i + 1) bytes ≡ take i bytes ++ b ∷ [] = ap (λ (k : ℕ). take k bytes) (add-one i) ∙ take-suc bytes i 0 less in
     let digits : Writes line (set (set line to (hex_digit (b / 16))) (to + 1) (hex_digit (b % 16))) to (hex_digit (b / 16) ∷ hex_digit (b % 16) ∷ []) (to + 2) =
     record { written = rw (add-one to) refl; after = refl } in
-    record { so_far = rw (is-high, is_low, more, hex_behind (take i bytes) b) (writes_then h.so_far digits); not_beyond = omega arith }
-
--- all are written
-pub all_hexed : {bytes old : List ℕ} {at : ℕ} {line : List ℕ} {to i : ℕ} → Hexed bytes old at line to i → length bytes ≤ i → Writes old line at (hex_text bytes) to
-all_hexed {bytes} {old} {at} {line} {to} {i} h end = subst (λ (bs : List ℕ). Writes old line at (hex_text bs) to) (take_all i bytes end) h.so_far
+    rw (is-high, is_low, more, behind, hex_behind (take i bytes) b) (writes_then w digits)
 
 -- ---- the line with a document
 

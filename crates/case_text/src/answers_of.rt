@@ -1,5 +1,5 @@
 // Printing an answer: a line, by one write.
-ghost use Rattle.std.specs.Prelude.{◌≡◌, [], ◌∷◌, ◌+◌, ◌*◌, ◌≤◌, min, length};
+ghost use Rattle.std.specs.Prelude.{[], ◌∷◌, ◌+◌, ◌*◌, ◌≤◌, length};
 ghost use Rattle.case_text.specs.Hexadecimal.{beside_document, DocumentLine};
 
 use crate::hexadecimal::put_hex;
@@ -17,16 +17,6 @@ pub fn print(rt: &impl Print, a: Answer) -> io::Result<()> {
     let mut room = [0u8; LINE_BYTES];
     let text = answer_line(&mut room, a, b"ok", &[a.value, a.filler]);
     rt.write_all(text)
-}
-
-// The lesser of two numbers.
-fn least(n: u64, most: usize) -> usize
-    ensures { result ≡ min n most }
-{
-    if n <= most as u64 {
-        return n as usize;
-    }
-    most
 }
 
 // Makes the line of an answer that accepts, with the document that was written, at the start of lent bytes, and lends it.
@@ -48,7 +38,7 @@ pub fn print_written(rt: &impl Print, a: Answer, out: &[u8]) -> io::Result<()> {
     if a.refusal != 0 {
         return print(rt, a);
     }
-    let n = least(a.value, least(out.len() as u64, MAX_BYTES));
+    let n = (a.value as usize).min(out.len()).min(MAX_BYTES);
     let mut room = [0u8; DOCUMENT_LINE_BYTES];
     let text = written_line(&mut room, a, &out[..n]);
     rt.write_all(text)

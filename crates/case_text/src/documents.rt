@@ -1,31 +1,44 @@
 // Documents of a case.
-ghost use Rattle.std.specs.Prelude.{◌≤◌};
-
 use console::{front, read_full};
 use std::io;
 use std::io::Read;
 
-// The next case's entry, or 0 where there is none.
-pub fn next_entry<R: Read>(input: &mut R) -> io::Result<u8> {
-    let mut entry = [0u8; 1];
-    if read_full(input, &mut entry)? == 0 {
-        return Ok(0);
-    }
-    Ok(entry[0])
+// What a case asks for.
+#[derive(Clone, Copy, Debug, PartialEq, Eq)]
+pub enum Entry {
+    JudgeTable,
+    JudgeEmbedding,
+    JudgeTree,
+    Carry,
+    BringBack,
 }
 
-// The byte as a number.
-fn wide(b: u8) -> usize
-    ensures { result ≤ 255 }
-{
-    b as usize
+// The entry by its number in the input, 5 or more to bring back; 0 ends the cases.
+fn entry_of(number: u8) -> Option<Entry> {
+    match number {
+        0 => None,
+        1 => Some(Entry::JudgeTable),
+        2 => Some(Entry::JudgeEmbedding),
+        3 => Some(Entry::JudgeTree),
+        4 => Some(Entry::Carry),
+        _ => Some(Entry::BringBack),
+    }
+}
+
+// The next case's entry, if there is one more case.
+pub fn next_entry<R: Read>(input: &mut R) -> io::Result<Option<Entry>> {
+    let mut number = [0u8; 1];
+    if read_full(input, &mut number)? == 0 {
+        return Ok(None);
+    }
+    Ok(entry_of(number[0]))
 }
 
 // Reads a length of three bytes, the highest first.
 fn read_length<R: Read>(input: &mut R) -> io::Result<usize> {
-    let mut head = [0u8; 3];
-    read_full(input, &mut head)?;
-    Ok(wide(head[0]) * 65536 + wide(head[1]) * 256 + wide(head[2]))
+    let mut bytes = [0u8; 4];
+    read_full(input, &mut bytes[1..])?;
+    Ok(u32::from_be_bytes(bytes) as usize)
 }
 
 // Reads how long an output is lent, and lends so much of a buffer, at most all of it.

@@ -14,32 +14,15 @@ fn digit(n: u8) -> u8
     n - 10 + b'a'
 }
 
-// The higher digit of a byte, and the lower.
-fn high(b: u8) -> u8
-    ensures { result ≡ hex_digit (b / 16) }
-{
-    digit(b / 16)
-}
-
-fn low(b: u8) -> u8
-    ensures { result ≡ hex_digit (b % 16) }
-{
-    digit(b % 16)
-}
-
 // Writes bytes in hexadecimal.
 pub fn put_hex(line: &mut [u8], at: usize, bytes: &[u8]) -> usize
     requires { at + 2 * length bytes.now ≤ length line.old }
     ensures { Writes line.old line.new at (hex_text bytes.now) result }
 {
-    let mut i = 0;
-    let mut to = at;
-    while i < bytes.len() {
-        let second = to + 1;
-        line[to] = high(bytes[i]);
-        line[second] = low(bytes[i]);
-        to += 2;
-        i += 1;
+    for (i, byte) in bytes.iter().enumerate() {
+        let to = at + 2 * i;
+        line[to] = digit(*byte / 16);
+        line[to + 1] = digit(*byte % 16);
     }
-    to
+    at + 2 * bytes.len()
 }

@@ -3,7 +3,7 @@
 #![tactic(auto)]
 
 pub use answers_of::{print, print_written};
-pub use documents::{lend_output, next_entry, read_document};
+pub use documents::{Entry, lend_output, next_entry, read_document};
 
 mod answers_of;
 mod documents;

@@ -1,10 +1,12 @@
-// What the programs share: documents from files.
+// What the programs share: documents from files, and a call of an entry on them.
 
 #![tactic(auto)]
 
 ghost use Rattle.std.specs.Prelude.{◌≡◌, ◌<◌, ◌≤◌, take, length, IfOk, OnErr};
 ghost use Rattle.std.specs.Io.KnownBytes.{Consumes, IsAtEnd};
 
+use answer_numbers::Answer;
+use codes::MAX_BYTES;
 use std::io::Read;
 use std::rt::Files;
 use std::{fs, io};
@@ -16,11 +18,8 @@ pub const FILE_BYTES: usize = 65536;
 pub fn front(buffer: &mut [u8], n: usize) -> &mut [u8]
     ensures { result.now ≡ take n buffer.old }
 {
-    if n <= buffer.len() {
-        &mut buffer[..n]
-    } else {
-        buffer
-    }
+    let end = n.min(buffer.len());
+    &mut buffer[..end]
 }
 
 // Reads until a buffer is full or the input ends, and answers how many bytes it put at the buffer's start: the input's next ones, and
@@ -50,12 +49,29 @@ pub fn read_file<'a, R: Files>(
     name: &str,
     buffer: &'a mut [u8],
 ) -> io::Result<&'a mut [u8]> {
-    match fs::open(rt, name) {
-        Ok(file) => {
-            let mut file = file;
-            let n = read_full(&mut file, buffer)?;
-            Ok(front(buffer, n))
-        }
-        Err(_) => Ok(front(buffer, 0)),
-    }
+    let n = match fs::open(rt, name) {
+        Ok(mut file) => read_full(&mut file, buffer)?,
+        Err(_) => 0,
+    };
+    Ok(front(buffer, n))
+}
+
+// What an entry that writes answers for the source table in the file s1 of the working directory, the target table in s2, the embedding in
+// em and the tree in tr, with room for the longest document. A file that can't be opened counts as empty.
+pub fn call_on_files<
+    R: Files,
+    F: for<'a> FnOnce(&[u8], &[u8], &'a [u8], &'a [u8], &mut [u8]) -> Answer,
+>(rt: &R, entry: F) -> io::Result<Answer>
+    requires { F.IsAlwaysCallable entry }
+{
+    let mut s = [0u8; FILE_BYTES];
+    let mut t = [0u8; FILE_BYTES];
+    let mut e = [0u8; FILE_BYTES];
+    let mut d = [0u8; FILE_BYTES];
+    let source = read_file(rt, "s1", &mut s)?;
+    let target = read_file(rt, "s2", &mut t)?;
+    let embedding = read_file(rt, "em", &mut e)?;
+    let tree = read_file(rt, "tr", &mut d)?;
+    let mut out = [0u8; MAX_BYTES];
+    Ok(entry(source, target, embedding, tree, &mut out))
 }

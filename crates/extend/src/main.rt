@@ -4,9 +4,6 @@
 
 #![tactic(auto)]
 
-ghost use Rattle.std.specs.Prelude.{◌≤◌};
-ghost use Rattle.model.specs.Definitions.Refusals.{max_length};
-
 use answer_numbers::Answer;
 use codes::SOURCE_TABLE;
 use console::{FILE_BYTES, front, read_file};
@@ -19,13 +16,6 @@ const ANSWER_BYTES: usize = 2;
 
 const KEPT_BYTES: usize = 3;
 
-// A byte as a number.
-fn wide(b: u8) -> u64
-    ensures { result ≤ 255 }
-{
-    b as u64
-}
-
 // Prints the line of an answer.
 fn print(rt: &impl Print, a: Answer) -> io::Result<()> {
     let mut room = [0u8; LINE_BYTES];
@@ -35,62 +25,51 @@ fn print(rt: &impl Print, a: Answer) -> io::Result<()> {
 
 // The answer to an operation, by its two bytes of a report.
 fn answer(refusal: u8, types: u8) -> Answer {
-    let number = wide(refusal);
-    let mut document = 0;
-    if 0 < number {
-        document = SOURCE_TABLE;
-    }
     Answer {
-        refusal: number,
-        document,
+        refusal: u64::from(refusal),
+        document: if refusal == 0 { 0 } else { SOURCE_TABLE },
         mark: 0,
-        value: wide(types),
+        value: u64::from(types),
         filler: 0,
     }
 }
 
-// Prints a line for each operation, of bytes that have their answers from an offset on. The second byte of the next stands at `at`.
-fn print_answers(rt: &impl Print, report: &[u8], from: usize) -> io::Result<()>
-    requires { from ≤ max_length }
-{
-    let mut at = from + 1;
-    while at < report.len() {
-        print(rt, answer(report[at - 1], report[at]))?;
-        at += ANSWER_BYTES;
+// Prints a line for each operation, of the bytes that have their answers.
+fn print_answers(rt: &impl Print, answers: &[u8]) -> io::Result<()> {
+    for of_one in answers.chunks_exact(ANSWER_BYTES) {
+        print(rt, answer(of_one[0], of_one[1]))?;
     }
     Ok(())
 }
 
 // Prints the line of a type, by its height and the two bytes of its filler's length.
-fn print_type(rt: &impl Print, height: u8, high: u8, low: u8) -> io::Result<()> {
+fn print_type(rt: &impl Print, height: u8, fill: [u8; 2]) -> io::Result<()> {
     let mut room = [0u8; LINE_BYTES];
-    let text = kept_line(&mut room, wide(height), wide(high) * 256 + wide(low));
+    let text = kept_line(
+        &mut room,
+        u64::from(height),
+        u64::from(u16::from_be_bytes(fill)),
+    );
     rt.write_all(text)
 }
 
-// Prints a line for each of so many types, of bytes that have what is kept with them behind the first.
-fn print_types(rt: &impl Print, report: &[u8], types: usize) -> io::Result<()>
-    requires { types ≤ 255 }
-{
-    let mut t = 0;
-    while t < types {
-        let at = KEPT_BYTES * t + KEPT_BYTES;
-        if at < report.len() {
-            print_type(rt, report[at - 2], report[at - 1], report[at])?;
-        }
-        t += 1;
+// Prints a line for each type, of the bytes that have what is kept with them.
+fn print_types(rt: &impl Print, kept: &[u8]) -> io::Result<()> {
+    for of_one in kept.chunks_exact(KEPT_BYTES) {
+        print_type(rt, of_one[0], [of_one[1], of_one[2]])?;
     }
     Ok(())
 }
 
-// Prints what a report says.
+// Prints what a report says: its first byte is the number of types, behind which stands what is kept with each, and then the answers.
 fn print_report(rt: &impl Print, report: &[u8]) -> io::Result<()> {
-    if report.len() == 0 {
+    let Some((types, rest)) = report.split_first() else {
         return Ok(());
-    }
-    let types = wide(report[0]) as usize;
-    print_answers(rt, report, KEPT_BYTES * types + 1)?;
-    print_types(rt, report, types)
+    };
+    let end = (KEPT_BYTES * usize::from(*types)).min(rest.len());
+    let (kept, answers) = rest.split_at(end);
+    print_answers(rt, answers)?;
+    print_types(rt, kept)
 }
 
 // Extends by the files' contents, and prints.

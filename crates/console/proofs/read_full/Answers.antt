@@ -1,35 +1,23 @@
 -- A read puts its bytes behind those that are there.
-use Rattle.std.proofs.Common.{rules, arith, ◌≡◌, ◌≤◌, take, length, ℕ, ◌+◌, ◌-◌, List, ◌++◌, slice_range, sym, ap, ◌∙◌, subst, le_refl, drop_at, length-take-le}
+use Rattle.std.proofs.Common.{rules, arith, ◌≡◌, ◌≤◌, take, drop, length, ℕ, ◌+◌, ◌-◌, List, ◌++◌, sym, ap, ap₂, ◌∙◌, subst, le_refl, drop_at, length-take-le}
 use Rattle.std.proofs.lemmas.Slice.{take-put_mid_below}
-use Rattle.std.specs.Io.KnownBytes.{Consumes}
 use Rattle.std.proofs.KnownBytes.{Consumes-trans}
+use Rattle.std.specs.Io.KnownBytes.{Consumes}
 use borrow.Rule.Slice.PartMut.{put_mid, post_of}
 use lib.Seq.{take-add, take-append-le}
 use Rattle.console.proofs.read_full.Goals as goal
 
--- the first a bytes, and the next n
-take_split : (a n : ℕ) (old new : List ℕ) → take a new ≡ take a old → take a old ++ slice_range new a (a + n) ≡ take (a + n) new
-take_split a n old new front =
-    let count : (a + n) - a ≡ n = omega arith in
-    ap (λ l. l ++ slice_range new a (a + n)) (sym front) ∙ rw count (sym (take-add a n new))
-
--- what stands where bytes were put
-slice_range-put_mid : (a k n : ℕ) (xs ys : List ℕ) → a ≤ length xs → n ≤ length ys → slice_range (put_mid a k xs ys) a (a + n) ≡ take n ys
-slice_range-put_mid a k n xs ys within fits =
-    let count : (a + n) - a ≡ n = omega arith in
-    let after = post_of a k xs in
-    ap (take ((a + n) - a)) (drop_at (take a xs) (ys ++ after) a (length-take-le a xs within)) ∙ ap (λ m. take m (ys ++ after)) count ∙ take-append-le n ys after fits
+-- the first a bytes, and the next n of a part that was lent and written
+taken : (a k n : ℕ) (xs ys : List ℕ) → a ≤ length xs → n ≤ length ys → take (a + n) (put_mid a k xs ys) ≡ take a xs ++ take n ys
+taken a k n xs ys within fits =
+    let part : drop a (put_mid a k xs ys) ≡ ys ++ post_of a k xs = drop_at (take a xs) (ys ++ post_of a k xs) a (length-take-le a xs within) in
+    take-add a n (put_mid a k xs ys) ∙ ap₂ (λ f l. f ++ l) (take-put_mid_below a k xs ys a (le_refl a) within) (ap (take n) part ∙ take-append-le n ys (post_of a k xs) fits)
 
 pub loop-done-preserved : goal.loop-done-preserved
 loop-done-preserved g c =
-    let from = c.loop-done.done in
-    let room = length c.loop-done.buffer - from in
-    let new = put_mid from room c.loop-done.buffer c.read.new.buf in
-    let within = c.loop-done.invariant.within in
-    let part = slice_range-put_mid from room c.in_ok-n.n c.loop-done.buffer c.read.new.buf within c.in_ok-n.ensures.bound.0 in
-    let joined = take_split from c.in_ok-n.n c.loop-done.buffer new (take-put_mid_below _ _ _ _ _ (le_refl _) within) in
+    let before = c.loop-done.invariant in
+    let read = c.in_ok-n.ensures in
     record {
-      as_long = search rules;
       within = search rules;
-      lost = subst (Consumes _ _) (ap (λ l. take from c.loop-done.buffer ++ l) (sym part) ∙ joined) (Consumes-trans _ _ _ _ _ c.loop-done.invariant.lost c.in_ok-n.ensures.bytes.0);
+      lost = subst (Consumes _ _) (sym (taken _ _ _ _ _ before.within read.bound.0)) (Consumes-trans _ _ _ _ _ before.lost read.bytes.0);
     }

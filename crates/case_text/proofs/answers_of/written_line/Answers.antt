@@ -7,7 +7,7 @@ use lib.ListN.{length, take, set, length-set}
 use lib.Seq.{length-take-le}
 use borrow.Author.Rules.{rules}
 use Rattle.case_text.specs.Hexadecimal.{DocumentLine}
-use Rattle.case_text.proofs.DocumentLines.{room_for_document, document_line}
+use Rattle.case_text.proofs.DocumentLines.{document_line}
 use Rattle.case_text.proofs.answers_of.written_line.Goals as goal
 use Rattle.case_text.proofs.answers_of.written_line.Goals.{After-put_hex-end}
 
@@ -17,14 +17,6 @@ made : (c : After-put_hex-end) →
     × DocumentLine (c.args.a.value ∷ c.args.a.filler ∷ []) c.args.document.now (take (c.put_hex-end.result + 1) (set c.put_hex-end.new.line c.put_hex-end.result 0x0A))
 made c =
     document_line (c.args.a.value ∷ c.args.a.filler ∷ []) c.args.document.now _ _ _ c.copy-word.ensures _ _ c.put_numbers-behind.ensures (omega (arith, c.requires)) _ _ c.put_hex-end.ensures
-
-pub put_hex-end-requires : goal.put_hex-end-requires
-put_hex-end-requires c =
-    omega (
-      arith,
-      room_for_document (c.args.a.value ∷ c.args.a.filler ∷ []) c.args.document.now _ _ _ c.copy-word.ensures _ _ c.put_numbers-behind.ensures (omega (arith, c.requires)),
-      length-set c.put_numbers-behind.new.out c.put_numbers-behind.result 0x20,
-    )
 
 pub bounds-line-end : goal.bounds-line-end
 bounds-line-end c = (made (goal.at.bounds-line-end c).After-put_hex-end).0
