@@ -3,7 +3,7 @@ use native.Mathlib.Numerals.{add-one}
 use borrow.Author.Tests.{lt-ltb, le-ltb}
 use Rattle.model.specs.Definitions.Basics.{goes_if}
 use Rattle.table_limits.specs.Limits.{one_member_more}
-use Rattle.table_limits.proofs.limits.member_more.Goals as goal
+use Rattle.table_limits.proofs.limits.Counts.member_more.Goals as goal
 
 pub returns-then-members-lt-MAX_MEMBERS : goal.returns-then-members-lt-MAX_MEMBERS
 unfolding one_member_more goes_if

@@ -3,7 +3,7 @@ use native.Mathlib.Numerals.{add-one}
 use borrow.Author.Tests.{lt-ltb, le-ltb}
 use Rattle.model.specs.Definitions.Basics.{goes_if}
 use Rattle.model.specs.Definitions.TableChecks.{one_type_more}
-use Rattle.table_limits.proofs.limits.type_more.Goals as goal
+use Rattle.table_limits.proofs.limits.Counts.type_more.Goals as goal
 
 pub returns-then-types-lt-MAX_TYPES : goal.returns-then-types-lt-MAX_TYPES
 unfolding one_type_more goes_if
