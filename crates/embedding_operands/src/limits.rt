@@ -38,13 +38,7 @@ fn step_count(n: usize, c: EmbeddingCommand) -> Option<usize>
 {
     match c {
         EmbeddingCommand::MapsTo(_) | EmbeddingCommand::Path => Some(0),
-        EmbeddingCommand::Step(_) => {
-            if n < MAX_STEPS {
-                Some(n + 1)
-            } else {
-                None
-            }
-        }
+        EmbeddingCommand::Step(_) => { if n < MAX_STEPS { Some(n + 1) } else { None } }
         EmbeddingCommand::End => Some(n),
     }
 }

@@ -1,8 +1,6 @@
 -- `path_step` meets its contract, by cases on the command and on where a step goes.
-use mathlib.Core.Path.{sym, ap, ◌∙◌}
 use native.Mathlib.Omega.{arith}
 use Rattle.loaded_table.specs.Loaded.{table_by, length_of_lem}
-use Rattle.embedding_operands.specs.States.{stepped}
 use Rattle.embedding_operands.proofs.Paths.{maps_known, maps_unknown, path_again, end_stays, step_taken, step_missing}
 use Rattle.embedding_operands.proofs.operands.path_step.Goals as goal
 
