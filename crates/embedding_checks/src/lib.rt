@@ -33,7 +33,7 @@ pub enum Check {
     All,
 }
 
-// The first path that a check refuses. The loop checks one source type a turn.
+// The first path that a check refuses.
 pub fn first_fault(
     check: Check,
     source: &[u16; TABLE],
@@ -45,21 +45,13 @@ pub fn first_fault(
     ensures { verdict result ≡ first_fault check (table_by source.now) (table_by target.now) (embedding_by em.now (table_by source.now) map.now) }
 {
     let types = loaded_table::types(source);
-    let mut s = 0;
-    while s < types {
-        match type_fault(check, source, target, em, map, s) {
-            Ok(()) => {
-                s += 1;
-            }
-            Err(at) => {
-                return Err(at);
-            }
-        }
+    for s in 0..types {
+        type_fault(check, source, target, em, map, s)?;
     }
     Ok(())
 }
 
-// The first path of source type `s` that a check refuses. The loop checks one edge a turn.
+// The first path of source type `s` that a check refuses.
 fn type_fault(
     check: Check,
     source: &[u16; TABLE],
@@ -74,12 +66,10 @@ fn type_fault(
 {
     let n = edges_of(source, s);
     let paths = paths_of(em, map, s * MAX_MEMBERS, n);
-    let mut i = 0;
-    while i < n {
+    for i in 0..n {
         if !edge_right(check, source, target, em, map, s, i, &paths) {
             return Err(loaded_embedding::start(map, s * MAX_MEMBERS + i));
         }
-        i += 1;
     }
     Ok(())
 }

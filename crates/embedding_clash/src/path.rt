@@ -8,16 +8,14 @@ ghost use Rattle.model.specs.Definitions.EmbeddingChecks.{max_steps};
 use codes::{MAX_MEMBERS, MAX_STEPS};
 use loaded_embedding::MAP;
 
-// The steps of the path whose 21 stands at `start`, in order, and then zeros. The loop stores one step a turn.
+// The steps of the path whose 21 stands at `start`, in order, and then zeros.
 fn path_at(em: &[u8], start: usize, count: usize) -> [u8; MAX_STEPS]
     requires { (count ≤ max_steps) × (start + 1 + 2 * count ≤ length em.now) }
     ensures { result ≡ path_in em.now start count }
 {
     let mut path = [0u8; MAX_STEPS];
-    let mut i = 0;
-    while i < count {
+    for i in 0..count {
         path[i] = em[start + 2 + 2 * i];
-        i += 1;
     }
     path
 }
@@ -35,7 +33,7 @@ fn edge_path(em: &[u8], map: &[u16; MAP], edge: usize) -> [u8; MAX_STEPS]
     )
 }
 
-// The paths of `n` edges, the first of them edge `b`. The loop stores one path a turn.
+// The paths of `n` edges, the first of them edge `b`.
 pub fn paths_of(em: &[u8], map: &[u16; MAP], b: usize, n: usize) -> [[u8; MAX_STEPS]; MAX_MEMBERS]
     requires paths_bounded { PathsBounded em.now map.now }
     requires n_le_max_members { n ≤ max_members }
@@ -43,10 +41,8 @@ pub fn paths_of(em: &[u8], map: &[u16; MAP], b: usize, n: usize) -> [[u8; MAX_ST
     ensures { PathsAt em.now map.now b n result }
 {
     let mut paths = [[0u8; MAX_STEPS]; MAX_MEMBERS];
-    let mut i = 0;
-    while i < n {
+    for i in 0..n {
         paths[i] = edge_path(em, map, b + i);
-        i += 1;
     }
     paths
 }

@@ -12,20 +12,17 @@ pub fn next_type(target: &[u16; TABLE], t: usize, p: u8) -> usize
     requires { StepExists target.now t p }
     ensures { result ≡ next (table_by target.now) t p }
 {
-    loaded_table::member(target, t, p as usize - 1)
+    loaded_table::member(target, t, usize::from(p) - 1)
 }
 
-// The type at which a path ends, where its steps exist. The loop takes one step a turn.
+// The type at which a path ends, where its steps exist.
 pub fn end_of(target: &[u16; TABLE], from: usize, path: [u8; MAX_STEPS], count: usize) -> usize
     requires { Walkable target.now from path count }
     ensures { result ≡ end_of (table_by target.now) from (take count path) }
 {
     let mut t = from;
-    let mut i = 0;
-    while i < count {
-        let p = path[i];
-        t = next_type(target, t, p);
-        i += 1;
+    for i in 0..count {
+        t = next_type(target, t, path[i]);
     }
     t
 }

@@ -8,7 +8,7 @@ use codes::MAX_STEPS;
 use embedding_clash::walk::next_type;
 use loaded_table::{TABLE, is_choice};
 
-// Whether two paths from one type have the same steps before their first choice step. The loop goes along both.
+// Whether two paths from one type have the same steps before their first choice step.
 pub fn agree(
     target: &[u16; TABLE],
     from: usize,
@@ -22,8 +22,7 @@ pub fn agree(
     ensures { result ≡ same_steps (before_choice (table_by target.now) from (take la a)) (before_choice (table_by target.now) from (take lb b)) }
 {
     let mut t = from;
-    let mut i = 0;
-    while i < la {
+    for i in 0..la {
         if is_choice(loaded_table::kind(target, t)) {
             return true;
         }
@@ -35,9 +34,8 @@ pub fn agree(
             return false;
         }
         t = next_type(target, t, p);
-        i += 1;
     }
-    if i == lb {
+    if la == lb {
         return true;
     }
     is_choice(loaded_table::kind(target, t))

@@ -18,7 +18,7 @@ pub struct Left {
     pub list: bool,
 }
 
-// Which of choices and lists the steps of a path leave. The loop takes one step a turn.
+// Which of choices and lists the steps of a path leave.
 pub fn kinds_left(target: &[u16; TABLE], from: usize, path: [u8; MAX_STEPS], count: usize) -> Left
     requires { Walkable target.now from path count }
     ensures { LeftAll result (table_by target.now) from (take count path) }
@@ -29,11 +29,9 @@ pub fn kinds_left(target: &[u16; TABLE], from: usize, path: [u8; MAX_STEPS], cou
         list: false,
     };
     let mut t = from;
-    let mut i = 0;
-    while i < count {
+    for i in 0..count {
         left = with_kind(left, loaded_table::kind(target, t));
         t = next_type(target, t, path[i]);
-        i += 1;
     }
     left
 }
@@ -48,19 +46,14 @@ fn with_kind(left: Left, kind: usize) -> Left
         SEQUENCE => left,
         CHOICE => Left {
             choice: true,
-            optional: left.optional,
-            list: left.list,
+            ..left
         },
         OPTIONAL => Left {
             choice: true,
             optional: optional_first(left),
-            list: left.list,
+            ..left
         },
-        _ => Left {
-            choice: left.choice,
-            optional: left.optional,
-            list: true,
-        },
+        _ => Left { list: true, ..left },
     }
 }
 

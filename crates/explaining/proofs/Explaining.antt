@@ -7,12 +7,13 @@ use Prim.Native.Nat.{ℕ}
 use native.Mathlib.Omega.{arith}
 use lib.Dec.{eqb}
 use borrow.Author.Tests.{eqb-true, eqb-false}
-use Rattle.answers.specs.declared.Fault.{Fault}
 use Rattle.answers.specs.declared.Clash.{Clash}
-use Rattle.answers.specs.declared.Search.{Search}
-use Rattle.answers.specs.declared.Judging.{Judging}
+use Rattle.answers.specs.declared.Refusal.{Refusal}
+use Rattle.std.specs.Prelude as std
+use Rattle.std.specs.Prelude.{Ok, Err}
 use Rattle.answers.specs.declared.Explanation.{Explanation}
-use Rattle.answers.specs.Answers.{fault, clash, search, ExplainedAs}
+use Rattle.answers.specs.Answers as answers
+use Rattle.answers.specs.Answers.{clash, search, counted_result}
 use Rattle.loaded_table.specs.Loaded.{table_by}
 use Rattle.loaded_embedding.specs.Loaded.{embedding_by}
 use Rattle.embedding_clash.specs.Ready.{Checkable}
@@ -24,7 +25,6 @@ use Rattle.model.specs.Definitions.Basics.{passes}
 use Rattle.model.specs.Definitions.Table.{Table, table_of}
 use Rattle.model.specs.Definitions.Embedding.{embedding_of}
 use Rattle.model.specs.Definitions.EmbeddingChecks.{embedding_operands}
-use Rattle.model.specs.Definitions.Refusals.{fault_number, numbers_of}
 use Rattle.model.specs.Definitions.Entries.{Result, answer_of, edge_count, judge_embedding}
 use Rattle.model.specs.Definitions.Explanation as model
 use Rattle.model.specs.Definitions.Explanation.{clash_of, explanation, explain}
@@ -34,39 +34,42 @@ use Rattle.model.proofs.Theorems.Explanations.{RefusedFor10, refused_10, only_cl
 
 -- ---- what a search found
 
-pub nothing_found : {r : Search} {o : Option model.Clash} → search r ≡ o → r ≡ Search.Nothing → o ≡ none
+pub nothing_found : {r : std.Option Clash} {o : Option model.Clash} → search r ≡ o → r ≡ std.None → o ≡ none
 nothing_found e told = sym e ∙ ap search told
 
-pub something_found : {r : Search} {o : Option model.Clash} {c : Clash} → search r ≡ o → r ≡ Search.Found c → o ≡ some (clash c)
+pub something_found : {r : std.Option Clash} {o : Option model.Clash} {c : Clash} → search r ≡ o → r ≡ std.Some c → o ≡ some (clash c)
 something_found e told = sym e ∙ ap search told
 
 -- ---- what judging answered
 
-module _ {s t e : List ℕ} {f : Fault} {n : ℕ} (refusing : Refusing s t e f n) where
-  -- the number of the refusal is that of the fault
-  number_is : (answer_of (judge_embedding s t e)).refusal ≡ fault_number (fault f)
-  unfolding answer_of numbers_of
-  number_is = ap (λ (r : Result). (answer_of r).refusal) (refused_answer refusing).2
+-- the number of a refusal
+abbrev number : Refusal → ℕ
+number r = (answer_of (counted_result (Err r))).refusal
+
+module _ {s t e : List ℕ} {r : Refusal} (refusing : Refusing s t e r) where
+  -- it is the number of the judging answer
+  number_is : (answer_of (judge_embedding s t e)).refusal ≡ number r
+  number_is = ap (λ (x : Result). (answer_of x).refusal) (sym (refused_answer refusing))
 
   -- refused with 10
-  pub for_10 : eqb (fault_number (fault f)) 10 ≡ true → (answer_of (judge_embedding s t e)).refusal ≡ 10
+  pub for_10 : eqb (number r) 10 ≡ true → (answer_of (judge_embedding s t e)).refusal ≡ 10
   for_10 told = number_is ∙ eqb-true _ 10 told
 
   -- refused otherwise: the judging answer
-  pub refused_otherwise : eqb (fault_number (fault f)) 10 ≡ false → ExplainedAs (Explanation.Unexplained (Judging.Refused f n)) (explain s t e)
-  refused_otherwise told = (judge_embedding s t e, refused_answer refusing, explain_other s t e (λ ten. eqb-false _ 10 told (sym number_is ∙ ten)))
+  pub refused_otherwise : eqb (number r) 10 ≡ false → answers.explanation (Explanation.Unexplained (Err r)) ≡ explain s t e
+  refused_otherwise told = ap model.unexplained (refused_answer refusing) ∙ sym (explain_other s t e (λ ten. eqb-false _ 10 told (sym number_is ∙ ten)))
 
 -- accepted: the judging answer
-pub accepted_so : {s t e from to map : List ℕ} (n : ℕ) → Standing s t e from to map → n ≡ edge_count (table_by from) → ExplainedAs (Explanation.Unexplained (Judging.Accepted n)) (explain s t e)
+pub accepted_so : {s t e from to map : List ℕ} (n : ℕ) → Standing s t e from to map → n ≡ edge_count (table_by from) → answers.explanation (Explanation.Unexplained (Ok n)) ≡ explain s t e
 unfolding answer_of
 accepted_so {s} {t} {e} n h count =
     let answer = counted-answer n h count in
-    let zero : (answer_of (judge_embedding s t e)).refusal ≡ 0 = ap (λ (r : Result). (answer_of r).refusal) answer in
-    (judge_embedding s t e, answer, explain_other s t e (λ ten. omega (arith, zero, ten)))
+    let zero : 0 ≡ (answer_of (judge_embedding s t e)).refusal = ap (λ (x : Result). (answer_of x).refusal) answer in
+    ap model.unexplained answer ∙ sym (explain_other s t e (λ ten. omega (arith, zero, ten)))
 
 -- ---- refused with 10
 
-module _ {s t e from to map : List ℕ} {f : Fault} {n : ℕ} (refused : SettingRefused s t e from to map f n) (told : eqb (fault_number (fault f)) 10 ≡ true) where
+module _ {s t e from to map : List ℕ} {r : Refusal} (refused : SettingRefused s t e from to map r) (told : eqb (number r) 10 ≡ true) where
   ten : (answer_of (judge_embedding s t e)).refusal ≡ 10
   ten = for_10 refused.refusing told
 
@@ -97,14 +100,15 @@ module _ {s t e from to map : List ℕ} {f : Fault} {n : ℕ} (refused : Setting
       let paths : embedding_by e (table_of s) map ≡ embedding_of e = loaded.same_embedding in
       rw (source, target, paths) refl
 
-  module _ {r : Search} (searched : search r ≡ clash_of (table_by from) (table_by to) (embedding_by e (table_by from) map)) where
+  module _ {found : std.Option Clash} (searched : search found ≡ clash_of (table_by from) (table_by to) (embedding_by e (table_by from) map)) where
     -- a clash is found
-    pub clash-explained : {c : Clash} → r ≡ Search.Found c → ExplainedAs (Explanation.Explained c) (explain s t e)
+    pub clash-explained : {c : Clash} → found ≡ std.Some c → answers.explanation (Explanation.Explained c) ≡ explain s t e
     unfolding explanation
-    clash-explained is = explain_10 s t e ten ∙ ap (explanation (judge_embedding s t e)) (sym same_search ∙ something_found searched is)
+    clash-explained is = sym (explain_10 s t e ten ∙ ap (explanation (judge_embedding s t e)) (sym same_search ∙ something_found searched is))
 
     -- none is
-    pub none-explained : r ≡ Search.Nothing → ExplainedAs (Explanation.Unexplained (Judging.Refused f n)) (explain s t e)
+    pub none-explained : found ≡ std.None → answers.explanation (Explanation.Unexplained (Err r)) ≡ explain s t e
     unfolding explanation
     none-explained is =
-        (judge_embedding s t e, refused_answer refused.refusing, explain_10 s t e ten ∙ ap (explanation (judge_embedding s t e)) (sym same_search ∙ nothing_found searched is))
+        ap model.unexplained (refused_answer refused.refusing)
+        ∙ sym (explain_10 s t e ten ∙ ap (explanation (judge_embedding s t e)) (sym same_search ∙ nothing_found searched is))

@@ -7,7 +7,7 @@ ghost use Rattle.embedding_clash.specs.Ready.{map_of, Checkable};
 ghost use Rattle.model.specs.Definitions.Table.{kind_of};
 ghost use Rattle.model.specs.Definitions.Explanation.{clash_of_type, clash_of};
 
-use answers::Search;
+use answers::Clash;
 use codes::MAX_MEMBERS;
 use embedding_clash::clash::first_clash;
 use embedding_clash::path::paths_of;
@@ -15,52 +15,43 @@ use embedding_form::edges::edges_of;
 use loaded_embedding::MAP;
 use loaded_table::TABLE;
 
-// The first clash of an embedding. The loop looks at one source type a turn.
-pub fn clash_of(source: &[u16; TABLE], target: &[u16; TABLE], em: &[u8], map: &[u16; MAP]) -> Search
+// The first clash of an embedding.
+pub fn clash_of(
+    source: &[u16; TABLE],
+    target: &[u16; TABLE],
+    em: &[u8],
+    map: &[u16; MAP],
+) -> Option<Clash>
     requires { Checkable source.now target.now em.now map.now }
     ensures { search result ≡ clash_of (table_by source.now) (table_by target.now) (embedding_by em.now (table_by source.now) map.now) }
 {
     let types = loaded_table::types(source);
-    let mut s = 0;
-    while s < types {
-        let found = clash_of_type(source, target, em, map, s);
-        match found {
-            Search::Nothing => {
-                s += 1;
-            }
-            Search::Found(clash) => {
-                return Search::Found(clash);
-            }
+    for s in 0..types {
+        if let Some(clash) = clash_of_type(source, target, em, map, s) {
+            return Some(clash);
         }
     }
-    Search::Nothing
+    None
 }
 
-// The first clash of source type `s`. The loop looks at one edge a turn.
+// The first clash of source type `s`.
 fn clash_of_type(
     source: &[u16; TABLE],
     target: &[u16; TABLE],
     em: &[u8],
     map: &[u16; MAP],
     s: usize,
-) -> Search
+) -> Option<Clash>
     requires checkable { Checkable source.now target.now em.now map.now }
     requires s_bound { s < types_in source.now }
     ensures { search result ≡ clash_of_type (table_by target.now) (kind_of (table_by source.now) s) (map_of source.now em.now map.now s) s }
 {
     let n = edges_of(source, s);
     let paths = paths_of(em, map, s * MAX_MEMBERS, n);
-    let mut i = 0;
-    while i < n {
-        let found = first_clash(source, target, em, map, s, i, &paths);
-        match found {
-            Search::Nothing => {
-                i += 1;
-            }
-            Search::Found(clash) => {
-                return Search::Found(clash);
-            }
+    for i in 0..n {
+        if let Some(clash) = first_clash(source, target, em, map, s, i, &paths) {
+            return Some(clash);
         }
     }
-    Search::Nothing
+    None
 }

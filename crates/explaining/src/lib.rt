@@ -5,17 +5,17 @@
 
 pub mod clashes;
 
-ghost use Rattle.std.specs.Prelude.{◌≡◌, eqb};
+ghost use Rattle.std.specs.Prelude.{◌≡◌, eqb, Err};
 ghost use Rattle.answers.specs.Answers as answers;
 ghost use Rattle.model.specs.Definitions.Refusals.{fault_number};
+ghost use Rattle.model.specs.Definitions.Entries.{answer_of};
 ghost use Rattle.model.specs.Definitions.Explanation as model;
 
-use answers::{Explanation, Fault, Judging, Search};
+use answers::{Explanation, Fault, Refusal};
 use clashes::clash_of;
 use embedding_form::count::edge_count;
 use loaded_embedding::MAP;
 use loaded_table::TABLE;
-use setting_judge::Verdict;
 
 // Whether a fault is a clash, refusal 10.
 fn is_clash(f: Fault) -> bool
@@ -27,27 +27,32 @@ fn is_clash(f: Fault) -> bool
     }
 }
 
+// Whether a refusal is one for a clash.
+fn for_clash(why: Refusal) -> bool
+    ensures { result ≡ eqb (answer_of (answers.counted_result (Err why))).refusal 10 }
+{
+    match why {
+        Refusal::Faulty(_, f) => is_clash(f),
+        _ => false,
+    }
+}
+
 // Judges the three documents, and explains the answer where two paths clash.
 pub fn explain(source: &[u8], target: &[u8], embedding: &[u8]) -> Explanation
-    ensures { answers.ExplainedAs result (model.explain source.now target.now embedding.now) }
+    ensures { answers.explanation result ≡ model.explain source.now target.now embedding.now }
 {
     let mut from = [0u16; TABLE];
     let mut to = [0u16; TABLE];
     let mut map = [0u16; MAP];
-    let verdict = setting_judge::judge(source, target, embedding, &mut from, &mut to, &mut map);
-    match verdict {
-        Verdict::Sound => {
-            let edges = edge_count(&from);
-            Explanation::Unexplained(Judging::Accepted(edges))
-        }
-        Verdict::Has(f, document) => {
-            if !is_clash(f) {
-                return Explanation::Unexplained(Judging::Refused(f, document));
+    match setting_judge::judge(source, target, embedding, &mut from, &mut to, &mut map) {
+        Ok(()) => Explanation::Unexplained(Ok(edge_count(&from))),
+        Err(why) => {
+            if !for_clash(why) {
+                return Explanation::Unexplained(Err(why));
             }
-            let found = clash_of(&from, &to, embedding, &map);
-            match found {
-                Search::Found(clash) => Explanation::Explained(clash),
-                Search::Nothing => Explanation::Unexplained(Judging::Refused(f, document)),
+            match clash_of(&from, &to, embedding, &map) {
+                Some(clash) => Explanation::Explained(clash),
+                None => Explanation::Unexplained(Err(why)),
             }
         }
     }

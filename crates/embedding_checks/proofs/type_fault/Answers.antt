@@ -15,11 +15,11 @@ type_here c = type_at c.requires.checkable _ c.requires.s_bound
 
 -- the edge at hand is one of the type's, and what is known of it
 inside : (c : In-loop-i) → c.loop-i.i < edges_of (kind_of (table_by c.args.source.now) c.args.s)
-inside c = rw c.edges_of-n.ensures.same at c.loop-i-test.true
+inside c = omega (arith, c.edges_of-n.ensures.same)
 
 edge_here : (c : In-loop-i)
     → EdgeAt c.args.source.now c.args.target.now c.args.em.now c.args.map.now c.args.s c.loop-i.i
-edge_here c = edge_at c.requires.checkable _ _ c.requires.s_bound (rw c.edges_of-n.ensures.same at c.loop-i-test.true)
+edge_here c = edge_at c.requires.checkable _ _ c.requires.s_bound (omega (arith, c.edges_of-n.ensures.same))
 
 pub edges_of-n-requires : goal.edges_of-n-requires
 edges_of-n-requires c = record { bounded = c.requires.checkable.source_bounded; t_bound = c.requires.s_bound }
@@ -48,16 +48,10 @@ start-requires c = (edge_here (goal.at.start-requires c).In-loop-i).inside
 
 pub returns-then-not-edge_right : goal.returns-then-not-edge_right
 returns-then-not-edge_right c =
-    edge-fails c.loop-i.invariant c.loop-i-test.true c.edge_right.ensures (ap not c.if-not-edge_right.true) (edge_here (goal.at.returns-then-not-edge_right c).In-loop-i) c.start.ensures.0
-
-pub overflow_add-i : goal.overflow_add-i
-overflow_add-i c = omega (arith, c.loop-i-test.true, (type_here (goal.at.overflow_add-i c).Start).at_most)
-
-pub loop-i-smaller : goal.loop-i-smaller
-loop-i-smaller c = omega arith
+    edge-fails c.loop-i.invariant (omega arith) c.edge_right.ensures (ap not c.if-not-edge_right.true) (edge_here (goal.at.returns-then-not-edge_right c).In-loop-i) c.start.ensures.0
 
 pub loop-i-preserved : goal.loop-i-preserved
-loop-i-preserved c = edge-passes c.loop-i.invariant c.loop-i-test.true c.edge_right.ensures (ap not c.if-not-edge_right.false)
+loop-i-preserved c = edge-passes c.loop-i.invariant (omega arith) c.edge_right.ensures (ap not c.if-not-edge_right.false)
 
 pub returns : goal.returns
-returns c = edges-end c.loop-i.invariant c.loop-i-test.false
+returns c = edges-end c.loop-i.invariant (omega arith)

@@ -5,28 +5,25 @@ use Rattle.setting_judge.specs.Laws.{standing, refused, refusing}
 use Rattle.explaining.proofs.Explaining.{accepted_so, refused_otherwise, searchable, clash-explained, none-explained}
 use Rattle.explaining.proofs.explain.Goals as goal
 
-pub judge-verdict-requires : goal.judge-verdict-requires
-judge-verdict-requires c = (refl, refl, cleared_map)
+pub judge-requires : goal.judge-requires
+judge-requires c = (refl, refl, cleared_map)
 
-pub edge_count-edges-requires : goal.edge_count-edges-requires
-edge_count-edges-requires c = (standing _ _ _ _ _ _ _ c.judge-verdict.ensures c.in-Sound.is).loaded.source_stands.bounded
+pub edge_count-requires : goal.edge_count-requires
+edge_count-requires c = (standing _ _ _ _ _ _ _ c.judge.ensures c.in-Ok.is).loaded.source_stands.bounded
 
-pub is_clash-requires : goal.is_clash-requires
-is_clash-requires c = tt
+pub returns-then-not-for_clash : goal.returns-then-not-for_clash
+returns-then-not-for_clash c = refused_otherwise (refusing _ _ _ _ _ _ _ c.judge.ensures c.in-Err.is) (sym c.for_clash.ensures ∙ c.if-not-for_clash.true)
 
-pub returns-then-not-is_clash : goal.returns-then-not-is_clash
-returns-then-not-is_clash c = refused_otherwise (refusing _ _ _ _ _ _ _ c.judge-verdict.ensures c.in-Has.is) (sym c.is_clash.ensures ∙ c.if-not-is_clash.true)
+pub clash_of-requires : goal.clash_of-requires
+clash_of-requires c = searchable (refused _ _ _ _ _ _ _ c.judge.ensures c.in-Err.is) (sym c.for_clash.ensures ∙ c.if-not-for_clash.false)
 
-pub clash_of-found-requires : goal.clash_of-found-requires
-clash_of-found-requires c = searchable (refused _ _ _ _ _ _ _ c.judge-verdict.ensures c.in-Has.is) (sym c.is_clash.ensures ∙ c.if-not-is_clash.false)
+pub returns-in-Ok : goal.returns-in-Ok
+returns-in-Ok c = accepted_so _ (standing _ _ _ _ _ _ _ c.judge.ensures c.in-Ok.is) c.edge_count.ensures
 
-pub returns-in-Sound : goal.returns-in-Sound
-returns-in-Sound c = accepted_so _ (standing _ _ _ _ _ _ _ c.judge-verdict.ensures c.in-Sound.is) c.edge_count-edges.ensures
+pub returns-in-Some : goal.returns-in-Some
+returns-in-Some c = clash-explained (refused _ _ _ _ _ _ _ c.judge.ensures c.in-Err.is) (sym c.for_clash.ensures ∙ c.if-not-for_clash.false)
+    c.clash_of.ensures c.in-Some.is
 
-pub returns-in-Found : goal.returns-in-Found
-returns-in-Found c = clash-explained (refused _ _ _ _ _ _ _ c.judge-verdict.ensures c.in-Has.is) (sym c.is_clash.ensures ∙ c.if-not-is_clash.false)
-    c.clash_of-found.ensures c.in-Found.is
-
-pub returns-in-Nothing : goal.returns-in-Nothing
-returns-in-Nothing c = none-explained (refused _ _ _ _ _ _ _ c.judge-verdict.ensures c.in-Has.is) (sym c.is_clash.ensures ∙ c.if-not-is_clash.false)
-    c.clash_of-found.ensures c.in-Nothing.is
+pub returns-in-None : goal.returns-in-None
+returns-in-None c = none-explained (refused _ _ _ _ _ _ _ c.judge.ensures c.in-Err.is) (sym c.for_clash.ensures ∙ c.if-not-for_clash.false)
+    c.clash_of.ensures c.in-None.is

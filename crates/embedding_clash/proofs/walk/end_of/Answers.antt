@@ -1,5 +1,5 @@
 use mathlib.Core.Path.{refl}
-use Prim.Native.Nat.{◌+◌, ◌≤◌}
+use Prim.Native.Nat.{◌+◌, ◌≤◌, ◌<◌}
 use native.Mathlib.Omega.{arith}
 use mathlib.Core.List.{◌∷◌}
 use lib.ListN.{length, get_or, take, drop}
@@ -14,26 +14,18 @@ at_step : (c : In-loop-i)
     c.args.from (take c.args.count c.args.path) c.loop-i.t
     (get_or c.args.path c.loop-i.i 0 ∷ drop (c.loop-i.i + 1) (take c.args.count c.args.path))
 at_step c =
+    let inside : c.loop-i.i < c.args.count = omega arith in
     let long : c.args.count ≤ length c.args.path = omega arith in
-    rw (rest_cons _ _ _ c.loop-i-test.true long) at c.loop-i.invariant.1
+    rw (rest_cons _ _ _ inside long) at c.loop-i.invariant
 
 pub loop-i-init : goal.loop-i-init
-loop-i-init c = (omega arith, record { walks = c.requires.walks; ends = refl })
-
-pub bounds-path-i : goal.bounds-path-i
-bounds-path-i c = omega arith
+loop-i-init c = record { walks = c.requires.walks; ends = refl }
 
 pub next_type-t-requires : goal.next_type-t-requires
 next_type-t-requires c = record { bounded = c.requires.bounded; exists = (goes_on (at_step c).walks).exists }
 
-pub overflow_add-i : goal.overflow_add-i
-overflow_add-i c = omega arith
-
-pub loop-i-smaller : goal.loop-i-smaller
-loop-i-smaller c = omega arith
-
 pub loop-i-preserved : goal.loop-i-preserved
-loop-i-preserved c = (omega arith, rw c.next_type-t.ensures (way_on (at_step (goal.at.loop-i-preserved c).In-loop-i)))
+loop-i-preserved c = rw c.next_type-t.ensures (way_on (at_step (goal.at.loop-i-preserved c).In-loop-i))
 
 pub returns : goal.returns
-returns c = way_ends c.loop-i.invariant.1 (rest_none _ _ _ c.loop-i-test.false)
+returns c = let past : c.args.count ≤ c.loop-i.i = omega arith in way_ends c.loop-i.invariant (rest_none _ _ _ past)

@@ -1,5 +1,4 @@
 -- The loop's invariant: what is left of the path goes on from the type reached, and ends where the whole ends.
-use Prim.Native.Nat.{◌-◌, ◌≤◌}
 use lib.ListN.{take, drop}
 use Rattle.loaded_table.specs.Loaded.{table_by}
 use Rattle.embedding_clash.proofs.Following.{OnTheWay}
@@ -7,7 +6,4 @@ use Rattle.embedding_clash.proofs.walk.end_of.Given as goal
 
 abbrev pub invariant-loop-i : goal.invariant-loop-i
 invariant-loop-i l =
-    (l.i ≤ l.count) × OnTheWay (table_by l.target) l.from (take l.count l.path) l.t (drop l.i (take l.count l.path))
-
-abbrev pub decreases-loop-i : goal.decreases-loop-i
-decreases-loop-i l = l.count - l.i
+    OnTheWay (table_by l.target) l.from (take l.count l.path) l.t (drop l.i (take l.count l.path))

@@ -1,5 +1,5 @@
 -- The loop's invariant: what is left of both paths agrees exactly where the whole paths do.
-use Prim.Native.Nat.{◌-◌, ◌≤◌}
+use Prim.Native.Nat.{◌≤◌}
 use lib.ListN.{take, drop}
 use Rattle.loaded_table.specs.Loaded.{table_by}
 use Rattle.embedding_ends.proofs.AgreeLaws.{Agreeing}
@@ -7,7 +7,4 @@ use Rattle.embedding_ends.proofs.agreement.agree.Given as goal
 
 abbrev pub invariant-loop-i : goal.invariant-loop-i
 invariant-loop-i l =
-    (l.i ≤ l.la) × (l.i ≤ l.lb) × Agreeing (table_by l.target) l.from (take l.la l.a) (take l.lb l.b) l.t (drop l.i (take l.la l.a)) (drop l.i (take l.lb l.b))
-
-abbrev pub decreases-loop-i : goal.decreases-loop-i
-decreases-loop-i l = l.la - l.i
+    (l.i ≤ l.lb) × Agreeing (table_by l.target) l.from (take l.la l.a) (take l.lb l.b) l.t (drop l.i (take l.la l.a)) (drop l.i (take l.lb l.b))

@@ -1,5 +1,4 @@
 -- The loop's invariant: what was collected, with what the rest of the path leaves, is what the whole path leaves.
-use Prim.Native.Nat.{◌-◌, ◌≤◌}
 use lib.ListN.{take, drop}
 use Rattle.loaded_table.specs.Loaded.{table_by}
 use Rattle.embedding_ends.proofs.StepLaws.{Leaving}
@@ -7,7 +6,4 @@ use Rattle.embedding_ends.proofs.steps.kinds_left.Given as goal
 
 abbrev pub invariant-loop-i : goal.invariant-loop-i
 invariant-loop-i l =
-    (l.i ≤ l.count) × Leaving (table_by l.target) l.from (take l.count l.path) l.t (drop l.i (take l.count l.path)) l.left
-
-abbrev pub decreases-loop-i : goal.decreases-loop-i
-decreases-loop-i l = l.count - l.i
+    Leaving (table_by l.target) l.from (take l.count l.path) l.t (drop l.i (take l.count l.path)) l.left

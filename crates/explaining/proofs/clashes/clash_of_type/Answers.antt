@@ -16,7 +16,7 @@ type_here c = type_at c.requires.checkable _ c.requires.s_bound
 
 -- the edge at hand is one of the type's
 inside : (c : In-loop-i) → c.loop-i.i < edges_of (kind_of (table_by c.args.source.now) c.args.s)
-inside c = rw c.edges_of-n.ensures.same at c.loop-i-test.true
+inside c = omega (arith, c.edges_of-n.ensures.same)
 
 pub edges_of-n-requires : goal.edges_of-n-requires
 unfolding clash_of_type
@@ -31,28 +31,20 @@ paths_of-paths-requires c = record { paths_bounded = c.requires.checkable.paths_
 
 pub loop-i-init : goal.loop-i-init
 unfolding clash_of_type
-loop-i-init c = (omega arith, search_starts _ (c.edges_of-n.ensures.same ∙ sym (type_here (goal.at.loop-i-init c).Start).edges_due_lem))
+loop-i-init c = search_starts _ (c.edges_of-n.ensures.same ∙ sym (type_here (goal.at.loop-i-init c).Start).edges_due_lem)
 
-pub first_clash-found-requires : goal.first_clash-found-requires
-first_clash-found-requires c =
-    record { ready = c.requires.checkable; type_exists = c.requires.s_bound; edge_exists = inside (goal.at.first_clash-found-requires c).In-loop-i; stored = rw c.edges_of-n.ensures.same at c.paths_of-paths.ensures }
-
-pub overflow_add-i : goal.overflow_add-i
-unfolding clash_of_type
-overflow_add-i c = omega (arith, c.loop-i-test.true, inside (goal.at.overflow_add-i c).In-loop-i, (type_here (goal.at.overflow_add-i c).Start).at_most)
-
-pub loop-i-smaller : goal.loop-i-smaller
-unfolding clash_of_type
-loop-i-smaller c = omega arith
+pub first_clash-requires : goal.first_clash-requires
+first_clash-requires c =
+    record { ready = c.requires.checkable; type_exists = c.requires.s_bound; edge_exists = inside (goal.at.first_clash-requires c).In-loop-i; stored = rw c.edges_of-n.ensures.same at c.paths_of-paths.ensures }
 
 pub loop-i-preserved : goal.loop-i-preserved
 loop-i-preserved c =
-    (omega arith, search_passes _ _ _ c.loop-i-test.true (nothing_found c.first_clash-found.ensures c.in-Nothing.is) ∙ c.loop-i.invariant.1)
+    search_passes _ _ _ (omega arith) (nothing_found c.first_clash.ensures c.in_default.is) ∙ c.loop-i.invariant
 
-pub returns-in-Found : goal.returns-in-Found
-returns-in-Found c =
-    sym (search_finds _ _ _ c.loop-i-test.true (something_found c.first_clash-found.ensures c.in-Found.is)) ∙ c.loop-i.invariant.1
+pub returns-in-Some : goal.returns-in-Some
+returns-in-Some c =
+    sym (search_finds _ _ _ (omega arith) (something_found c.first_clash.ensures c.in-Some.is)) ∙ c.loop-i.invariant
 
 pub returns : goal.returns
 unfolding clash_of_type
-returns c = sym (search_ends _ _ _ c.loop-i-test.false) ∙ c.loop-i.invariant.1
+returns c = sym (search_ends _ _ _ (omega arith)) ∙ c.loop-i.invariant
