@@ -5,9 +5,9 @@
 
 ghost use Rattle.std.specs.Prelude.{◌≡◌};
 ghost use Rattle.model.specs.Definitions.Operations.{append_type, append_member};
-ghost use Rattle.table_operations.specs.Operations.{held, StandsFor, LoadedFrom, is_done, Operated};
+ghost use Rattle.table_operations.specs.Operations.{held, StandsFor, LoadedFrom, Operated};
 
-use answers::{Extension, Judged};
+use answers::{Fault, Refusal};
 use loaded_table::TABLE;
 use table_growth::{grow_member, grow_type};
 
@@ -17,41 +17,22 @@ pub struct Table {
     pub numbers: [u16; TABLE],
 }
 
-// What loading finds; the table is the document's where that is accepted.
-#[derive(Drop)]
-pub struct Loading {
-    pub judged: Judged,
-    pub table: Table,
-}
-
-// What an operation answers, and the table then: as it was where the operation is refused.
+// What an operation answers, the number of types where it is done, and the table then: as it was where the operation is refused. The
+// operations take the table by value and hand it back, as docs/DECISIONS.md says under the forms that paper 01 names.
 #[derive(Drop)]
 pub struct Extended {
-    pub answer: Extension,
+    pub answer: Result<usize, Refusal>,
     pub table: Table,
-}
-
-// Whether an operation is done.
-fn done(answer: Extension) -> bool
-    ensures { result ≡ is_done answer }
-{
-    match answer {
-        Extension::Types(_) => true,
-        _ => false,
-    }
 }
 
 impl Table {
     // Loads a table document.
-    pub fn load(document: &[u8]) -> Loading
+    pub fn load(document: &[u8]) -> Result<Table, Fault>
         ensures { LoadedFrom document.now result }
     {
         let mut numbers = [0u16; TABLE];
-        let judged = table_judge::judge(document, &mut numbers);
-        Loading {
-            judged,
-            table: Table { numbers },
-        }
+        table_judge::judge(document, &mut numbers)?;
+        Ok(Table { numbers })
     }
 
     // Appends the type that its own commands write.
@@ -61,7 +42,7 @@ impl Table {
     {
         let mut numbers = self.numbers;
         let answer = grow_type(&mut numbers, commands);
-        if done(answer) {
+        if answer.is_ok() {
             self.numbers = numbers;
         }
         Extended {
@@ -77,7 +58,7 @@ impl Table {
     {
         let mut numbers = self.numbers;
         let answer = grow_member(&mut numbers, t, m);
-        if done(answer) {
+        if answer.is_ok() {
             self.numbers = numbers;
         }
         Extended {

@@ -3,16 +3,8 @@ use mathlib.Core.Path.{sym, ◌∙◌}
 use Rattle.table_operations.proofs.Operating.{done_operated, refused_operated}
 use Rattle.table_operations.proofs.Table.append_type.Goals as goal
 
-pub grow_type-answer-requires : goal.grow_type-answer-requires
-grow_type-answer-requires c = c.requires
+pub returns-then-is_ok : goal.returns-then-is_ok
+returns-then-is_ok c = done_operated _ _ _ c.grow_type-answer.ensures (sym c.if-is_ok.true ∙ c.is_ok.ensures.value)
 
-pub done-requires : goal.done-requires
-done-requires c = tt
-
-pub returns-then-done : goal.returns-then-done
-returns-then-done c =
-    done_operated _ _ _ c.grow_type-answer.ensures (sym c.done.ensures ∙ c.if-done.true)
-
-pub returns-else-done : goal.returns-else-done
-returns-else-done c =
-    refused_operated _ _ _ c.requires c.grow_type-answer.ensures (sym c.done.ensures ∙ c.if-done.false)
+pub returns-else-is_ok : goal.returns-else-is_ok
+returns-else-is_ok c = refused_operated _ _ _ c.requires c.grow_type-answer.ensures (sym c.if-is_ok.false ∙ c.is_ok.ensures.value)

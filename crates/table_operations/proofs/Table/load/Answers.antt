@@ -1,13 +1,15 @@
 -- `load` meets its contract: an accepted document's table is valid.
-use Prim.Native.Nat.{ℕ}
-use lib.ListN.{length-replicate}
+use mathlib.Core.Path.{sym}
+use Rattle.std.proofs.lemmas.Result.{err_from_is_err_and}
 use Rattle.model.proofs.Theorems.ValidTables.{accepted_table_valid}
+use Rattle.table_operations.proofs.Operating.{load_refused, load_done}
 use Rattle.table_operations.proofs.Table.load.Goals as goal
 
-pub judge-judged-requires : goal.judge-judged-requires
-judge-judged-requires c = length-replicate {A = ℕ} 1281 0
+pub returns-in_err-judge : goal.returns-in_err-judge
+returns-in_err-judge c =
+    let (f, is, same) = err_from_is_err_and c.from_residual.result c.from_residual.ensures.1 in load_refused c.in_err-judge.ensures.judgement (rw same at is)
 
 pub returns : goal.returns
 returns c =
-    let judged = c.judge-judged.ensures in
-    record { judgement = judged.judgement; loaded = λ accepted. record { stands = judged.loaded accepted; valid = accepted_table_valid _ accepted } }
+    let judged = c.in_ok-judge.ensures in
+    load_done judged.judgement (record { stands = judged.loaded (sym judged.judgement); valid = accepted_table_valid _ (sym judged.judgement) })
