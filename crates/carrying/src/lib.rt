@@ -11,7 +11,7 @@ ghost use Rattle.rows.specs.Rows.{Rows, Sizes};
 ghost use Rattle.pools.specs.Pools.{Arrays, HasRoom, IsSmall};
 ghost use Rattle.carry_prepared.specs.Carrying.{Carries};
 
-use answers::Carried;
+use answers::{Refusal, Written};
 use carry_prepared::carry_prepared;
 use loaded_embedding::MAP;
 use loaded_table::TABLE;
@@ -45,7 +45,7 @@ fn carry_small<'a>(
     em: &[u8],
     tr: &'a [u8],
     out: &mut [u8],
-) -> Carried
+) -> Result<Written, Refusal>
     requires ready { Ready source.now target.now map.now em.now }
     requires tree { SoundTree (table_by source.now) tr.now }
     requires small { IsSmall source.now target.now map.now }
@@ -67,7 +67,7 @@ fn carry_pooled<'a>(
     tr: &'a [u8],
     out: &mut [u8],
     pool: &mut [u8],
-) -> Carried
+) -> Result<Written, Refusal>
     requires ready { Ready source.now target.now map.now em.now }
     requires tree { SoundTree (table_by source.now) tr.now }
     requires enough { HasRoom source.now target.now map.now pool.old }
@@ -88,7 +88,7 @@ pub fn carry<'a>(
     em: &[u8],
     tr: &'a [u8],
     out: &mut [u8],
-) -> Carried
+) -> Result<Written, Refusal>
     requires ready { Ready source.now target.now map.now em.now }
     requires tree { SoundTree (table_by source.now) tr.now }
     ensures { Carries (setting_in source.now target.now map.now em.now) tr.now out.old out.new result }
