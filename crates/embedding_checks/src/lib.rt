@@ -12,7 +12,6 @@ ghost use Rattle.embedding_clash.specs.Ready.{map_of, Checkable, CheckableAt};
 ghost use Rattle.embedding_checks.specs.declared.Check.TheVariants as check;
 ghost use Rattle.embedding_checks.specs.Tests.{edge_right, type_fault, first_fault};
 
-use answers::Verdict;
 use codes::{MAX_MEMBERS, MAX_STEPS};
 use embedding_clash::clash::clashes_before;
 use embedding_clash::path::paths_of;
@@ -41,7 +40,7 @@ pub fn first_fault(
     target: &[u16; TABLE],
     em: &[u8],
     map: &[u16; MAP],
-) -> Verdict
+) -> Result<(), usize>
     requires { Checkable source.now target.now em.now map.now }
     ensures { verdict result ≡ first_fault check (table_by source.now) (table_by target.now) (embedding_by em.now (table_by source.now) map.now) }
 {
@@ -49,15 +48,15 @@ pub fn first_fault(
     let mut s = 0;
     while s < types {
         match type_fault(check, source, target, em, map, s) {
-            Verdict::Passes => {
+            Ok(()) => {
                 s += 1;
             }
-            Verdict::Fails(at) => {
-                return Verdict::Fails(at);
+            Err(at) => {
+                return Err(at);
             }
         }
     }
-    Verdict::Passes
+    Ok(())
 }
 
 // The first path of source type `s` that a check refuses. The loop checks one edge a turn.
@@ -68,7 +67,7 @@ fn type_fault(
     em: &[u8],
     map: &[u16; MAP],
     s: usize,
-) -> Verdict
+) -> Result<(), usize>
     requires checkable { Checkable source.now target.now em.now map.now }
     requires s_bound { s < types_in source.now }
     ensures { verdict result ≡ type_fault check (embedding_by em.now (table_by source.now) map.now) (table_by target.now) (kind_of (table_by source.now) s) (map_of source.now em.now map.now s) }
@@ -78,11 +77,11 @@ fn type_fault(
     let mut i = 0;
     while i < n {
         if !edge_right(check, source, target, em, map, s, i, &paths) {
-            return Verdict::Fails(loaded_embedding::start(map, s * MAX_MEMBERS + i));
+            return Err(loaded_embedding::start(map, s * MAX_MEMBERS + i));
         }
         i += 1;
     }
-    Verdict::Passes
+    Ok(())
 }
 
 // Whether the path of edge `i` of source type `s` ends at the right type, given the paths of the type's edges.

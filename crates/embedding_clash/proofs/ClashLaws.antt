@@ -4,6 +4,7 @@ use mathlib.Core.Bool.{Bool, true, false}
 use mathlib.Core.List.{List, [], ◌∷◌}
 use mathlib.Core.Option.{Option, none, some}
 use Prim.Native.Nat.{ℕ, ◌+◌, ◌*◌, ◌≤◌, ◌<◌, min}
+use Rattle.std.specs.Prelude as std
 use native.Mathlib.Numerals.{add-one}
 use native.Mathlib.Omega.{arith}
 use lib.ListN.{length, get_or, set, take, drop, length-set}
@@ -28,7 +29,6 @@ use Rattle.loaded_embedding.specs.Loaded.{targets_of, starts_of, lengths_of, edg
 use Rattle.embedding_clash.specs.declared.clash.Behind.{Behind}
 use Rattle.embedding_clash.specs.declared.clash.Behind.TheVariants.{BothEnd, FirstEnds, SecondEnds, Apart}
 use Rattle.embedding_clash.specs.declared.clash.Parting.{Parting}
-use Rattle.embedding_clash.specs.declared.clash.Compared.{Compared}
 use Rattle.embedding_clash.specs.Comparing.{behind_by, reason_by, EndsBy, SameParting, ClashOf}
 use Rattle.embedding_clash.specs.Paths.{path_of, PathsAt}
 use Rattle.embedding_clash.specs.Ready.{map_of, Checkable}
@@ -189,11 +189,11 @@ module _ {source target em map : List ℕ}
     (r₀ : Checkable source target em map)
     (s i j : ℕ) (hs : s < types_in source) (hi : i < edges_of (kind_of (table_by source) s)) (hj : j < edges_of (kind_of (table_by source) s)) where
   -- what the code finds of two edges: how they compare, and the reason for a clash if there is one
-  pub record PairCompared (r : Parting) (found : Compared) : Type 0 where
+  pub record PairCompared (r : Parting) (found : std.Option Reason) : Type 0 where
     pub same-reason : clash_reason (kind_of (table_by source) s) (parting (table_by target) (map_of source em map s).target (edge_of (map_of source em map s) j).steps (edge_of (map_of source em map s) i).steps).behind ≡ reason_by found
     pub same_number : (parting (table_by target) (map_of source em map s).target (edge_of (map_of source em map s) j).steps (edge_of (map_of source em map s) i).steps).shared ≡ r.shared
 
-  pub pair_compared : {kind from : ℕ} {a b : List ℕ} {la lb : ℕ} {r : Parting} {found : Compared}
+  pub pair_compared : {kind from : ℕ} {a b : List ℕ} {la lb : ℕ} {r : Parting} {found : std.Option Reason}
       → kind ≡ get_or (kinds_of source) s 0
       → from ≡ get_or (targets_of map) s 0
       → la ≡ get_or (lengths_of map) (s * 16 + j) 0
@@ -216,12 +216,12 @@ module _ {source target em map : List ℕ}
       }
 
   -- nothing is found of two edges that don't clash
-  pub pair_free : {r : Parting} {found : Compared} → PairCompared r found → found ≡ Compared.Free → pair_clash (table_by target) (kind_of (table_by source) s) (map_of source em map s) s i j ≡ none
+  pub pair_free : {r : Parting} {found : std.Option Reason} → PairCompared r found → found ≡ std.None → pair_clash (table_by target) (kind_of (table_by source) s) (map_of source em map s) s i j ≡ none
   unfolding pair_clash and_then
   pair_free h is = rw (h.same-reason, is) refl
 
   -- and of two that do, the clash
-  pub pair_found : (c : Clash) {r : Parting} {found : Compared} {why : Reason} → PairCompared r found → found ≡ Compared.Clashing why → ClashOf map s j i r.shared why c
+  pub pair_found : (c : Clash) {r : Parting} {found : std.Option Reason} {why : Reason} → PairCompared r found → found ≡ std.Some why → ClashOf map s j i r.shared why c
       → pair_clash (table_by target) (kind_of (table_by source) s) (map_of source em map s) s i j ≡ some (clash c)
   unfolding pair_clash clash_for and_then
   pair_found c h is made = rw (h.same-reason, is, h.same_number, (edge_at r₀ s i hs hi).mark_is, made.of_type, made.earlier_is, made.later_is, made.shared_is, made.reason_is, made.mark_is, add-one i, add-one j) refl

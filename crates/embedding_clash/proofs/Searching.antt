@@ -14,7 +14,8 @@ use Rattle.model.specs.Definitions.Embedding.{Edge, TypeMap, no_edge, edge_of, p
 use Rattle.model.specs.Definitions.EmbeddingChecks.{clash_reason, clash}
 use Rattle.model.specs.Definitions.Explanation.{pair_clash, clash_before}
 use Rattle.embedding_clash.proofs.Turns.{turns_start, turn_passes, turn_decides, turns_end}
-use Rattle.answers.specs.declared.Search.{Search}
+use Rattle.answers.specs.declared.Clash.{Clash}
+use Rattle.std.specs.Prelude as std
 use Rattle.answers.specs.Answers.{search}
 use Rattle.embedding_clash.specs.Edges.{passed, clashes_below, clashes_at}
 
@@ -116,5 +117,9 @@ module _ (T : Table) (κ : Kind) (f : TypeMap) (s i : ℕ) where
   clashes_there h = below_there i h
 
   -- and whether the code's search found something says it
-  pub clashes_found : (r found : Search) → i ≤ length f.edges → search r ≡ clash_before T κ f s i → r ≡ found → is_there (search found) ≡ clashes_at T κ f i
-  clashes_found r found h same told = ap (λ (x : Search). is_there (search x)) (sym told) ∙ ap is_there same ∙ sym (clashes_there h)
+  pub clashes_found : (r : std.Option Clash) → i ≤ length f.edges → search r ≡ clash_before T κ f s i → std.is_some r ≡ clashes_at T κ f i
+  clashes_found r h same = some_there r ∙ ap is_there same ∙ sym (clashes_there h)
+    where
+      some_there : (r : std.Option Clash) → std.is_some r ≡ is_there (search r)
+      some_there std.None = unfold is_there in refl
+      some_there (std.Some c) = unfold is_there in refl

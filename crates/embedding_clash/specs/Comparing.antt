@@ -1,11 +1,9 @@
 -- What the code says of two paths, as the model's. It knows a kind by its code, so a kind that is left stands without its members.
-use Rattle.std.specs.Prelude.{◌≡◌, List, [], ℕ, ◌+◌, ◌*◌, ◌<◌, get_or}
-use Rattle.std.proofs.Math.Option.{Option, none, some}
+use Rattle.std.specs.Prelude.{◌≡◌, List, [], ℕ, ◌+◌, ◌*◌, ◌<◌, get_or, Option, Some, None}
+use Rattle.std.proofs.Math.Option as maths
 use Rattle.embedding_clash.specs.declared.clash.Behind.{Behind}
 use Rattle.embedding_clash.specs.declared.clash.Behind.TheVariants.{BothEnd, FirstEnds, SecondEnds, Apart}
 use Rattle.embedding_clash.specs.declared.clash.Parting.{Parting}
-use Rattle.embedding_clash.specs.declared.clash.Compared.{Compared}
-use Rattle.embedding_clash.specs.declared.clash.Compared.TheVariants.{Free, Clashing}
 use Rattle.answers.specs.declared.Reason.{Reason}
 use Rattle.answers.specs.declared.Clash.{Clash}
 use Rattle.answers.specs.Answers.{reason}
@@ -22,9 +20,10 @@ behind_by FirstEnds = model.first_ends
 behind_by SecondEnds = model.second_ends
 behind_by (Apart left) = model.apart (kind_from left 0 [])
 
-abbrev pub reason_by : Compared → Option checks.Reason
-reason_by Free = none
-reason_by (Clashing why) = some (reason why)
+-- what is found of two paths
+abbrev pub reason_by : Option Reason → maths.Option checks.Reason
+reason_by None = maths.none
+reason_by (Some why) = maths.some (reason why)
 
 -- where one of two paths is a beginning of the other, which of them ends, by their numbers of steps
 abbrev pub EndsBy : ℕ → ℕ → Behind → Type 0

@@ -14,7 +14,7 @@ ghost use Rattle.embedding_clash.specs.Paths.{Walkable};
 ghost use Rattle.embedding_clash.specs.Ready.{map_of, CheckableAt};
 
 use super::walk::next_type;
-use answers::{Clash, Reason, Search};
+use answers::{Clash, Reason};
 use codes::{MAX_MEMBERS, MAX_STEPS};
 use loaded_embedding::MAP;
 use loaded_table::{CHOICE, OPTIONAL, SEQUENCE, TABLE, is_choice};
@@ -36,13 +36,6 @@ pub struct Parting {
     pub behind: Behind,
 }
 
-// Whether two paths clash.
-#[derive(Drop)]
-pub enum Compared {
-    Free,
-    Clashing(Reason),
-}
-
 // Whether the path of edge `i` of source type `s` clashes with an earlier one.
 pub fn clashes_before(
     source: &[u16; TABLE],
@@ -56,11 +49,7 @@ pub fn clashes_before(
     requires { CheckableAt source.now target.now em.now map.now s i paths.now }
     ensures { result ≡ clashes_at (table_by target.now) (kind_of (table_by source.now) s) (map_of source.now em.now map.now s) i }
 {
-    let found = first_clash(source, target, em, map, s, i, paths);
-    match found {
-        Search::Nothing => false,
-        Search::Found(_) => true,
-    }
+    first_clash(source, target, em, map, s, i, paths).is_some()
 }
 
 // The first earlier edge of source type `s` whose path the path of edge `i` clashes with. The loop compares with one a turn.
@@ -72,7 +61,7 @@ pub fn first_clash(
     s: usize,
     i: usize,
     paths: &[[u8; MAX_STEPS]; MAX_MEMBERS],
-) -> Search
+) -> Option<Clash>
     requires { CheckableAt source.now target.now em.now map.now s i paths.now }
     ensures { search result ≡ clash_before (table_by target.now) (kind_of (table_by source.now) s) (map_of source.now em.now map.now s) s i }
 {
@@ -80,20 +69,15 @@ pub fn first_clash(
     let from = loaded_embedding::target(map, s);
     let b = paths[i];
     let lb = loaded_embedding::steps(map, s * MAX_MEMBERS + i);
-    let mut j = 0;
-    while j < i {
+    for j in 0..i {
         let a = paths[j];
         let la = loaded_embedding::steps(map, s * MAX_MEMBERS + j);
         let parting = compare(target, from, a, la, b, lb);
-        let behind = parting.behind;
-        match why(kind, behind) {
-            Compared::Free => j += 1,
-            Compared::Clashing(reason) => {
-                return Search::Found(clash_at(map, s, j, i, parting.shared, reason));
-            }
+        if let Some(reason) = why(kind, parting.behind) {
+            return Some(clash_at(map, s, j, i, parting.shared, reason));
         }
     }
-    Search::Nothing
+    None
 }
 
 // The clash of edges `j` and `i` of source type `s`, whose paths share so many steps, for a reason.
@@ -111,13 +95,6 @@ fn clash_at(map: &[u16; MAP], s: usize, j: usize, i: usize, shared: usize, becau
     }
 }
 
-// The lesser of two numbers.
-fn lesser(x: usize, y: usize) -> usize
-    ensures { result ≡ min x y }
-{
-    if x < y { x } else { y }
-}
-
 // How two paths from one type compare. The loop goes along both.
 fn compare(
     target: &[u16; TABLE],
@@ -131,10 +108,9 @@ fn compare(
     requires lb_le_max_steps { lb ≤ max_steps }
     ensures { SameParting result (model.parting (table_by target.now) from (take la a) (take lb b)) }
 {
-    let n = lesser(la, lb);
+    let n = la.min(lb);
     let mut t = from;
-    let mut i = 0;
-    while i < n {
+    for i in 0..n {
         let p = a[i];
         if p != b[i] {
             return Parting {
@@ -143,7 +119,6 @@ fn compare(
             };
         }
         t = next_type(target, t, p);
-        i += 1;
     }
     Parting {
         shared: n,
@@ -165,7 +140,7 @@ fn ended(la: usize, lb: usize) -> Behind
 }
 
 // Why two paths of members of a source type of a kind clash, if they do.
-fn why(kind: usize, behind: Behind) -> Compared
+fn why(kind: usize, behind: Behind) -> Option<Reason>
     ensures { reason_by result ≡ clash_reason (kind_from kind 0 []) (behind_by behind) }
 {
     match behind {
@@ -177,24 +152,24 @@ fn why(kind: usize, behind: Behind) -> Compared
 }
 
 // Where one path is a beginning of the other: in sequences and choices they clash, for this reason.
-fn joined(kind: usize, because: Reason) -> Compared
+fn joined(kind: usize, because: Reason) -> Option<Reason>
     ensures { reason_by result ≡ where_one_ends (kind_from kind 0 []) (reason because) }
 {
     match kind {
-        SEQUENCE | CHOICE | OPTIONAL => Compared::Clashing(because),
-        _ => Compared::Free,
+        SEQUENCE | CHOICE | OPTIONAL => Some(because),
+        _ => None,
     }
 }
 
 // Where two paths part at a step that leaves a type of kind `left`: in choices they clash unless that is a choice.
-fn parted(kind: usize, left: usize) -> Compared
+fn parted(kind: usize, left: usize) -> Option<Reason>
     ensures { reason_by result ≡ where_paths_part (kind_from kind 0 []) (kind_from left 0 []) }
 {
     if !is_choice(kind) {
-        return Compared::Free;
+        return None;
     }
     if is_choice(left) {
-        return Compared::Free;
+        return None;
     }
-    Compared::Clashing(Reason::PartAtSequence)
+    Some(Reason::PartAtSequence)
 }

@@ -5,7 +5,7 @@ use mathlib.Core.List.{List}
 use Prim.Native.Nat.{ℕ, suc, ◌+◌, ◌≤◌, ◌<◌}
 use native.Mathlib.Numerals.{add-one}
 use native.Mathlib.Omega.{arith}
-use lib.ListN.{length, get_or}
+use lib.ListN.{length, get_or, get_or-eq_default}
 use lib.Dec.{ltb}
 use borrow.Author.Tests.{lt-ltb, le-ltb, ne_eqb}
 use Rattle.model.specs.Definitions.Basics.{pick}
@@ -51,3 +51,7 @@ module _ (bs : List ℕ) (at : ℕ) where
   pub at_other : (get_or bs at 0 ≡ 0x20 → ⊥) → (get_or bs at 0 ≡ 0x21 → ⊥) → (get_or bs at 0 ≡ 0x22 → ⊥) → (get_or bs at 0 ≡ 0x2F → ⊥) → alien_e ≡ embedding_command (raw_at bs at)
   unfolding raw_at
   at_other = raw_other (takes_operand (get_or bs at 0)) (ltb (suc at) (length bs)) (get_or bs at 0) (get_or bs (suc at) 0)
+
+  -- and behind the end
+  pub at_none : length bs ≤ at → alien_e ≡ embedding_command (raw_at bs at)
+  at_none h = let none : get_or bs at 0 ≡ 0 = get_or-eq_default bs 0 h in at_other (λ e. absurd (omega arith)) (λ e. absurd (omega arith)) (λ e. absurd (omega arith)) (λ e. absurd (omega arith))

@@ -11,7 +11,9 @@ use Rattle.model.specs.Definitions.Basics.{goes, stops, goes_if}
 use Rattle.model.specs.Definitions.Commands.{maps_to, path, step, embedding_end}
 use Rattle.model.specs.Definitions.Table.{Table, empty, kind_of, edges_of}
 use Rattle.model.specs.Definitions.EmbeddingChecks.{due, embedding_ended, embedding_step}
-use Rattle.embedding_form.specs.States.{due_state}
+use Rattle.std.specs.Bool.{then_some}
+use Rattle.embedding_form.specs.declared.form.FormState.TheVariants.{Due}
+use Rattle.embedding_form.specs.States.{due_state, form_next}
 
 -- ---- edges due: no type and no end may stand here, and a path takes one edge
 
@@ -52,6 +54,11 @@ step_on ns on k p e = rw (sym (step_due ns on k p), e)
 pub step_off : (ns : List ℕ) (on : Bool) (k p : ℕ) → on ≡ false → stops ≡ embedding_step (due k ns on) (step p)
 unfolding goes_if
 step_off ns on k p e = rw (sym (step_due ns on k p), e)
+
+-- as the code says it
+pub step_if : (S : Table) (k s p : ℕ) (on : Bool) → form_next S (then_some on (Due k s true)) ≡ embedding_step (due_state S k s on) (step p)
+step_if S k s p true = step_on _ true k p refl
+step_if S k s p false = step_off _ false k p refl
 
 -- ---- types to come
 

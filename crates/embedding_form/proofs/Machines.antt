@@ -1,11 +1,13 @@
 -- The three machines stop at an alien command.
 use mathlib.Core.Path.{◌≡◌, refl}
+use mathlib.Core.Bool.{true}
 use mathlib.Core.List.{[], ◌∷◌}
 use Prim.Native.Nat.{ℕ, zero, suc}
 use Rattle.model.specs.Definitions.Basics.{stops}
 use Rattle.model.specs.Definitions.Commands.{EmbeddingCommand, maps_to, path, step, embedding_end, alien_e}
 use Rattle.model.specs.Definitions.Table.{Table}
-use Rattle.model.specs.Definitions.EmbeddingChecks.{EmbeddingState, due, embedding_ended, embedding_step, step_count, Reached, path_step}
+use Rattle.embedding_form.proofs.Turns.{Machine}
+use Rattle.model.specs.Definitions.EmbeddingChecks.{EmbeddingState, due, embedding_ended, embedding_step, embedding_complete, step_count, Reached, path_step}
 
 pub form_stops : (s : EmbeddingState) → embedding_step s alien_e ≡ stops
 unfolding embedding_step
@@ -30,3 +32,15 @@ count_stops n = refl
 pub reach_stops : (T : Table) (r : Reached) → path_step T r alien_e ≡ stops
 unfolding path_step
 reach_stops T r = refl
+
+-- the machine of check 2
+abbrev pub form_machine : Machine EmbeddingState
+form_machine = record { next = embedding_step; complete = embedding_complete; stops_there = form_stops }
+
+-- the machine of check 3
+abbrev pub count_machine : Machine ℕ
+count_machine = record { next = step_count; complete = λ n. true; stops_there = count_stops }
+
+-- the machine of check 4
+abbrev pub reach_machine : Table → Machine Reached
+reach_machine T = record { next = path_step T; complete = λ r. true; stops_there = reach_stops T }

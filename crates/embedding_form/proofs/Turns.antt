@@ -1,18 +1,15 @@
--- A loop that runs a machine over the commands of an embedding: what its invariant says, and how one turn keeps it.
-use mathlib.Core.Path.{◌≡◌, sym, ◌∙◌}
+-- A check that runs one of the model's machines over an embedding's commands: what each command, and the end, makes of the verdict on
+-- what is left.
+use mathlib.Core.Path.{◌≡◌, sym}
 use mathlib.Core.Bool.{Bool}
 use mathlib.Core.List.{List}
-use Prim.Native.Nat.{ℕ, ◌+◌, ◌-◌, ◌≤◌, ◌<◌}
+use Prim.Native.Nat.{ℕ, ◌+◌, ◌≤◌, ◌<◌}
 use native.Mathlib.Omega.{arith}
-use lib.ListN.{length, drop}
-use Rattle.model.specs.Definitions.Basics.{pick, Verdict, passes, fails, Next, goes, stops, run}
+use lib.ListN.{length}
+use Rattle.embedding_form.specs.Left.{left_of}
+use Rattle.model.specs.Definitions.Basics.{pick, passes, fails, Next, goes, stops}
 use Rattle.model.specs.Definitions.Commands.{EmbeddingCommand, maps_to, path, step, embedding_end, alien_e, embedding_command, embedding_commands, embedding_width}
 use Rattle.model.proofs.Theorems.Reading.{raw_at, ReadsAt, left_stops, left_goes, goes_within, left_ends, embedding_reads, no_embedding-commands}
-
--- At an offset within document e the machine is in a state, and the verdict of what is left is that of the whole.
-pub record Runs {S : Type 0} (next : S → EmbeddingCommand → Next S) (complete : S → Bool) (whole : Verdict) (e : List ℕ) (s : S) (at : ℕ) : Type 0 where
-  pub within : at ≤ length e
-  pub same : run embedding_width next complete s at (embedding_commands (drop at e)) ≡ whole
 
 -- a command takes a byte or two
 pub some_width : (m : EmbeddingCommand) → 0 < embedding_width m
@@ -23,29 +20,42 @@ some_width (step p) = omega arith
 some_width embedding_end = omega arith
 some_width alien_e = omega arith
 
-module _ {S : Type 0} (next : S → EmbeddingCommand → Next S) (complete : S → Bool) (stops_there : (s : S) → next s alien_e ≡ stops) where
-  module _ {whole : Verdict} {e : List ℕ} {s : S} {at : ℕ} (runs : Runs next complete whole e s at) where
-    module _ {m : EmbeddingCommand} (h : at < length e) (reads : m ≡ embedding_command (raw_at e at)) where
-      reads_here : ReadsAt embedding_commands embedding_width alien_e e at m
-      reads_here = rw reads (embedding_reads e at h)
+-- a machine over an embedding's commands, which refuses what is none
+pub record Machine (S : Type 0) : Type 0 where
+  pub next : S → EmbeddingCommand → Next S
+  pub complete : S → Bool
+  pub stops_there : (s : S) → next s alien_e ≡ stops
 
-      -- a command that the machine goes on from
-      pub turn : (t : S) {w : ℕ} → w ≡ embedding_width m → next s m ≡ goes t → Runs next complete whole e t (at + w)
-      turn t wide goes_on =
-          rw wide
-          record {
-            within = goes_within embedding_commands embedding_width alien_e next complete stops_there s t reads_here goes_on;
-            same = sym (left_goes embedding_commands embedding_width alien_e next complete stops_there s t reads_here goes_on) ∙ runs.same;
-          }
+module _ {S : Type 0} (A : Machine S) where
+  reads : {bs : List ℕ} {at : ℕ} {m : EmbeddingCommand} → at < length bs → m ≡ embedding_command (raw_at bs at) → ReadsAt embedding_commands embedding_width alien_e bs at m
+  reads {bs} {at} h e = rw e (embedding_reads bs at h)
 
-      -- a turn leaves less of the document
-      pub less : {w : ℕ} → w ≡ embedding_width m → length e - (at + w) < length e - at
-      less wide = let some : 0 < embedding_width m = some_width m in omega arith
+  -- a command that is refused is the verdict
+  pub refused : (bs : List ℕ) {at : ℕ} {m : EmbeddingCommand} (s : S) → at < length bs → m ≡ embedding_command (raw_at bs at) → stops ≡ A.next s m
+      → fails at ≡ left_of A.next A.complete bs s at
+  refused bs s h e moved = sym (left_stops embedding_commands embedding_width alien_e A.next A.complete A.stops_there s (reads h e) (sym moved))
 
-      -- one that it refuses
-      pub refusal : next s m ≡ stops → fails at ≡ whole
-      refusal refused = sym (left_stops embedding_commands embedding_width alien_e next complete stops_there s reads_here refused) ∙ runs.same
+  -- what is no command is refused
+  pub unread : (bs : List ℕ) {at : ℕ} (s : S) → at < length bs → alien_e ≡ embedding_command (raw_at bs at) → fails at ≡ left_of A.next A.complete bs s at
+  unread bs s h e = refused bs s h e (sym (A.stops_there s))
 
-    -- the end of the document
-    pub finish : length e ≤ at → pick (complete s) passes (fails at) ≡ whole
-    finish h = sym (left_ends embedding_commands embedding_width alien_e next complete stops_there no_embedding-commands e s at h) ∙ runs.same
+  -- a command that is taken stays within the document, and leaves the verdict to what is behind it
+  pub record Taken (bs : List ℕ) (at width : ℕ) (s t : S) : Type 0 where
+    pub some : 1 ≤ width
+    pub within : at + width ≤ length bs
+    pub same : left_of A.next A.complete bs t (at + width) ≡ left_of A.next A.complete bs s at
+
+  pub taken : {bs : List ℕ} {at width : ℕ} {m : EmbeddingCommand} (s t : S) → at < length bs → m ≡ embedding_command (raw_at bs at) → goes t ≡ A.next s m → width ≡ embedding_width m
+      → Taken bs at width s t
+  taken {m = m} s t h e moved w =
+      let some : 0 < embedding_width m = some_width m in
+      rw w
+      record {
+        some = omega arith;
+        within = goes_within embedding_commands embedding_width alien_e A.next A.complete A.stops_there s t (reads h e) (sym moved);
+        same = sym (left_goes embedding_commands embedding_width alien_e A.next A.complete A.stops_there s t (reads h e) (sym moved));
+      }
+
+  -- at the end of a document the state decides
+  pub ended : {may : Bool} (s : S) → may ≡ A.complete s → (bs : List ℕ) → pick may passes (fails (length bs)) ≡ left_of A.next A.complete bs s (length bs)
+  ended s e bs = rw e (sym (left_ends embedding_commands embedding_width alien_e A.next A.complete A.stops_there no_embedding-commands bs s (length bs) (omega arith)))

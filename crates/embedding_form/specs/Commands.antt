@@ -1,7 +1,7 @@
 -- The commands of the code as the model's.
 use Rattle.embedding_form.specs.declared.command.EmbeddingCommand.{EmbeddingCommand}
-use Rattle.embedding_form.specs.declared.command.EmbeddingCommand.TheVariants.{MapsTo, Path, Step, End, Alien}
-use Rattle.std.specs.Prelude.{ℕ}
+use Rattle.embedding_form.specs.declared.command.EmbeddingCommand.TheVariants.{MapsTo, Path, Step, End}
+use Rattle.std.specs.Prelude.{Option, Some, None}
 use Rattle.model.specs.Definitions.Commands as model
 
 abbrev pub command : EmbeddingCommand → model.EmbeddingCommand
@@ -9,8 +9,8 @@ command (MapsTo t) = model.maps_to t
 command Path = model.path
 command (Step p) = model.step p
 command End = model.embedding_end
-command Alien = model.alien_e
 
--- the number of bytes of a command
-abbrev pub width_of : EmbeddingCommand → ℕ
-width_of c = model.embedding_width (command c)
+-- what is read at an offset: a command, or what is none
+abbrev pub read : Option EmbeddingCommand → model.EmbeddingCommand
+read (Some c) = command c
+read None = model.alien_e

@@ -14,10 +14,8 @@ pub fn edge_count(source: &[u16; TABLE]) -> usize
 {
     let types = loaded_table::types(source);
     let mut sum: usize = 0;
-    let mut t: usize = 0;
-    while t < types {
+    for t in 0..types {
         sum += edges_of(source, t);
-        t += 1;
     }
     sum
 }

@@ -3,114 +3,132 @@ ghost use Rattle.std.specs.Prelude.{◌≡◌, Bool, ℕ};
 ghost use Rattle.answers.specs.Answers.{verdict};
 ghost use Rattle.loaded_table.specs.Loaded.{table_by, Bounded};
 ghost use Rattle.embedding_form.specs.Commands.{command};
-ghost use Rattle.embedding_form.specs.States.{form_state, form_next, due_state};
+ghost use Rattle.embedding_form.specs.States.{form_state, form_next, form_left, due_state};
 ghost use Rattle.model.specs.Definitions.Commands.{maps_to, embedding_end};
 ghost use Rattle.model.specs.Definitions.EmbeddingChecks.{embedding_step, embedding_form};
 
-use super::command::{EmbeddingCommand, command_at, width};
+use super::command::{EmbeddingCommand, command_at};
 use super::edges::edges_of;
-use answers::Verdict;
+use checking::Check;
 use loaded_table::TABLE;
 
-// Due: edges still due for the last type, the number of the next type, whether a step may stand here. Ended: after 2F.
-#[derive(Drop)]
+// Due: how many edges of the last type are still due, how many types there were, and whether a path has begun, so that a step may stand
+// here. Ended: after 2F.
+#[derive(Clone, Copy, Debug, PartialEq, Eq)]
 pub enum FormState {
-    Due(usize, usize, bool),
+    Due {
+        edges: usize,
+        types: usize,
+        begun: bool,
+    },
     Ended,
 }
 
-// On to a state, or the command is refused.
+// Check 2 among the commands of an embedding of a loaded source table.
 #[derive(Drop)]
-pub enum FormNext {
-    Goes(FormState),
-    Stops,
+pub struct Progress<'a> {
+    pub source: &'a [u16; TABLE],
+    pub state: FormState,
 }
 
-// What a type's command does where `due` edges are due and type s is next: its edges are due next.
-fn on_type(source: &[u16; TABLE], due: usize, s: usize) -> FormNext
+impl Check for Progress<'_> {
+    ghost fits = { λ f. Bounded f.source.now };
+
+    ghost rest = { form_left };
+
+    fn step(&mut self, document: &[u8], at: usize) -> Option<usize> {
+        let command = command_at(document, at)?;
+        self.state = form_step(self.source, self.state, command)?;
+        Some(command.width())
+    }
+
+    fn may_end(&self) -> bool {
+        matches!(self.state, FormState::Ended)
+    }
+}
+
+// What a type's command does where so many edges are due and type number `types` is next: its edges are due next.
+fn on_type(source: &[u16; TABLE], edges: usize, types: usize) -> Option<FormState>
     requires { Bounded source.now }
-    ensures { (on : Bool) (t : ℕ) → form_next (table_by source.now) result ≡ embedding_step (due_state (table_by source.now) due s on) (maps_to t) }
+    ensures { (on : Bool) (t : ℕ) → form_next (table_by source.now) result ≡ embedding_step (due_state (table_by source.now) edges types on) (maps_to t) }
 {
-    if 0 < due {
-        return FormNext::Stops;
+    if 0 < edges {
+        return None;
     }
-    if s < loaded_table::types(source) {
-        let edges = edges_of(source, s);
-        return FormNext::Goes(FormState::Due(edges, s + 1, false));
+    if types < loaded_table::types(source) {
+        return Some(FormState::Due {
+            edges: edges_of(source, types),
+            types: types + 1,
+            begun: false,
+        });
     }
-    FormNext::Stops
+    None
 }
 
 // What the end's command does there: it may stand only where no edge and no type is due.
-fn on_end(source: &[u16; TABLE], due: usize, s: usize) -> FormNext
-    ensures { (on : Bool) → form_next (table_by source.now) result ≡ embedding_step (due_state (table_by source.now) due s on) embedding_end }
+fn on_end(source: &[u16; TABLE], edges: usize, types: usize) -> Option<FormState>
+    ensures { (on : Bool) → form_next (table_by source.now) result ≡ embedding_step (due_state (table_by source.now) edges types on) embedding_end }
 {
-    if 0 < due {
-        return FormNext::Stops;
+    if 0 < edges {
+        return None;
     }
-    if s < loaded_table::types(source) {
-        return FormNext::Stops;
+    if types < loaded_table::types(source) {
+        return None;
     }
-    FormNext::Goes(FormState::Ended)
+    Some(FormState::Ended)
 }
 
 // What a command does before the end.
-fn due_step(source: &[u16; TABLE], due: usize, s: usize, on: bool, c: EmbeddingCommand) -> FormNext
+fn due_step(
+    source: &[u16; TABLE],
+    edges: usize,
+    types: usize,
+    begun: bool,
+    c: EmbeddingCommand,
+) -> Option<FormState>
     requires { Bounded source.now }
-    ensures { form_next (table_by source.now) result ≡ embedding_step (due_state (table_by source.now) due s on) (command c) }
+    ensures { form_next (table_by source.now) result ≡ embedding_step (due_state (table_by source.now) edges types begun) (command c) }
 {
     match c {
-        EmbeddingCommand::MapsTo(_) => on_type(source, due, s),
-        EmbeddingCommand::Path => {
-            if 0 < due {
-                FormNext::Goes(FormState::Due(due - 1, s, true))
-            } else {
-                FormNext::Stops
-            }
-        }
-        EmbeddingCommand::Step(_) => {
-            if on {
-                FormNext::Goes(FormState::Due(due, s, true))
-            } else {
-                FormNext::Stops
-            }
-        }
-        EmbeddingCommand::End => on_end(source, due, s),
-        EmbeddingCommand::Alien => FormNext::Stops,
+        EmbeddingCommand::MapsTo(_) => on_type(source, edges, types),
+        EmbeddingCommand::Path => Some(FormState::Due {
+            edges: edges.checked_sub(1)?,
+            types,
+            begun: true,
+        }),
+        EmbeddingCommand::Step(_) => begun.then_some(FormState::Due {
+            edges,
+            types,
+            begun: true,
+        }),
+        EmbeddingCommand::End => on_end(source, edges, types),
     }
 }
 
 // What a command does in a state, as the model's machine.
-fn form_step(source: &[u16; TABLE], state: FormState, c: EmbeddingCommand) -> FormNext
+fn form_step(source: &[u16; TABLE], state: FormState, c: EmbeddingCommand) -> Option<FormState>
     requires { Bounded source.now }
     ensures { form_next (table_by source.now) result ≡ embedding_step (form_state (table_by source.now) state) (command c) }
 {
     match state {
-        FormState::Due(due, s, on) => due_step(source, due, s, on, c),
-        FormState::Ended => FormNext::Stops,
+        FormState::Due {
+            edges,
+            types,
+            begun,
+        } => due_step(source, edges, types, begun, c),
+        FormState::Ended => None,
     }
 }
 
-// The verdict on the form of an embedding e of a source table. The loop runs the machine over the commands: the verdict
-// of what is left is the verdict of the whole.
-pub fn form(source: &[u16; TABLE], e: &[u8]) -> Verdict
+// The verdict on the form of an embedding e of a source table.
+pub fn form(source: &[u16; TABLE], e: &[u8]) -> Result<(), usize>
     requires { Bounded source.now }
     ensures { verdict result ≡ embedding_form (table_by source.now) e.now }
 {
-    let mut at: usize = 0;
-    let mut state = FormState::Due(0, 0, false);
-    while at < e.len() {
-        let c = command_at(e, at);
-        match form_step(source, state, c) {
-            FormNext::Goes(next) => {
-                state = next;
-                at += width(c);
-            }
-            FormNext::Stops => return Verdict::Fails(at),
-        }
-    }
-    match state {
-        FormState::Due(_, _, _) => Verdict::Fails(at),
-        FormState::Ended => Verdict::Passes,
-    }
+    let state = FormState::Due {
+        edges: 0,
+        types: 0,
+        begun: false,
+    };
+    checking::run(Progress { source, state }, e)
 }

@@ -1,7 +1,7 @@
 -- What judging an embedding answers.
-use Rattle.std.specs.Prelude.{◌≡◌, List, ◌⊎◌, ℕ}
+use Rattle.std.specs.Prelude.{◌≡◌, List, ◌⊎◌, ℕ, Result, ⊤}
 use Rattle.answers.specs.Answers.{judged}
-use Rattle.answers.specs.declared.Judged as answers
+use Rattle.answers.specs.declared.Fault as answers
 use Rattle.loaded_table.specs.Loaded as loaded_table
 use Rattle.loaded_table.specs.Loaded.{table_by}
 use Rattle.embedding_load.specs.Loading.{EmbeddingLoaded}
@@ -38,6 +38,6 @@ abbrev pub UpToClashes : Judged → Type 0
 UpToClashes j = (j ≡ sound) ⊎ ((at : ℕ) × (j ≡ has (path_clash at)))
 
 -- the model's judgement, and where it accepts or finds a clash, the embedding loaded into the array
-pub record EmbeddingJudged (S T : Table) (bs : List ℕ) (r : answers.Judged) (map : List ℕ) : Type 0 where
+pub record EmbeddingJudged (S T : Table) (bs : List ℕ) (r : Result ⊤ answers.Fault) (map : List ℕ) : Type 0 where
   pub judgement : judged r ≡ judged_embedding S T bs
   pub loaded : UpToClashes (judged_embedding S T bs) → EmbeddingLoaded bs S map

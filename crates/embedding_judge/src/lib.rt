@@ -10,7 +10,7 @@ ghost use Rattle.loaded_embedding.specs.Loaded.{embedding_by, Cleared};
 ghost use Rattle.embedding_clash.specs.Ready.{Checkable};
 ghost use Rattle.embedding_judge.specs.Judging.{edge_checks, path_checks, Judgeable, EmbeddingJudged};
 
-use answers::{Fault, Judged, Verdict};
+use answers::Fault;
 use codes::MAX_BYTES;
 use embedding_checks::{Check, first_fault};
 use embedding_ends::root::root_to_root;
@@ -22,39 +22,38 @@ use loaded_embedding::MAP;
 use loaded_table::TABLE;
 
 // Checks 8 to 10 of a loaded embedding, one after the other.
-fn judge_each(source: &[u16; TABLE], target: &[u16; TABLE], em: &[u8], map: &[u16; MAP]) -> Judged
+fn judge_each(
+    source: &[u16; TABLE],
+    target: &[u16; TABLE],
+    em: &[u8],
+    map: &[u16; MAP],
+) -> Result<(), Fault>
     requires { Checkable source.now target.now em.now map.now }
     ensures { judged result ≡ edge_checks (table_by source.now) (table_by target.now) (embedding_by em.now (table_by source.now) map.now) }
 {
-    let ends = first_fault(Check::Ends, source, target, em, map);
-    if let Verdict::Fails(at) = ends {
-        return Judged::Has(Fault::WrongEnd(at));
-    }
-    let steps = first_fault(Check::Steps, source, target, em, map);
-    if let Verdict::Fails(at) = steps {
-        return Judged::Has(Fault::WrongSteps(at));
-    }
-    let clash = first_fault(Check::Clashes, source, target, em, map);
-    if let Verdict::Fails(at) = clash {
-        return Judged::Has(Fault::PathClash(at));
-    }
-    Judged::Sound
+    first_fault(Check::Ends, source, target, em, map).map_err(Fault::WrongEnd)?;
+    first_fault(Check::Steps, source, target, em, map).map_err(Fault::WrongSteps)?;
+    first_fault(Check::Clashes, source, target, em, map).map_err(Fault::PathClash)
 }
 
 // Checks 7 to 10 of a loaded embedding. Where nothing is wrong one pass over the edges shows it; else the checks are made one
 // after the other.
-fn judge_paths(source: &[u16; TABLE], target: &[u16; TABLE], em: &[u8], map: &[u16; MAP]) -> Judged
+fn judge_paths(
+    source: &[u16; TABLE],
+    target: &[u16; TABLE],
+    em: &[u8],
+    map: &[u16; MAP],
+) -> Result<(), Fault>
     requires { Checkable source.now target.now em.now map.now }
     ensures { judged result ≡ path_checks (table_by source.now) (table_by target.now) (embedding_by em.now (table_by source.now) map.now) }
 {
     if !root_to_root(map) {
-        return Judged::Has(Fault::RootMoved);
+        return Err(Fault::RootMoved);
     }
-    let all = first_fault(Check::All, source, target, em, map);
-    match all {
-        Verdict::Passes => Judged::Sound,
-        Verdict::Fails(_) => judge_each(source, target, em, map),
+    if first_fault(Check::All, source, target, em, map).is_ok() {
+        return Ok(());
     }
+    judge_each(source, target, em, map)
 }
 
 // Judges an embedding's bytes, given the loaded source and target tables, and loads it into a cleared array where it is accepted.
@@ -63,26 +62,17 @@ pub fn judge(
     target: &[u16; TABLE],
     em: &[u8],
     map: &mut [u16; MAP],
-) -> Judged
+) -> Result<(), Fault>
     requires judgeable { Judgeable source.now target.now }
     requires cleared { Cleared map.old }
     ensures { EmbeddingJudged (table_by source.now) (table_by target.now) em.now result map.new }
 {
     if MAX_BYTES < em.len() {
-        return Judged::Has(Fault::TooLong);
+        return Err(Fault::TooLong);
     }
-    let formed = form(source, em);
-    if let Verdict::Fails(at) = formed {
-        return Judged::Has(Fault::BadForm(at));
-    }
-    let limited = limits(em);
-    if let Verdict::Fails(at) = limited {
-        return Judged::Has(Fault::OverLimit(at));
-    }
-    let right = operands(target, em);
-    if let Verdict::Fails(at) = right {
-        return Judged::Has(Fault::BadOperand(at));
-    }
+    form(source, em).map_err(Fault::BadForm)?;
+    limits(em).map_err(Fault::OverLimit)?;
+    operands(target, em).map_err(Fault::BadOperand)?;
     load(source, em, map);
     judge_paths(source, target, em, map)
 }

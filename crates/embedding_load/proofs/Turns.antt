@@ -10,7 +10,11 @@ use native.Mathlib.Omega.{arith}
 use lib.ListN.{length, take, drop, get_or, set, drop_of_length-le}
 use lib.Seq.{get_or-set_same, set-get_or, take-length}
 use lib.Dec.{ltb}
-use borrow.Author.Tests.{ltb-true}
+use borrow.Author.Tests.{ltb-true, ltb-false}
+use Rattle.embedding_form.specs.declared.command.EmbeddingCommand as declared
+use Rattle.embedding_form.specs.declared.command.EmbeddingCommand.TheVariants as code
+use Rattle.embedding_form.specs.Commands.{command}
+use Rattle.embedding_form.proofs.Bytes.{at_none}
 use Rattle.embedding_form.proofs.Machines.{form_stops, ended_stops, count_stops}
 use Rattle.embedding_form.proofs.Forms.{step_on, step_off}
 use Rattle.embedding_form.proofs.Turns.{some_width}
@@ -369,6 +373,31 @@ turn_at em S a at c more is reads h =
 
 pub turn : {em : List ℕ} {S : Table} {a : MapArrays} {at : ℕ} {c : EmbeddingCommand} → at < length em → c ≡ embedding_command (raw_at em at) → EmbeddingLoading em S a at → EmbeddingTurn em S a at c
 turn {em} {S} {a} {at} {c} more e h = turn_at em S a at c more e (subst (ReadsAt embedding_commands embedding_width alien_e em at) (sym e) (embedding_reads em at more)) h
+
+-- a command that is read stands before the end
+pub command_stands : (em : List ℕ) (at : ℕ) (c : declared.EmbeddingCommand) → command c ≡ embedding_command (raw_at em at) → at < length em
+command_stands em at c e = go (ltb at (length em)) refl
+  where
+    known : (c : declared.EmbeddingCommand) → command c ≡ alien_e → ⊥
+    known (code.MapsTo t) e = let z : ◌≡◌ {A = ℕ} 0 1 = cc in absurd (omega arith)
+    known code.Path e = let z : ◌≡◌ {A = ℕ} 0 1 = cc in absurd (omega arith)
+    known (code.Step p) e = let z : ◌≡◌ {A = ℕ} 0 1 = cc in absurd (omega arith)
+    known code.End e = let z : ◌≡◌ {A = ℕ} 0 1 = cc in absurd (omega arith)
+
+    go : (b : Bool) → ltb at (length em) ≡ b → at < length em
+    go true q = ltb-true at (length em) q
+    go false q = absurd (known c (e ∙ sym (at_none em at (ltb-false at (length em) q))))
+
+-- where none is read, the document has ended
+pub none_stands : (em : List ℕ) (S : Table) (a : MapArrays) (at : ℕ) → alien_e ≡ embedding_command (raw_at em at) → EmbeddingLoading em S a at → length em ≤ at
+none_stands em S a at e h = go (ltb at (length em)) refl
+  where
+    go : (b : Bool) → ltb at (length em) ≡ b → length em ≤ at
+    go true q =
+        let reads = subst (ReadsAt embedding_commands embedding_width alien_e em at) (sym e) (embedding_reads em at (ltb-true at (length em) q)) in
+        let form = left_passes embedding_step embedding_complete form_stops em at alien_e reads h.form_state_left h.form_left_lem in
+        absurd (not_alien h.form_state_left form.0 alien_e form.1 refl)
+    go false q = ltb-false at (length em) q
 
 -- the invariant behind a command, at the values that the code has
 pub turned : {em : List ℕ} {S : Table} {a : MapArrays} {at : ℕ} {c : EmbeddingCommand} {r : MapArrays} {w : ℕ} → EmbeddingTurn em S a at c → r ≡ puts a at c → w ≡ embedding_width c → EmbeddingLoading em S r (at + w)

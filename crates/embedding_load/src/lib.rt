@@ -14,12 +14,12 @@ ghost use Rattle.embedding_load.specs.Loading.{loaded_at, MapRoom, MapPut, Embed
 ghost use Rattle.model.specs.Definitions.Refusals.{max_length};
 
 use codes::MAX_MEMBERS;
-use embedding_form::command::{EmbeddingCommand, command_at, width};
+use embedding_form::command::{EmbeddingCommand, command_at};
 use loaded_embedding::{MAP, set_start, set_steps, set_target, steps};
 use loaded_table::TABLE;
 
 // How many types are loaded so far, and how many paths of the last of them.
-#[derive(Drop)]
+#[derive(Clone, Copy, Debug, PartialEq, Eq)]
 pub struct Place {
     pub types: usize,
     pub edges: usize,
@@ -30,11 +30,10 @@ fn put(map: &mut [u16; MAP], p: Place, at: usize, c: EmbeddingCommand) -> Place
     requires { MapRoom (loaded_at p map.old) at (command c) }
     ensures { MapPut p map.old at (command c) result map.new }
 {
-    let types = p.types;
-    let edges = p.edges;
+    let Place { types, edges } = p;
     match c {
         EmbeddingCommand::MapsTo(t) => {
-            set_target(map, types, t as u16);
+            set_target(map, types, u16::from(t));
             Place {
                 types: types + 1,
                 edges: 0,
@@ -45,7 +44,7 @@ fn put(map: &mut [u16; MAP], p: Place, at: usize, c: EmbeddingCommand) -> Place
             set_start(map, edge, at as u16);
             set_steps(map, edge, 0);
             Place {
-                types: types,
+                types,
                 edges: edges + 1,
             }
         }
@@ -56,14 +55,12 @@ fn put(map: &mut [u16; MAP], p: Place, at: usize, c: EmbeddingCommand) -> Place
             p
         }
         EmbeddingCommand::End => p,
-        EmbeddingCommand::Alien => p,
     }
 }
 
 // Loads the embedding that a document of the right form and within the limits writes, for a loaded source table, into an
-// array that is cleared. Each turn
-// of the loop puts one command: what is loaded, continued by what the commands from `at` on say, stays the document's
-// embedding.
+// array that is cleared. Each turn of the loop puts one command: what is loaded, continued by what the commands from `at` on say, stays
+// the document's embedding.
 pub fn load(source: &[u16; TABLE], em: &[u8], map: &mut [u16; MAP])
     requires bounded { Bounded source.now }
     requires em_value { embedding_form (table_by source.now) em.now ≡ passes }
@@ -74,9 +71,8 @@ pub fn load(source: &[u16; TABLE], em: &[u8], map: &mut [u16; MAP])
 {
     let mut at: usize = 0;
     let mut place = Place { types: 0, edges: 0 };
-    while at < em.len() {
-        let c = command_at(em, at);
+    while let Some(c) = command_at(em, at) {
         place = put(map, place, at, c);
-        at += width(c);
+        at += c.width();
     }
 }

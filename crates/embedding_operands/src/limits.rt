@@ -1,56 +1,51 @@
 // Check 3 of an embedding: no path has more than 12 steps.
-ghost use Rattle.std.specs.Prelude.{◌≡◌};
+ghost use Rattle.std.specs.Prelude.{◌≡◌, ⊤};
 ghost use Rattle.answers.specs.Answers.{verdict};
 ghost use Rattle.embedding_form.specs.Commands.{command};
-ghost use Rattle.embedding_operands.specs.States.{count_next};
+ghost use Rattle.embedding_operands.specs.States.{count_next, limits_left};
 ghost use Rattle.model.specs.Definitions.EmbeddingChecks.{step_count, embedding_limits};
 
-use answers::Verdict;
+use checking::Check;
 use codes::MAX_STEPS;
-use embedding_form::command::{EmbeddingCommand, command_at, width};
+use embedding_form::command::{EmbeddingCommand, command_at};
 
-// On with a number of steps, or the command is refused.
+// How many steps there are so far of the path that the commands are in.
 #[derive(Drop)]
-pub enum CountNext {
-    Goes(usize),
-    Stops,
+pub struct Steps {
+    pub count: usize,
 }
 
-// What a command does after n steps of a path, as the model's machine: the 13th step is refused.
-fn step_count(n: usize, c: EmbeddingCommand) -> CountNext
+impl Check for Steps {
+    ghost fits = { λ s. ⊤ };
+
+    ghost rest = { limits_left };
+
+    fn step(&mut self, document: &[u8], at: usize) -> Option<usize> {
+        let command = command_at(document, at)?;
+        self.count = step_count(self.count, command)?;
+        Some(command.width())
+    }
+
+    fn may_end(&self) -> bool {
+        true
+    }
+}
+
+// How many steps there are after a command: the 13th of a path is refused.
+#[tactic(auto, unfolding(model::specs::Definitions::EmbeddingChecks::step_count))]
+fn step_count(n: usize, c: EmbeddingCommand) -> Option<usize>
     ensures { count_next result ≡ step_count n (command c) }
 {
     match c {
-        EmbeddingCommand::MapsTo(_) => CountNext::Goes(0),
-        EmbeddingCommand::Path => CountNext::Goes(0),
-        EmbeddingCommand::Step(_) => {
-            if n < MAX_STEPS {
-                CountNext::Goes(n + 1)
-            } else {
-                CountNext::Stops
-            }
-        }
-        EmbeddingCommand::End => CountNext::Goes(n),
-        EmbeddingCommand::Alien => CountNext::Stops,
+        EmbeddingCommand::MapsTo(_) | EmbeddingCommand::Path => Some(0),
+        EmbeddingCommand::Step(_) => { if n < MAX_STEPS { Some(n + 1) } else { None } }
+        EmbeddingCommand::End => Some(n),
     }
 }
 
-// The verdict on the limits of an embedding e. The loop counts the steps of the path that it is in: the verdict of what is
-// left is the verdict of the whole.
-pub fn limits(e: &[u8]) -> Verdict
+// The lowest place at which check 3 refuses an embedding e.
+pub fn limits(e: &[u8]) -> Result<(), usize>
     ensures { verdict result ≡ embedding_limits e.now }
 {
-    let mut at: usize = 0;
-    let mut steps: usize = 0;
-    while at < e.len() {
-        let c = command_at(e, at);
-        match step_count(steps, c) {
-            CountNext::Goes(next) => {
-                steps = next;
-                at += width(c);
-            }
-            CountNext::Stops => return Verdict::Fails(at),
-        }
-    }
-    Verdict::Passes
+    checking::run(Steps { count: 0 }, e)
 }

@@ -3,68 +3,78 @@ ghost use Rattle.std.specs.Prelude.{◌≡◌, ◌<◌};
 ghost use Rattle.answers.specs.Answers.{verdict};
 ghost use Rattle.loaded_table.specs.Loaded.{table_by, types_in, Bounded};
 ghost use Rattle.embedding_form.specs.Commands.{command};
-ghost use Rattle.embedding_operands.specs.States.{reached, reach_next};
+ghost use Rattle.embedding_operands.specs.States.{reached, reach_next, Within, operands_left};
 ghost use Rattle.model.specs.Definitions.EmbeddingChecks.{path_step, embedding_operands};
 ghost use Rattle.model.proofs.Theorems.Facts.{WellFormed};
 
-use super::step::{Stepped, step_from};
-use answers::Verdict;
-use embedding_form::command::{EmbeddingCommand, command_at, width};
+use super::step::step_from;
+use checking::Check;
+use embedding_form::command::{EmbeddingCommand, command_at};
 use loaded_table::TABLE;
 
-// On with the target type that the last source type is mapped to and the one reached from it, or the command is refused.
-#[derive(Drop)]
-pub enum ReachNext {
-    Goes(usize, usize),
-    Stops,
+// The target type that the last source type is mapped to, and the one that a path has reached from it.
+#[derive(Clone, Copy, Debug, PartialEq, Eq)]
+pub struct Reach {
+    pub start: usize,
+    pub here: usize,
 }
 
-// What a command does at a state (start, here), as the model's machine.
-fn path_step(target: &[u16; TABLE], start: usize, here: usize, c: EmbeddingCommand) -> ReachNext
-    requires bounded { Bounded target.now }
-    requires here_bound { here < types_in target.now }
-    ensures { reach_next result ≡ path_step (table_by target.now) (reached start here) (command c) }
-{
-    match c {
-        EmbeddingCommand::MapsTo(t) => {
-            if (t as usize) < loaded_table::types(target) {
-                ReachNext::Goes(t as usize, t as usize)
-            } else {
-                ReachNext::Stops
-            }
-        }
-        EmbeddingCommand::Path => ReachNext::Goes(start, start),
-        EmbeddingCommand::Step(p) => {
-            match step_from(target, here, p as usize) {
-                Stepped::To(m) => ReachNext::Goes(start, m),
-                Stepped::Nowhere => ReachNext::Stops,
-            }
-        }
-        EmbeddingCommand::End => ReachNext::Goes(start, here),
-        EmbeddingCommand::Alien => ReachNext::Stops,
+// Check 4 among the commands of an embedding into a loaded target table.
+#[derive(Drop)]
+pub struct Walk<'a> {
+    pub target: &'a [u16; TABLE],
+    pub reach: Reach,
+}
+
+impl Check for Walk<'_> {
+    ghost fits = { Within };
+
+    ghost rest = { operands_left };
+
+    fn step(&mut self, document: &[u8], at: usize) -> Option<usize> {
+        let command = command_at(document, at)?;
+        self.reach = path_step(self.target, self.reach, command)?;
+        Some(command.width())
+    }
+
+    fn may_end(&self) -> bool {
+        true
     }
 }
 
-// The verdict on the operands of an embedding e into a target table. The loop follows each path through the table's types:
-// the verdict of what is left is the verdict of the whole.
-pub fn operands(target: &[u16; TABLE], e: &[u8]) -> Verdict
+// Where a command leads, as the model's machine.
+fn path_step(target: &[u16; TABLE], reach: Reach, c: EmbeddingCommand) -> Option<Reach>
+    requires bounded { Bounded target.now }
+    requires here_bound { reach.here < types_in target.now }
+    ensures { reach_next result ≡ path_step (table_by target.now) (reached reach) (command c) }
+{
+    match c {
+        EmbeddingCommand::MapsTo(t) => {
+            let t = usize::from(t);
+            if t < loaded_table::types(target) {
+                Some(Reach { start: t, here: t })
+            } else {
+                None
+            }
+        }
+        EmbeddingCommand::Path => Some(Reach {
+            here: reach.start,
+            ..reach
+        }),
+        EmbeddingCommand::Step(p) => Some(Reach {
+            here: step_from(target, reach.here, usize::from(p))?,
+            ..reach
+        }),
+        EmbeddingCommand::End => Some(reach),
+    }
+}
+
+// The lowest place at which check 4 refuses an embedding e into a target table.
+pub fn operands(target: &[u16; TABLE], e: &[u8]) -> Result<(), usize>
     requires bounded { Bounded target.now }
     requires well_formed { WellFormed (table_by target.now) }
     ensures { verdict result ≡ embedding_operands (table_by target.now) e.now }
 {
-    let mut at: usize = 0;
-    let mut start: usize = 0;
-    let mut here: usize = 0;
-    while at < e.len() {
-        let c = command_at(e, at);
-        match path_step(target, start, here, c) {
-            ReachNext::Goes(s, h) => {
-                start = s;
-                here = h;
-                at += width(c);
-            }
-            ReachNext::Stops => return Verdict::Fails(at),
-        }
-    }
-    Verdict::Passes
+    let reach = Reach { start: 0, here: 0 };
+    checking::run(Walk { target, reach }, e)
 }

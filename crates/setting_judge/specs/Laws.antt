@@ -1,29 +1,26 @@
 -- What a known verdict says of the three documents, and what holds of a setting that stands for three accepted ones.
-use Rattle.std.specs.Prelude.{◌≡◌, refl, List, ℕ}
+use Rattle.std.specs.Prelude.{◌≡◌, refl, List, ℕ, ⊤, Result, Ok, Err}
 use Rattle.std.proofs.Common.{sym, subst}
-use Rattle.answers.specs.declared.Fault.{Fault}
-use Rattle.answers.specs.declared.Judging.{Judging}
-use Rattle.answers.specs.Answers.{Answered}
-use Rattle.setting_judge.specs.declared.Verdict.{Verdict}
+use Rattle.answers.specs.declared.Refusal.{Refusal}
+use Rattle.answers.specs.Answers.{counted_result}
 use Rattle.setting_judge.specs.Judging.{Refusing, by_source, by_target, by_embedding, Standing, SettingRefused, ByVerdict}
 use Rattle.loaded_table.specs.Loaded as loaded_table
 use Rattle.loaded_embedding.specs.Loaded.{embedding_by}
 use Rattle.loaded_setting.specs.Ready.{setting_in, Ready}
 use Rattle.model.specs.Definitions.Table.{table_of}
 use Rattle.model.specs.Definitions.Embedding.{embedding_of}
-use Rattle.model.specs.Definitions.Refusals.{source_table, target_table, embedding, document_number}
 use Rattle.model.specs.Definitions.Entries.{setting_of, unless_faulty, edge_count, judge_embedding}
 use Rattle.model.proofs.Theorems.Facts.{Valid}
 use Rattle.model.proofs.Theorems.EntryLaws.{judges_valid}
 
-module _ (s t e from to map : List ℕ) (v : Verdict) (h : ByVerdict s t e from to map v) where
-  pub standing : v ≡ Verdict.Sound → Standing s t e from to map
+module _ (s t e from to map : List ℕ) (v : Result ⊤ Refusal) (h : ByVerdict s t e from to map v) where
+  pub standing : {done : ⊤} → v ≡ Ok done → Standing s t e from to map
   standing is = subst (ByVerdict s t e from to map) is h
 
-  pub refused : {f : Fault} {n : ℕ} → v ≡ Verdict.Has f n → SettingRefused s t e from to map f n
+  pub refused : {r : Refusal} → v ≡ Err r → SettingRefused s t e from to map r
   refused is = subst (ByVerdict s t e from to map) is h
 
-  pub refusing : {f : Fault} {n : ℕ} → v ≡ Verdict.Has f n → Refusing s t e f n
+  pub refusing : {r : Refusal} → v ≡ Err r → Refusing s t e r
   refusing is = (refused is).refusing
 
 module _ {s t e from to map : List ℕ} (h : Standing s t e from to map) where
@@ -49,13 +46,13 @@ module _ {s t e from to map : List ℕ} (h : Standing s t e from to map) where
 -- ---- what judging an embedding answers
 
 -- one of the three documents is refused
-pub refused_answer : {s t e : List ℕ} {f : Fault} {n : ℕ} → Refusing s t e f n → Answered (Judging.Refused f n) (judge_embedding s t e)
-unfolding judge_embedding unless_faulty document_number
-refused_answer (by_source h) = (source_table, refl, rw h refl)
-refused_answer (by_target g h) = (target_table, refl, rw (g, h) refl)
-refused_answer (by_embedding g h i) = (embedding, refl, rw (g, h, i) refl)
+pub refused_answer : {s t e : List ℕ} {r : Refusal} → Refusing s t e r → counted_result (Err r) ≡ judge_embedding s t e
+unfolding judge_embedding unless_faulty
+refused_answer (by_source h) = rw h refl
+refused_answer (by_target g h) = rw (g, h) refl
+refused_answer (by_embedding g h i) = rw (g, h, i) refl
 
 -- none is: the number of edges of the source table
-pub counted-answer : {s t e from to map : List ℕ} (n : ℕ) → Standing s t e from to map → n ≡ edge_count (loaded_table.table_by from) → Answered (Judging.Accepted n) (judge_embedding s t e)
+pub counted-answer : {s t e from to map : List ℕ} (n : ℕ) → Standing s t e from to map → n ≡ edge_count (loaded_table.table_by from) → counted_result (Ok n) ≡ judge_embedding s t e
 unfolding judge_embedding unless_faulty
 counted-answer n h count = rw (h.judges.source_sound, h.judges.target_sound, h.judges.embedding_sound, ← h.loaded.source_stands.same_table, count) refl

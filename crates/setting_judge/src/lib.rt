@@ -7,17 +7,9 @@ ghost use Rattle.loaded_embedding.specs.Loaded.{Cleared};
 ghost use Rattle.setting_judge.specs.Judging.{ByVerdict};
 ghost use Rattle.loaded_table.specs.Loaded.{table_size};
 
-use answers::{Fault, Judged};
-use codes::{EMBEDDING, SOURCE_TABLE, TARGET_TABLE};
+use answers::{Document, Refusal};
 use loaded_embedding::MAP;
 use loaded_table::TABLE;
-
-// Accepted; or the first document that is refused has a fault, and a number.
-#[derive(Drop)]
-pub enum Verdict {
-    Sound,
-    Has(Fault, u64),
-}
 
 // Judges the three documents' bytes, each by all its checks before the next. Where all are accepted they are loaded; else
 // nothing is said of the arrays.
@@ -28,21 +20,18 @@ pub fn judge(
     from: &mut [u16; TABLE],
     to: &mut [u16; TABLE],
     map: &mut [u16; MAP],
-) -> Verdict
+) -> Result<(), Refusal>
     requires { (length from.old ≡ table_size) × (length to.old ≡ table_size) × Cleared map.old }
     ensures { ByVerdict source.now target.now embedding.now from.new to.new map.new result }
 {
-    let first = table_judge::judge(source, from);
-    if let Judged::Has(f) = first {
-        return Verdict::Has(f, SOURCE_TABLE);
+    if let Err(f) = table_judge::judge(source, from) {
+        return Err(Refusal::Faulty(Document::SourceTable, f));
     }
-    let second = table_judge::judge(target, to);
-    if let Judged::Has(f) = second {
-        return Verdict::Has(f, TARGET_TABLE);
+    if let Err(f) = table_judge::judge(target, to) {
+        return Err(Refusal::Faulty(Document::TargetTable, f));
     }
-    let third = embedding_judge::judge(from, to, embedding, map);
-    if let Judged::Has(f) = third {
-        return Verdict::Has(f, EMBEDDING);
+    if let Err(f) = embedding_judge::judge(from, to, embedding, map) {
+        return Err(Refusal::Faulty(Document::Embedding, f));
     }
-    Verdict::Sound
+    Ok(())
 }

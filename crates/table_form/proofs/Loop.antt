@@ -1,13 +1,15 @@
--- A loop that runs a machine over a table's commands: the verdict of what is left from the loop's offset is the verdict of the whole.
-use mathlib.Core.Path.{◌≡◌, sym, ◌∙◌}
-use mathlib.Core.Bool.{Bool, true}
+-- A check that runs one of the model's machines over a table's commands: what each command, and the end, makes of the verdict on what is
+-- left.
+use mathlib.Core.Path.{◌≡◌, refl, sym}
+use mathlib.Core.Bool.{Bool}
 use mathlib.Core.List.{List}
 use Prim.Native.Nat.{ℕ, ◌+◌, ◌≤◌, ◌<◌}
 use native.Mathlib.Omega.{arith}
 use lib.ListN.{length}
-use Rattle.model.specs.Definitions.Basics.{pick, Verdict, passes, fails, Next, goes, stops}
+use Rattle.table_form.specs.Left.{left_of}
+use Rattle.model.specs.Definitions.Basics.{pick, passes, fails, Next, goes, stops}
 use Rattle.model.specs.Definitions.Commands.{TableCommand, text_type, empty_type, sequence_type, choice_type, list_type, member, table_end, alien, table_command, table_commands, table_width}
-use Rattle.model.proofs.Theorems.Reading.{raw_at, ReadsAt, table_reads, no_table_commands, left, left_stops, left_goes, goes_within, left_ends}
+use Rattle.model.proofs.Theorems.Reading.{raw_at, ReadsAt, table_reads, no_table_commands, left_stops, left_goes, goes_within, left_ends}
 
 -- every command has a byte
 pub some_width : (c : TableCommand) {w : ℕ} → w ≡ table_width c → 1 ≤ w
@@ -28,40 +30,33 @@ pub record Machine (S : Type 0) : Type 0 where
   pub stops_there : (s : S) → step s alien ≡ stops
 
 module _ {S : Type 0} (A : Machine S) where
-  -- the verdict of what is left from an offset, in a state
-  abbrev pub rest : List ℕ → S → ℕ → Verdict
-  rest = left table_commands table_width alien A.step A.complete A.stops_there
+  reads : {bs : List ℕ} {at : ℕ} {c : TableCommand} → at < length bs → c ≡ table_command (raw_at bs at) → ReadsAt table_commands table_width alien bs at c
+  reads {bs} {at} h e = rw e (table_reads bs at h)
 
-  -- the loop at an offset, in a state that gives the verdict v
-  pub record At (bs : List ℕ) (s : S) (at : ℕ) (v : Verdict) : Type 0 where
-    pub within : at ≤ length bs
-    pub same : rest bs s at ≡ v
+  -- a command that is refused is the verdict
+  pub refused : (bs : List ℕ) {at : ℕ} {c : TableCommand} (s : S) → at < length bs → c ≡ table_command (raw_at bs at) → stops ≡ A.step s c
+      → fails at ≡ left_of A.step A.complete bs s at
+  refused bs s h e moved = sym (left_stops table_commands table_width alien A.step A.complete A.stops_there s (reads h e) (sym moved))
 
-  -- what a turn over the command c comes to, by the machine's move: the loop goes on behind it, or the offset is the verdict
-  abbrev pub Then : List ℕ → ℕ → TableCommand → Verdict → Next S → Type 0
-  Then bs at c v (goes s) = (w : ℕ) → w ≡ table_width c → At bs s (at + w) v
-  Then bs at c v stops = fails at ≡ v
+  -- what is no command is refused
+  pub unread : (bs : List ℕ) {at : ℕ} (s : S) → at < length bs → alien ≡ table_command (raw_at bs at) → fails at ≡ left_of A.step A.complete bs s at
+  unread bs s h e = refused bs s h e (sym (A.stops_there s))
 
-  pub turn : {bs : List ℕ} {at : ℕ} {c : TableCommand} {v : Verdict} (s : S) (m : Next S) → At bs s at v → at < length bs → c ≡ table_command (raw_at bs at)
-      → A.step s c ≡ m → Then bs at c v m
-  turn {bs} {at} {c} {v} s m here h e moved = go m moved
-    where
-      r : ReadsAt table_commands table_width alien bs at c
-      r = rw e (table_reads bs at h)
+  -- a command that is taken stays within the document, and leaves the verdict to what is behind it
+  pub record Taken (bs : List ℕ) (at width : ℕ) (s t : S) : Type 0 where
+    pub some : 1 ≤ width
+    pub within : at + width ≤ length bs
+    pub same : left_of A.step A.complete bs t (at + width) ≡ left_of A.step A.complete bs s at
 
-      go : (m : Next S) → A.step s c ≡ m → Then bs at c v m
-      go stops moved = sym (left_stops table_commands table_width alien A.step A.complete A.stops_there s r moved) ∙ here.same
-      go (goes t) moved = λ w width.
-          record {
-            within = rw width (goes_within table_commands table_width alien A.step A.complete A.stops_there s t r moved);
-            same = rw width (sym (left_goes table_commands table_width alien A.step A.complete A.stops_there s t r moved) ∙ here.same);
-          }
+  pub taken : {bs : List ℕ} {at width : ℕ} {c : TableCommand} (s t : S) → at < length bs → c ≡ table_command (raw_at bs at) → goes t ≡ A.step s c → width ≡ table_width c
+      → Taken bs at width s t
+  taken s t h e moved w = rw w
+      (record {
+        some = some_width _ refl;
+        within = goes_within table_commands table_width alien A.step A.complete A.stops_there s t (reads h e) (sym moved);
+        same = sym (left_goes table_commands table_width alien A.step A.complete A.stops_there s t (reads h e) (sym moved));
+      })
 
-  -- at the loop's end the state decides
-  pub ended : {bs : List ℕ} {at : ℕ} {v : Verdict} {b : Bool} (s : S) → At bs s at v → length bs ≤ at → A.complete s ≡ b → pick b passes (fails at) ≡ v
-  ended {bs} {at} s here h e = rw (← e) (sym (left_ends table_commands table_width alien A.step A.complete A.stops_there no_table_commands bs s at h) ∙ here.same)
-
--- the loop's end for a machine that may end in any state
-pub passed : {S : Type 0} (A : Machine S) {bs : List ℕ} {at : ℕ} {v : Verdict} (s : S) → At A bs s at v → length bs ≤ at → A.complete s ≡ true → passes ≡ v
-unfolding pick
-passed A s here h e = ended A s here h e
+  -- at the end of a document the state decides
+  pub ended : {may : Bool} (s : S) → may ≡ A.complete s → (bs : List ℕ) → pick may passes (fails (length bs)) ≡ left_of A.step A.complete bs s (length bs)
+  ended s e bs = rw e (sym (left_ends table_commands table_width alien A.step A.complete A.stops_there no_table_commands bs s (length bs) (omega arith)))

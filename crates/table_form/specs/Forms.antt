@@ -1,8 +1,8 @@
 -- The states of check 2 as the model's.
+use Rattle.std.specs.Prelude.{ℕ, List, Option, Some, None}
 use Rattle.table_form.specs.declared.form.State.{State}
 use Rattle.table_form.specs.declared.form.State.TheVariants.{NoType, Whole, NeedsTwo, NeedsOne, Enough, Ended}
-use Rattle.table_form.specs.declared.form.Next.{Next}
-use Rattle.table_form.specs.declared.form.Next.TheVariants.{Goes, Stops}
+use Rattle.table_form.specs.Left.{left_of}
 use Rattle.model.specs.Definitions.Basics as basics
 use Rattle.model.specs.Definitions.TableChecks as model
 
@@ -14,6 +14,10 @@ state NeedsOne = model.members 1
 state Enough = model.members 0
 state Ended = model.table_ended
 
-abbrev pub next : Next → basics.Next model.TableState
-next (Goes s) = basics.goes (state s)
-next Stops = basics.stops
+abbrev pub next : Option State → basics.Next model.TableState
+next (Some s) = basics.goes (state s)
+next None = basics.stops
+
+-- the verdict of check 2 on what is left from an offset, in a state
+abbrev pub form_left : List ℕ → State → ℕ → basics.Verdict
+form_left bs s = left_of model.table_step model.table_complete bs (state s)

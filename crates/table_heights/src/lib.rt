@@ -12,7 +12,6 @@ ghost use Rattle.table_heights.specs.Sections.{members_at, Elsewhere};
 ghost use Rattle.table_heights.specs.Heights.{HoldsHeights, HoldsRound, HeightsFound, NowhereBelow, first_height, next_height, word, finite_bits};
 ghost use Rattle.model.specs.Definitions.TableChecks.{max_types};
 
-use answers::Verdict;
 use codes::MAX_TYPES;
 use loaded_table::{CHOICE, SEQUENCE, TABLE, count, height, kind, member, set_height, types};
 
@@ -197,16 +196,12 @@ fn finite_bits(table: &[u16; TABLE], all: usize) -> u64
 
 // The lowest type without a finite instance of a table whose heights are found: the lowest bit that is not set, if that is
 // a type's.
-pub fn first_endless(table: &[u16; TABLE]) -> Verdict
+pub fn first_endless(table: &[u16; TABLE]) -> Result<(), usize>
     requires { Bounded table.now × HoldsHeights (table_by table.now) (heights_of table.now) }
     ensures { verdict result ≡ model.endless_type (table_by table.now) }
 {
     let all = types(table);
     let bits = finite_bits(table, all);
     let t = u64::trailing_zeros(!bits) as usize;
-    if t < all {
-        Verdict::Fails(t)
-    } else {
-        Verdict::Passes
-    }
+    if t < all { Err(t) } else { Ok(()) }
 }

@@ -1,7 +1,7 @@
 -- What judging a table answers.
-use Rattle.std.specs.Prelude.{◌≡◌, List, ℕ, length}
+use Rattle.std.specs.Prelude.{◌≡◌, ⊤, Result, List, ℕ, length}
 use Rattle.answers.specs.Answers.{judged}
-use Rattle.answers.specs.declared.Judged as answers
+use Rattle.answers.specs.declared.Fault.{Fault}
 use Rattle.loaded_table.specs.Loaded.{Stands}
 use Rattle.model.specs.Definitions.Table.{table_of}
 use Rattle.model.specs.Definitions.Heights.{endless_type}
@@ -11,7 +11,7 @@ use Rattle.model.specs.Definitions.Entries.{judged_table}
 use Rattle.model.proofs.Theorems.Facts.{SoundTable}
 
 -- the model's judgement, and where it accepts, the table loaded
-pub record TableJudged (bs : List ℕ) (r : answers.Judged) (rows : List ℕ) : Type 0 where
+pub record TableJudged (bs : List ℕ) (r : Result ⊤ Fault) (rows : List ℕ) : Type 0 where
   pub judgement : judged r ≡ judged_table bs
   pub loaded : judged_table bs ≡ sound → Stands rows (table_of bs)
 
@@ -24,6 +24,6 @@ later_checks bs =
     sound
 
 -- the same of these checks alone, where the table is sound
-pub record AfterLimits (bs : List ℕ) (r : answers.Judged) (rows : List ℕ) : Type 0 where
+pub record AfterLimits (bs : List ℕ) (r : Result ⊤ Fault) (rows : List ℕ) : Type 0 where
   pub judgement : judged r ≡ later_checks bs
   pub loaded : later_checks bs ≡ sound → SoundTable (table_of bs) → Stands rows (table_of bs)

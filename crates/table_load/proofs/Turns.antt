@@ -320,6 +320,13 @@ turn_at bs a at c reads h =
 pub turn : (bs : List ℕ) (a : TableArrays) (at : ℕ) {c : TableCommand} → at < length bs → c ≡ table_command (raw_at bs at) → TableLoading bs a at → TableTurn bs a at c
 turn bs a at {c} more e h = turn_at bs a at c (subst (ReadsAt table_commands table_width alien bs at) (sym e) (table_reads bs at more)) h
 
+-- no command is left unread
+pub all_read : (bs : List ℕ) (a : TableArrays) (at : ℕ) → at < length bs → alien ≡ table_command (raw_at bs at) → TableLoading bs a at → ⊥
+all_read bs a at more e h =
+    let reads : ReadsAt table_commands table_width alien bs at alien = subst (ReadsAt table_commands table_width alien bs at) (sym e) (table_reads bs at more) in
+    let form = left_passes table_step table_complete form_stops bs at alien reads h.form_state_left h.form_left_lem in
+    not_alien h.form_state_left form.0 alien form.1 refl
+
 -- the invariant behind a command, at the values that the code has
 pub turned : {bs rows after : List ℕ} {types more at w : ℕ} {c : TableCommand} → TableTurn bs (loaded_in types rows) at c → TablePut types rows c more after → w ≡ table_width c
     → TableLoading bs (loaded_in more after) (at + w)

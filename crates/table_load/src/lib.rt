@@ -15,17 +15,15 @@ use loaded_table::{
     CHOICE, EMPTY, LIST, OPTIONAL, SEQUENCE, TABLE, TEXT, count, set_count, set_kind, set_member,
     set_types,
 };
-use table_form::command::{TableCommand, command_at, width};
+use table_form::command::{TableCommand, command_at};
 
-// Stores that no type has members. The loop has stored it for the types below t.
+// Stores that no type has members.
 fn clear_counts(table: &mut [u16; TABLE])
     requires { length table.old ≡ table_size }
     ensures { CountsCleared max_types table.new }
 {
-    let mut t = 0;
-    while t < MAX_TYPES {
+    for t in 0..MAX_TYPES {
         set_count(table, t, 0);
-        t += 1;
     }
 }
 
@@ -69,7 +67,6 @@ fn put(table: &mut [u16; TABLE], types: usize, c: TableCommand) -> usize
             types
         }
         TableCommand::End => types,
-        TableCommand::Alien => types,
     }
 }
 
@@ -82,12 +79,13 @@ pub fn load(t: &[u8], table: &mut [u16; TABLE])
     ensures { TableLoaded t.now table.new }
 {
     clear_counts(table);
-    let mut types: usize = 0;
-    let mut at: usize = 0;
+    let mut types = 0;
+    let mut at = 0;
     while at < t.len() {
-        let c = command_at(t, at);
+        // Check 2 has read each command.
+        let Some(c) = command_at(t, at) else { break };
         types = put(table, types, c);
-        at += width(c);
+        at += c.width();
     }
     set_types(table, types as u16);
 }

@@ -1,1 +1,2 @@
 pub mod Repeats
+pub mod Operands

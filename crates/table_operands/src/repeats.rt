@@ -1,72 +1,59 @@
 // Check 5, repeats: a choice of either kind names a type twice.
 ghost use Rattle.std.specs.Prelude.{◌≡◌};
 ghost use Rattle.answers.specs.Answers.{verdict};
-ghost use Rattle.model.specs.Definitions.TableChecks.{table_repeats, repeat_step, Chosen};
-ghost use Rattle.table_form.specs.Read.{command};
-ghost use Rattle.table_operands.specs.Repeats.{does};
+ghost use Rattle.model.specs.Definitions.TableChecks.{table_repeats};
+ghost use Rattle.table_operands.specs.Repeats.{Flagged, repeats_left};
 
-use answers::Verdict;
-use table_form::command::{TableCommand, command_at, width};
+use checking::Check;
+use table_form::command::{TableCommand, command_at};
 
-// What a command does to the members of a choice so far: begins another type, begins a choice, adds a member, changes
-// nothing, can't be read.
+// Whether the last type is a choice, and then which members it has so far.
 #[derive(Drop)]
-enum Role {
-    Leaves,
-    Opens,
-    Joins(u8),
-    Keeps,
-    Stops,
+pub struct Members {
+    pub inside: bool,
+    pub seen: [bool; 256],
 }
 
-// The role of a command.
-fn role_of(c: TableCommand) -> Role
-    ensures { (s : Chosen) → does s result ≡ repeat_step s (command c) }
-{
-    match c {
-        TableCommand::Choice | TableCommand::Optional => Role::Opens,
-        TableCommand::Member(m) => Role::Joins(m),
-        TableCommand::End => Role::Keeps,
-        TableCommand::Alien => Role::Stops,
-        _ => Role::Leaves,
-    }
-}
+impl Check for Members {
+    ghost fits = { Flagged };
 
-// The verdict of check 5. `inside` says whether the last type is a choice, and then `seen` which members it has so far.
-// The loop takes one command off what is left and keeps the verdict of the whole.
-pub fn repeats(t: &[u8]) -> Verdict
-    ensures { verdict result ≡ table_repeats t.now }
-{
-    let mut at = 0;
-    let mut inside = false;
-    let mut seen = [false; 256];
-    while at < t.len() {
-        let c = command_at(t, at);
-        let w = width(c);
-        let r = role_of(c);
-        match r {
-            Role::Leaves => {
-                inside = false;
+    ghost rest = { repeats_left };
+
+    fn step(&mut self, document: &[u8], at: usize) -> Option<usize> {
+        let command = command_at(document, at)?;
+        let width = command.width();
+        match command {
+            TableCommand::Choice | TableCommand::Optional => {
+                self.inside = true;
+                self.seen = [false; 256];
             }
-            Role::Opens => {
-                inside = true;
-                seen = [false; 256];
-            }
-            Role::Joins(m) => {
-                if inside {
-                    let i = m as usize;
-                    if seen[i] {
-                        return Verdict::Fails(at);
+            TableCommand::Member(m) => {
+                if self.inside {
+                    let i = usize::from(m);
+                    if self.seen[i] {
+                        return None;
                     }
-                    seen[i] = true;
+                    self.seen[i] = true;
                 }
             }
-            Role::Keeps => {}
-            Role::Stops => {
-                return Verdict::Fails(at);
-            }
+            TableCommand::End => {}
+            _ => self.inside = false,
         }
-        at += w;
+        Some(width)
     }
-    Verdict::Passes
+
+    fn may_end(&self) -> bool {
+        true
+    }
+}
+
+// The lowest place at which check 5 refuses a table document.
+pub fn repeats(t: &[u8]) -> Result<(), usize>
+    ensures { verdict result ≡ table_repeats t.now }
+{
+    let none = Members {
+        inside: false,
+        seen: [false; 256],
+    };
+    checking::run(none, t)
 }

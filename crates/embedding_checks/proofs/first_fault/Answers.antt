@@ -20,10 +20,10 @@ pub loop-s-smaller : goal.loop-s-smaller
 loop-s-smaller c = omega arith
 
 pub loop-s-preserved : goal.loop-s-preserved
-loop-s-preserved c = type-passes c.loop-s.invariant c.loop-s-test.true c.type_fault.ensures (ap verdict c.in-Passes.is)
+loop-s-preserved c = type-passes c.loop-s.invariant c.loop-s-test.true c.type_fault.ensures (ap verdict c.in-Ok.is)
 
-pub returns-in-Fails : goal.returns-in-Fails
-returns-in-Fails c = type-fails c.loop-s.invariant c.loop-s-test.true c.type_fault.ensures (ap verdict c.in-Fails.is)
+pub returns-in-Err : goal.returns-in-Err
+returns-in-Err c = type-fails c.loop-s.invariant c.loop-s-test.true c.type_fault.ensures (ap verdict c.in-Err.is)
 
 pub returns : goal.returns
 returns c = types-end c.loop-s.invariant c.loop-s-test.false

@@ -7,8 +7,8 @@ use Rattle.embedding_load.specs.Loading.{loaded_at}
 use Rattle.embedding_load.proofs.Turns.{EmbeddingLoading}
 use Rattle.embedding_load.proofs.load.Given as goal
 
-abbrev pub invariant-loop-at : goal.invariant-loop-at
-invariant-loop-at l = (length l.map ≡ 2112) × EmbeddingLoading l.em (table_by l.source) (loaded_at l.place l.map) l.at
+abbrev pub invariant-loop-c : goal.invariant-loop-c
+invariant-loop-c l = (length l.map ≡ 2112) × EmbeddingLoading l.em (table_by l.source) (loaded_at l.place l.map) l.at
 
-abbrev pub decreases-loop-at : goal.decreases-loop-at
-decreases-loop-at l = length l.em - l.at
+abbrev pub decreases-loop-c : goal.decreases-loop-c
+decreases-loop-c l = length l.em - l.at

@@ -69,7 +69,7 @@ pub returns-in-MapsTo : goal.returns-in-MapsTo
 unfolding puts
 returns-in-MapsTo c =
     let is = c.in-MapsTo.is in
-    let stored = target_stored c.args.map.now _ _ _ (maps-here (goal.at.returns-in-MapsTo c).In-MapsTo).room c.set_target.ensures in
+    let stored = target_stored c.args.map.now _ _ _ (maps-here (goal.at.returns-in-MapsTo c).In-MapsTo).room (rw c.from.ensures at c.set_target.ensures) in
     record { same_size = stored.0; put_there = told_puts (loaded_at c.args.p c.args.map.now) c.args.at is stored.1 }
 
 pub returns-in-Path : goal.returns-in-Path
@@ -90,6 +90,3 @@ pub returns-in-End : goal.returns-in-End
 unfolding puts
 returns-in-End c = record { same_size = refl; put_there = told_puts (loaded_at c.args.p c.args.map.now) c.args.at c.in-End.is refl }
 
-pub returns-in-Alien : goal.returns-in-Alien
-unfolding puts
-returns-in-Alien c = record { same_size = refl; put_there = told_puts (loaded_at c.args.p c.args.map.now) c.args.at c.in-Alien.is refl }

@@ -2,22 +2,22 @@
 use Rattle.setting_judge.proofs.Judging.{source_refused, target_refused, judgeable, embedding-refused, all-stand}
 use Rattle.setting_judge.proofs.judge.Goals as goal
 
-pub returns-in-Has : goal.returns-in-Has
-returns-in-Has c = source_refused _ _ _ c.judge-first.ensures c.in-Has.is
+pub returns-in-Err : goal.returns-in-Err
+returns-in-Err c = source_refused _ _ _ c.judge.ensures c.in-Err.is
 
-pub returns-in-Has-second : goal.returns-in-Has-second
-returns-in-Has-second c =
-    target_refused _ _ _ c.judge-first.ensures c.in_default.is c.judge-second.ensures c.in-Has-second.is
+pub returns-in-Err-judge : goal.returns-in-Err-judge
+returns-in-Err-judge c =
+    target_refused _ _ _ c.judge.ensures c.in_default.is c.judge-2.ensures c.in-Err-judge.is
 
-pub judge-third-requires : goal.judge-third-requires
-judge-third-requires c = record { judgeable = judgeable c.judge-first.ensures c.in_default.is c.judge-second.ensures c.in_default-second.is; cleared = c.requires.2 }
+pub judge-requires-3-clause-judgeable : goal.judge-requires-3-clause-judgeable
+judge-requires-3-clause-judgeable c = judgeable c.judge.ensures c.in_default.is c.judge-2.ensures c.in_default-judge.is
 
-pub returns-in-Has-third : goal.returns-in-Has-third
-returns-in-Has-third c =
-    embedding-refused c.judge-first.ensures c.in_default.is c.judge-second.ensures c.in_default-second.is
-    c.judge-third.ensures c.in-Has-third.is
+pub returns-in-Err-judge-2 : goal.returns-in-Err-judge-2
+returns-in-Err-judge-2 c =
+    embedding-refused c.judge.ensures c.in_default.is c.judge-2.ensures c.in_default-judge.is
+    c.judge-3.ensures c.in-Err-judge-2.is
 
 pub returns : goal.returns
 returns c =
-    all-stand c.judge-first.ensures c.in_default.is c.judge-second.ensures c.in_default-second.is
-    c.judge-third.ensures c.in_default-third.is
+    all-stand c.judge.ensures c.in_default.is c.judge-2.ensures c.in_default-judge.is
+    c.judge-3.ensures c.in_default-judge-2.is

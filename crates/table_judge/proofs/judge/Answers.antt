@@ -1,38 +1,29 @@
 -- `judge` meets its contract: the first three checks in their order, then the others.
-use mathlib.Core.Path.{◌≡◌, refl}
-use Rattle.model.specs.Definitions.Basics.{passes}
-use Rattle.model.specs.Definitions.TableChecks.{table_form, table_limits}
-use Rattle.table_judge.proofs.Checks.{verdict_is, length_refused, form_refused, limit_refused, later_decides}
+use Rattle.answers.specs.declared.Fault.{Fault}
+use Rattle.table_judge.proofs.Checks.{right, refuses, length_refused, form_refused, limit_refused, later_decides}
 use Rattle.table_judge.proofs.judge.Goals as goal
-use Rattle.table_judge.proofs.judge.Goals.{In_default, In_default-limits}
-
--- check 2 has passed
-form_passes : (c : In_default) → table_form c.args.t.now ≡ passes
-form_passes c = verdict_is _ c.form-form.ensures _ c.in_default.is refl
-
--- check 3 has passed
-limits_pass : (c : In_default-limits) → table_limits c.args.t.now ≡ passes
-limits_pass c = verdict_is _ c.limits-limits.ensures _ c.in_default-limits.is refl
+use Rattle.table_judge.proofs.judge.Goals.{then-not-formed+in_ok-map_err+in_ok-map_err-2, else-not-formed}
 
 pub returns-then-t-gt-MAX_BYTES : goal.returns-then-t-gt-MAX_BYTES
 returns-then-t-gt-MAX_BYTES c = length_refused _ _ c.if-t-gt-MAX_BYTES.true
 
--- one pass has shown form and limits
-pub judge_loaded-requires : goal.judge_loaded-requires
-judge_loaded-requires c = let right = c.formed.ensures c.if-formed.true in (c.requires, right.0, right.1)
+pub returns-in_err-map_err : goal.returns-in_err-map_err
+returns-in_err-map_err c =
+    let no = refuses _ _ _ Fault.BadForm c.form.ensures c.map_err.ensures.cases c.in_err-map_err.was c.from_residual.ensures.1 in
+    rw no.answer (form_refused _ _ no.at c.if-t-gt-MAX_BYTES.false no.failed)
 
-pub returns-then-formed : goal.returns-then-formed
-returns-then-formed c = let right = c.formed.ensures c.if-formed.true in later_decides _ _ _ c.if-t-gt-MAX_BYTES.false right.0 right.1 c.judge_loaded.ensures
-
-pub returns-in-Fails : goal.returns-in-Fails
-returns-in-Fails c = form_refused _ _ _ c.if-t-gt-MAX_BYTES.false (verdict_is _ c.form-form.ensures _ c.in-Fails.is refl)
-
-pub returns-in-Fails-limits : goal.returns-in-Fails-limits
-returns-in-Fails-limits c =
-    limit_refused _ _ _ c.if-t-gt-MAX_BYTES.false (form_passes (goal.at.returns-in-Fails-limits c).In_default) (verdict_is _ c.limits-limits.ensures _ c.in-Fails-limits.is refl)
-
-pub judge_loaded-requires-2 : goal.judge_loaded-requires-2
-judge_loaded-requires-2 c = (c.requires, form_passes (goal.at.judge_loaded-requires-2 c).In_default, limits_pass (goal.at.judge_loaded-requires-2 c).In_default-limits)
+pub returns-in_err-map_err-2 : goal.returns-in_err-map_err-2
+returns-in_err-map_err-2 c =
+    let no = refuses _ _ _ Fault.OverLimit c.limits.ensures c.map_err-then-not-formed.ensures.cases c.in_err-map_err-2.was c.from_residual-in_err-map_err-2.ensures.1 in
+    rw no.answer (limit_refused _ _ no.at c.if-t-gt-MAX_BYTES.false (right _ c.form.ensures c.in_ok-map_err.ensures.variant) no.failed)
 
 pub returns : goal.returns
-returns c = later_decides _ _ _ c.if-t-gt-MAX_BYTES.false (form_passes (goal.at.returns c).In_default) (limits_pass (goal.at.returns c).In_default-limits) c.judge_loaded-2.ensures
+returns c =
+    let short = c.if-t-gt-MAX_BYTES.false in
+    elim c.if-not-formed.branch [
+      | then-not-formed+in_ok-map_err+in_ok-map_err-2 w ↦
+          let form = right _ w.form.ensures w.in_ok-map_err.ensures.variant in
+          let limits = right _ w.limits.ensures w.in_ok-map_err-2.ensures.variant in
+          later_decides _ _ _ short form limits c.judge_loaded.ensures
+      | else-not-formed w ↦ let both = c.formed.ensures w.if-not-formed.false in later_decides _ _ _ short both.0 both.1 c.judge_loaded.ensures
+    ]

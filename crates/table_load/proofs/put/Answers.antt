@@ -82,7 +82,3 @@ returns-in-Member c =
 pub returns-in-End : goal.returns-in-End
 unfolding puts
 returns-in-End c = told_put c.in-End.is (record { same_size = refl; does = refl })
-
-pub returns-in-Alien : goal.returns-in-Alien
-unfolding puts
-returns-in-Alien c = told_put c.in-Alien.is (record { same_size = refl; does = refl })

@@ -18,28 +18,19 @@ at_step : (c : In-loop-i)
     (get_or a.b c.loop-i.i 0 ∷ drop (c.loop-i.i + 1) (take a.lb a.b))
 at_step c =
     let a = c.args in
-    let first : c.loop-i.i < a.la = omega (arith, c.lesser-n.ensures) in
-    let second : c.loop-i.i < a.lb = omega (arith, c.lesser-n.ensures) in
+    let first : c.loop-i.i < a.la = omega (arith, c.min-n.ensures) in
+    let second : c.loop-i.i < a.lb = omega (arith, c.min-n.ensures) in
     let long : a.la ≤ length a.a = omega arith in
     let long2 : a.lb ≤ length a.b = omega arith in
-    rw (rest_cons _ _ _ first long, rest_cons _ _ _ second long2) at c.loop-i.invariant.1
+    rw (rest_cons _ _ _ first long, rest_cons _ _ _ second long2) at c.loop-i.invariant
 
 -- where the step is kept
 here : (c : In-loop-i)
     → StepAt c.args.target.now c.loop-i.t (get_or c.args.a c.loop-i.i 0)
 here c = step_at (record { bounded = c.requires.walkable.bounded; exists = (goes_on (at_step c).walks).exists })
 
-pub lesser-n-requires : goal.lesser-n-requires
-lesser-n-requires c = tt
-
 pub loop-i-init : goal.loop-i-init
-loop-i-init c = (omega arith, record { walks = c.requires.walkable.walks; same_behind = refl; same_shared = zero-add _ })
-
-pub bounds-a-i : goal.bounds-a-i
-bounds-a-i c = omega (arith, c.lesser-n.ensures)
-
-pub bounds-b-i : goal.bounds-b-i
-bounds-b-i c = omega (arith, c.lesser-n.ensures)
+loop-i-init c = record { walks = c.requires.walkable.walks; same_behind = refl; same_shared = zero-add _ }
 
 pub kind-requires : goal.kind-requires
 kind-requires c = let s = here (goal.at.kind-requires c).In-loop-i in omega (arith, s.inside, s.few)
@@ -50,20 +41,10 @@ returns-then-p-b c = differ c.kind.ensures.0 (here (goal.at.returns-then-p-b c).
 pub next_type-t-requires : goal.next_type-t-requires
 next_type-t-requires c = record { bounded = c.requires.walkable.bounded; exists = (goes_on (at_step (goal.at.next_type-t-requires c).In-loop-i).walks).exists }
 
-pub overflow_add-i : goal.overflow_add-i
-overflow_add-i c = omega arith
-
-pub loop-i-smaller : goal.loop-i-smaller
-loop-i-smaller c = omega arith
-
 pub loop-i-preserved : goal.loop-i-preserved
-loop-i-preserved c = (omega arith, rw c.next_type-t.ensures (together_on (at_step (goal.at.loop-i-preserved c).In-loop-i) c.if-p-b.false))
-
-pub ended-requires : goal.ended-requires
-ended-requires c = tt
+loop-i-preserved c = rw c.next_type-t.ensures (together_on (at_step (goal.at.loop-i-preserved c).In-loop-i) c.if-p-b.false)
 
 pub returns : goal.returns
 returns c =
     let loop = c.loop-i in
-    let lesser = c.lesser-n in
-    at_end _ _ _ _ _ c.ended.ensures lesser.ensures (omega (arith, loop.invariant.0, c.loop-i-test.false)) (omega arith) (omega arith) loop.invariant.1
+    at_end _ _ _ _ _ c.ended.ensures c.min-n.ensures (omega arith) (omega arith) (omega arith) loop.invariant

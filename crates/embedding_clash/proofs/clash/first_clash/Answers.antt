@@ -23,7 +23,7 @@ few_before c = omega (arith, c.requires.edge_exists, (type_here c).at_most)
 
 -- the edge at hand is one of the type's
 inside : (c : In-loop-j) → c.loop-j.j < edges_of (kind_of (table_by c.args.source.now) c.args.s)
-inside c = omega (arith, c.requires.edge_exists, c.loop-j-test.true)
+inside c = omega (arith, c.requires.edge_exists)
 
 -- what was found of the two paths is what the model says of the two edges
 compared : (c : After-why) (inside : c.loop-j.j < edges_of (kind_of (table_by c.args.source.now) c.args.s)) → PairCompared c.requires.ready _ _ c.loop-j.j c.requires.type_exists c.requires.edge_exists inside c.compare-parting.result c.why.result
@@ -61,7 +61,7 @@ steps-lb-requires c = (edge_here (goal.at.steps-lb-requires c).Start _ c.require
 
 pub loop-j-init : goal.loop-j-init
 unfolding clash_before
-loop-j-init c = (omega arith, search_starts _ refl)
+loop-j-init c = search_starts _ refl
 
 pub offset_bounds-paths-j : goal.offset_bounds-paths-j
 unfolding clash_before
@@ -86,32 +86,20 @@ steps-la-requires c = (edge_here (goal.at.steps-la-requires c).Start _ (inside (
 pub compare-parting-requires : goal.compare-parting-requires
 compare-parting-requires c = record { walkable = rw (c.steps-la.ensures.0, c.requires.stored.path_at_lem _ (inside (goal.at.compare-parting-requires c).In-loop-j), c.target-from.ensures.0) (edge_here (goal.at.compare-parting-requires c).Start _ (inside (goal.at.compare-parting-requires c).In-loop-j)).walkable; lb_le_max_steps = rw c.steps-lb.ensures.0 (edge_here (goal.at.compare-parting-requires c).Start _ c.requires.edge_exists).short }
 
-pub why-requires : goal.why-requires
-unfolding clash_before
-why-requires c = tt
-
-pub overflow_add-j : goal.overflow_add-j
-unfolding clash_before
-overflow_add-j c = omega (arith, few_before (goal.at.overflow_add-j c).Start)
-
-pub loop-j-smaller : goal.loop-j-smaller
-unfolding clash_before
-loop-j-smaller c = omega arith
-
 pub loop-j-preserved : goal.loop-j-preserved
 loop-j-preserved c =
-    (omega arith, search_passes _ _ _ c.loop-j-test.true (pair_free c.requires.ready _ _ _ c.requires.type_exists c.requires.edge_exists (inside (goal.at.loop-j-preserved c).In-loop-j) (compared (goal.at.loop-j-preserved c).After-why (inside (goal.at.loop-j-preserved c).In-loop-j)) c.in-Free.is) ∙ c.loop-j.invariant.1)
+    search_passes _ _ _ (omega arith) (pair_free c.requires.ready _ _ _ c.requires.type_exists c.requires.edge_exists (inside (goal.at.loop-j-preserved c).In-loop-j) (compared (goal.at.loop-j-preserved c).After-why (inside (goal.at.loop-j-preserved c).In-loop-j)) c.in_default.is) ∙ c.loop-j.invariant
 
 pub clash_at-requires : goal.clash_at-requires
 clash_at-requires c =
     let start = (goal.at.clash_at-requires c).Start in
     ((edge_here start _ c.requires.edge_exists).inside, omega (arith, inside (goal.at.clash_at-requires c).In-loop-j, (type_here start).at_most))
 
-pub returns-in-Clashing : goal.returns-in-Clashing
-returns-in-Clashing c =
+pub returns-in-Some : goal.returns-in-Some
+returns-in-Some c =
     let pre = c.requires in
-    sym (search_finds _ _ _ c.loop-j-test.true (pair_found pre.ready _ _ _ pre.type_exists pre.edge_exists (inside (goal.at.returns-in-Clashing c).In-loop-j) c.clash_at.result (compared (goal.at.returns-in-Clashing c).After-why (inside (goal.at.returns-in-Clashing c).In-loop-j)) c.in-Clashing.is c.clash_at.ensures)) ∙ c.loop-j.invariant.1
+    sym (search_finds _ _ _ (omega arith) (pair_found pre.ready _ _ _ pre.type_exists pre.edge_exists (inside (goal.at.returns-in-Some c).In-loop-j) c.clash_at.result (compared (goal.at.returns-in-Some c).After-why (inside (goal.at.returns-in-Some c).In-loop-j)) c.in-Some.is c.clash_at.ensures)) ∙ c.loop-j.invariant
 
 pub returns : goal.returns
 unfolding clash_before
-returns c = sym (search_ends _ _ _ c.loop-j-test.false) ∙ c.loop-j.invariant.1
+returns c = sym (search_ends _ _ _ (omega arith)) ∙ c.loop-j.invariant

@@ -1,26 +1,22 @@
 -- `due_step` meets its contract, by cases on the command.
-use mathlib.Core.Path.{sym}
-use Rattle.embedding_form.proofs.Forms.{path_due, path_undue, step_on, step_off}
-use Rattle.embedding_form.proofs.Machines.{form_stops}
+use mathlib.Core.Path.{ap, ◌∙◌}
+use native.Mathlib.Omega.{arith}
+use Rattle.loaded_table.specs.Loaded.{table_by}
+use Rattle.embedding_form.specs.States.{form_next}
+use Rattle.embedding_form.proofs.Forms.{path_due, path_undue, step_if}
 use Rattle.embedding_form.proofs.form.due_step.Goals as goal
 
 pub returns-in-MapsTo : goal.returns-in-MapsTo
-returns-in-MapsTo c = rw c.in-MapsTo.is (c.on_type.ensures c.args.on _)
+returns-in-MapsTo c = rw c.in-MapsTo.is (c.on_type.ensures c.args.begun _)
 
-pub returns-then-due-gt0 : goal.returns-then-due-gt0
-returns-then-due-gt0 c = rw c.in-Path.is (path_due _ _ _ c.if-due-gt0.true)
+pub returns-in_ok-checked_sub-in-Path : goal.returns-in_ok-checked_sub-in-Path
+returns-in_ok-checked_sub-in-Path c = let left = c.in_ok-checked_sub-in-Path.ensures in rw (c.in-Path.is, left.1) (path_due _ _ _ left.0)
 
-pub returns-else-due-gt0 : goal.returns-else-due-gt0
-returns-else-due-gt0 c = rw c.in-Path.is (path_undue _ _ _ c.if-due-gt0.false)
+pub returns-in_err-checked_sub-in-Path : goal.returns-in_err-checked_sub-in-Path
+returns-in_err-checked_sub-in-Path c = rw (c.in-Path.is, c.from_residual.ensures) (path_undue _ _ _ (omega (arith, c.in_err-checked_sub-in-Path.ensures)))
 
-pub returns-then-on : goal.returns-then-on
-returns-then-on c = rw c.in-Step.is (step_on _ _ _ _ c.if-on.true)
-
-pub returns-else-on : goal.returns-else-on
-returns-else-on c = rw c.in-Step.is (step_off _ _ _ _ c.if-on.false)
+pub returns-in-Step : goal.returns-in-Step
+returns-in-Step c = rw c.in-Step.is (ap (form_next (table_by c.args.source.now)) c.then_some.ensures ∙ step_if (table_by c.args.source.now) c.args.edges c.args.types c.in-Step.field-0 c.args.begun)
 
 pub returns-in-End : goal.returns-in-End
-returns-in-End c = rw c.in-End.is (c.on_end.ensures c.args.on)
-
-pub returns-in-Alien : goal.returns-in-Alien
-returns-in-Alien c = rw c.in-Alien.is (sym (form_stops _))
+returns-in-End c = rw c.in-End.is (c.on_end.ensures c.args.begun)

@@ -1,7 +1,7 @@
 -- `command_at` meets its contract: in each arm the byte is known, and `Commands` says which command stands there.
-use mathlib.Core.Path.{refl}
+use mathlib.Core.Path.{refl, ap, sym}
 use Rattle.model.specs.Definitions.Basics.{pick}
-use Rattle.model.specs.Definitions.Commands.{takes_operand, table_command}
+use Rattle.model.specs.Definitions.Commands.{takes_operand, table_command, list_type, member}
 use Rattle.table_form.proofs.Commands.{bare_at, paired_at, cut_at, other_at}
 use Rattle.table_form.proofs.command.command_at.Goals as goal
 
@@ -25,21 +25,21 @@ pub returns-in-23 : goal.returns-in-23
 unfolding takes_operand table_command pick
 returns-in-23 c = bare_at _ _ 0x17 c.in-23.is refl refl
 
-pub returns-then-at-t : goal.returns-then-at-t
+pub returns-in_ok-get-in-20 : goal.returns-in_ok-get-in-20
 unfolding takes_operand table_command pick
-returns-then-at-t c = paired_at _ _ 0x14 c.in-20.is refl c.if-at-t.true refl
+returns-in_ok-get-in-20 c = let h = c.in_ok-get-in-20.ensures.lookup in paired_at _ _ 0x14 c.in-20.is refl h.3.0 (ap list_type (sym (h.3.1 0)))
 
-pub returns-else-at-t : goal.returns-else-at-t
+pub returns-in_err-get-in-20 : goal.returns-in_err-get-in-20
 unfolding takes_operand table_command pick
-returns-else-at-t c = cut_at _ _ 0x14 c.in-20.is refl c.if-at-t.false
+returns-in_err-get-in-20 c = rw c.from_residual.ensures (cut_at _ _ 0x14 c.in-20.is refl c.in_err-get-in-20.ensures.lookup.3)
 
-pub returns-then-at-t-2 : goal.returns-then-at-t-2
+pub returns-in_ok-get-in-21 : goal.returns-in_ok-get-in-21
 unfolding takes_operand table_command pick
-returns-then-at-t-2 c = paired_at _ _ 0x15 c.in-21.is refl c.if-at-t-2.true refl
+returns-in_ok-get-in-21 c = let h = c.in_ok-get-in-21.ensures.lookup in paired_at _ _ 0x15 c.in-21.is refl h.3.0 (ap member (sym (h.3.1 0)))
 
-pub returns-else-at-t-2 : goal.returns-else-at-t-2
+pub returns-in_err-get-in-21 : goal.returns-in_err-get-in-21
 unfolding takes_operand table_command pick
-returns-else-at-t-2 c = cut_at _ _ 0x15 c.in-21.is refl c.if-at-t-2.false
+returns-in_err-get-in-21 c = rw c.from_residual-in_err-get-in-21.ensures (cut_at _ _ 0x15 c.in-21.is refl c.in_err-get-in-21.ensures.lookup.3)
 
 pub returns-in-31 : goal.returns-in-31
 unfolding takes_operand table_command pick
