@@ -1,6 +1,6 @@
 -- Which children of a source element are still to be read, by a cursor.
-use Rattle.std.specs.Prelude.{◌≡◌, true, List, ℕ, ◌+◌, ◌-◌, ◌*◌, ◌≤◌, ◌<◌, length, take, drop, get_or}
-use Rattle.std.proofs.Math.Option.{Option}
+use Rattle.std.specs.Prelude.{◌≡◌, true, List, ℕ, ◌+◌, ◌-◌, ◌*◌, ◌≤◌, ◌<◌, length, take, drop, get_or, Option, Some, None, Result, Ok, Err}
+use Rattle.std.proofs.Math.Option as model
 use Rattle.model.specs.Definitions.Content.{Content}
 use Rattle.model.specs.Definitions.Inverse.{Located, located, follow_at, Parts, done, broken, part, member_parts, choice_parts, item_parts, child_parts}
 use Rattle.loaded_table.specs.Loaded.{types_in, kinds_of, counts_of, members_in, table_by, sequence_kind}
@@ -14,8 +14,8 @@ use Rattle.children.specs.declared.Image.{Image}
 use Rattle.children.specs.declared.Rest.{Rest}
 use Rattle.children.specs.declared.Cursor.{Cursor}
 use Rattle.children.specs.declared.Cursor.TheVariants as cursor
-use Rattle.children.specs.declared.Part.{Part}
-use Rattle.children.specs.declared.Part.TheVariants as given
+use Rattle.children.specs.declared.Child.{Child}
+use Rattle.children.specs.declared.Missing.{Missing}
 
 -- an image of a source element of a known type, for an accepted setting, in the target document tr
 pub record ImageThere (source target map em tr sp : List ℕ) (image : Image) : Type 0 where
@@ -34,7 +34,7 @@ abbrev pub paths_left : List ℕ → List ℕ → List ℕ → ℕ → ℕ → L
 paths_left source map em σ i = paths_from em map (σ * 16 + i) (get_or (counts_of source) σ 0 - i)
 
 -- what stands at the end of a path from the image
-abbrev pub along : List ℕ → List ℕ → ℕ → Located → List ℕ → Option Located
+abbrev pub along : List ℕ → List ℕ → ℕ → Located → List ℕ → model.Option Located
 along target map σ l path = follow_at (table_by target) (get_or (targets_of map) σ 0) path l
 
 -- of a sequence those from edge i on are left
@@ -62,12 +62,13 @@ Shows source target map em σ tr l (cursor.Edges i) parts = LeftEdges source tar
 Shows source target map em σ tr l cursor.Choice parts = LeftChoice source target map em σ l parts
 Shows source target map em σ tr l (cursor.Items r) parts = LeftItems source target em tr r parts
 Shows source target map em σ tr l cursor.Last parts = parts ≡ done
-Shows source target map em σ tr l cursor.Lost parts = parts ≡ broken
 
--- at first all are left
-abbrev pub ShowsAll : List ℕ → List ℕ → List ℕ → List ℕ → List ℕ → Image → Cursor → Type 0
-ShowsAll source target map em tr image r =
-    (k : Content) → ContentAt tr image.from k → Shows source target map em image.sigma tr (located image.from k) r (child_parts (setting_in source target map em) image.sigma (located image.from k))
+-- at first all are left; or something is missing
+abbrev pub ShowsAll : List ℕ → List ℕ → List ℕ → List ℕ → List ℕ → Image → Result Cursor Missing → Type 0
+ShowsAll source target map em tr image (Ok c) =
+    (k : Content) → ContentAt tr image.from k → Shows source target map em image.sigma tr (located image.from k) c (child_parts (setting_in source target map em) image.sigma (located image.from k))
+ShowsAll source target map em tr image (Err e) =
+    (k : Content) → ContentAt tr image.from k → child_parts (setting_in source target map em) image.sigma (located image.from k) ≡ broken
 
 -- a number that falls with each child
 abbrev pub cursor_weight : List ℕ → Cursor → ℕ
@@ -75,7 +76,6 @@ cursor_weight tr (cursor.Edges i) = 17 - i
 cursor_weight tr cursor.Choice = 1
 cursor_weight tr (cursor.Items r) = 1 + (length tr - r.at)
 cursor_weight tr cursor.Last = 0
-cursor_weight tr cursor.Lost = 0
 
 -- the next child: its source type m, where what it is read from begins, and the cursor after it
 pub record GivesOne (source target map em : List ℕ) (σ : ℕ) (tr : List ℕ) (l : Located) (bound m o : ℕ) (then : Cursor) (parts : Parts) : Type 0 where
@@ -87,7 +87,7 @@ pub record GivesOne (source target map em : List ℕ) (σ : ℕ) (tr : List ℕ)
   pub less : cursor_weight tr then < bound
   pub is_type : m < types_in source
 
-abbrev pub Gives : List ℕ → List ℕ → List ℕ → List ℕ → ℕ → List ℕ → Located → ℕ → Part → Parts → Type 0
-Gives source target map em σ tr l bound (given.One m o then) parts = GivesOne source target map em σ tr l bound m o then parts
-Gives source target map em σ tr l bound given.Done parts = parts ≡ done
-Gives source target map em σ tr l bound given.Broken parts = parts ≡ broken
+abbrev pub Gives : List ℕ → List ℕ → List ℕ → List ℕ → ℕ → List ℕ → Located → ℕ → Result (Option Child) Missing → Parts → Type 0
+Gives source target map em σ tr l bound (Ok (Some child)) parts = GivesOne source target map em σ tr l bound child.image.sigma child.image.from child.then parts
+Gives source target map em σ tr l bound (Ok None) parts = parts ≡ done
+Gives source target map em σ tr l bound (Err e) parts = parts ≡ broken

@@ -21,7 +21,6 @@ use following::follow;
 use loaded_embedding::MAP;
 use loaded_table::{CHOICE, EMPTY, OPTIONAL, SEQUENCE, TABLE, TEXT, count, member};
 use paths::{choice_depth, list_depth};
-use scanning::Found;
 use scanning::spans::close_of;
 
 // A source type, and where the content of an image of an element of that type begins.
@@ -43,25 +42,27 @@ pub struct Rest {
 }
 
 // Which children of an element are still to be read: of a sequence those from an edge on; of a choice its member; of a
-// list its items; none; or something is missing.
-#[derive(Drop)]
+// list its items; or none.
+#[derive(Clone, Copy)]
 pub enum Cursor {
     Edges(usize),
     Choice,
     Items(Rest),
     Last,
-    Lost,
 }
 
-// The next child: its source type, where what it is read from begins, and the cursor after it; no more; or it is missing.
-#[derive(Drop)]
-pub enum Part {
-    One(usize, usize, Cursor),
-    Done,
-    Broken,
+// A child that was found: its image, and the cursor after it.
+#[derive(Clone, Copy)]
+pub struct Child {
+    pub image: Image,
+    pub then: Cursor,
 }
 
-// Where the path of edge i leads in an image.
+// What has to stand at the end of a path is missing.
+#[derive(Clone, Copy, Debug, PartialEq, Eq)]
+pub struct Missing;
+
+// Where the path of edge i leads in an image, if it can be followed.
 pub fn along<'a>(
     target: &[u16; TABLE],
     map: &[u16; MAP],
@@ -70,7 +71,7 @@ pub fn along<'a>(
     sp: &'a [u16],
     image: Image,
     i: usize,
-) -> Found
+) -> Option<usize>
     requires spans { Spans tr.now sp.now }
     requires place { (image.sigma < max_types) × (i < max_members) }
     requires path { Followable target.now em.now (get_or (starts_of map.now) (image.sigma * max_members + i) 0) (get_or (lengths_of map.now) (image.sigma * max_members + i) 0) (get_or (targets_of map.now) image.sigma 0) }
@@ -95,24 +96,21 @@ fn next_member<'a>(
     sp: &'a [u16],
     image: Image,
     i: usize,
-) -> Part
+) -> Result<Option<Child>, Missing>
     requires image { ImageThere source.now target.now map.now em.now tr.now sp.now image }
     requires left { (k : Content) × (parts : Parts) × ContentAt tr.now image.from k × LeftEdges source.now target.now map.now em.now image.sigma (located image.from k) i parts }
     ensures { (k : Content) (parts : Parts) → ContentAt tr.now image.from k → LeftEdges source.now target.now map.now em.now image.sigma (located image.from k) i parts → Gives source.now target.now map.now em.now image.sigma tr.now (located image.from k) (17 - i) result parts }
 {
     let sigma = image.sigma;
     if i == count(source, sigma) {
-        return Part::Done;
+        return Ok(None);
     }
-    let found = along(target, map, em, tr, sp, image, i);
-    match found {
-        Found::At(o) => {
-            let m = member(source, sigma, i);
-            let after = i + 1;
-            Part::One(m, o, Cursor::Edges(after))
-        }
-        Found::Missing => Part::Broken,
-    }
+    let from = along(target, map, em, tr, sp, image, i).ok_or(Missing)?;
+    let sigma = member(source, sigma, i);
+    Ok(Some(Child {
+        image: Image { sigma, from },
+        then: Cursor::Edges(i + 1),
+    }))
 }
 
 // The member of a choice, the first whose path is there. The loop goes over the edges.
@@ -124,53 +122,61 @@ fn next_choice<'a>(
     tr: &'a [u8],
     sp: &'a [u16],
     image: Image,
-) -> Part
+) -> Result<Option<Child>, Missing>
     requires image { ImageThere source.now target.now map.now em.now tr.now sp.now image }
     requires left { (k : Content) × (parts : Parts) × ContentAt tr.now image.from k × LeftChoice source.now target.now map.now em.now image.sigma (located image.from k) parts }
     ensures { (k : Content) (parts : Parts) → ContentAt tr.now image.from k → LeftChoice source.now target.now map.now em.now image.sigma (located image.from k) parts → Gives source.now target.now map.now em.now image.sigma tr.now (located image.from k) 1 result parts }
 {
     let sigma = image.sigma;
-    let members = count(source, sigma);
-    let mut i = 0;
-    while i < members {
-        let found = along(target, map, em, tr, sp, image, i);
-        if let Found::At(o) = found {
-            let m = member(source, sigma, i);
-            return Part::One(m, o, Cursor::Last);
+    for i in 0..count(source, sigma) {
+        if let Some(from) = along(target, map, em, tr, sp, image, i) {
+            let sigma = member(source, sigma, i);
+            return Ok(Some(Child {
+                image: Image { sigma, from },
+                then: Cursor::Last,
+            }));
         }
-        i += 1;
     }
-    Part::Broken
+    Err(Missing)
 }
 
 // The next item of a list.
-fn next_item<'a>(target: &[u16; TABLE], em: &[u8], tr: &'a [u8], sp: &'a [u16], rest: Rest) -> Part
+fn next_item<'a>(
+    target: &[u16; TABLE],
+    em: &[u8],
+    tr: &'a [u8],
+    sp: &'a [u16],
+    rest: Rest,
+) -> Result<Option<Child>, Missing>
     requires spans { Spans tr.now sp.now }
     requires left { (source : List ℕ) × (parts : Parts) × LeftItems source target.now em.now tr.now rest parts }
     ensures { (source map : List ℕ) (σ : ℕ) (l : Located) (parts : Parts) → LeftItems source target.now em.now tr.now rest parts → Gives source target.now map em.now σ tr.now l (1 + (length tr.now - rest.at)) result parts }
 {
     let at = rest.at;
-    let b = tr[at];
-    match b {
+    match tr[at] {
         OPENS => {
             let inside = at + 2;
             let close = close_of(tr, sp, inside);
-            let mut after = rest;
-            after.at = close + 1;
-            let found = follow(
+            let from = follow(
                 target, em, rest.start, rest.steps, rest.item, tr, sp, inside,
-            );
-            match found {
-                Found::At(o) => Part::One(rest.child, o, Cursor::Items(after)),
-                Found::Missing => Part::Broken,
-            }
+            )
+            .ok_or(Missing)?;
+            let sigma = rest.child;
+            let after = Rest {
+                at: close + 1,
+                ..rest
+            };
+            Ok(Some(Child {
+                image: Image { sigma, from },
+                then: Cursor::Items(after),
+            }))
         }
-        CHARACTER => Part::Broken,
-        _ => Part::Done,
+        CHARACTER => Err(Missing),
+        _ => Ok(None),
     }
 }
 
-// The next child by the cursor.
+// The next child by the cursor, if one is left.
 pub fn next<'a>(
     source: &[u16; TABLE],
     target: &[u16; TABLE],
@@ -180,7 +186,7 @@ pub fn next<'a>(
     sp: &'a [u16],
     image: Image,
     cursor: Cursor,
-) -> Part
+) -> Result<Option<Child>, Missing>
     requires image { ImageThere source.now target.now map.now em.now tr.now sp.now image }
     requires left { (k : Content) × (parts : Parts) × ContentAt tr.now image.from k × Shows source.now target.now map.now em.now image.sigma tr.now (located image.from k) cursor parts }
     ensures { (k : Content) (parts : Parts) → ContentAt tr.now image.from k → Shows source.now target.now map.now em.now image.sigma tr.now (located image.from k) cursor parts → Gives source.now target.now map.now em.now image.sigma tr.now (located image.from k) (cursor_weight tr.now cursor) result parts }
@@ -189,8 +195,7 @@ pub fn next<'a>(
         Cursor::Edges(i) => next_member(source, target, map, em, tr, sp, image, i),
         Cursor::Choice => next_choice(source, target, map, em, tr, sp, image),
         Cursor::Items(rest) => next_item(target, em, tr, sp, rest),
-        Cursor::Last => Part::Done,
-        Cursor::Lost => Part::Broken,
+        Cursor::Last => Ok(None),
     }
 }
 
@@ -203,7 +208,7 @@ fn begin_list<'a>(
     tr: &'a [u8],
     sp: &'a [u16],
     image: Image,
-) -> Cursor
+) -> Result<Cursor, Missing>
     requires image { ImageThere source.now target.now map.now em.now tr.now sp.now image }
     requires list { list_kind ≤ get_or (kinds_of source.now) image.sigma 0 }
     ensures { ShowsAll source.now target.now map.now em.now tr.now image result }
@@ -215,21 +220,16 @@ fn begin_list<'a>(
     let tau = loaded_embedding::target(map, sigma);
     let cut = list_depth(target, em, start, steps, tau);
     let depth = cut.depth;
-    let found = follow(target, em, start, depth, tau, tr, sp, image.from);
-    match found {
-        Found::At(o) => {
-            let before = depth + 1;
-            let rest = Rest {
-                at: o,
-                item: cut.item,
-                start: start + 2 * before,
-                steps: steps - before,
-                child: member(source, sigma, 0),
-            };
-            Cursor::Items(rest)
-        }
-        Found::Missing => Cursor::Lost,
-    }
+    let at = follow(target, em, start, depth, tau, tr, sp, image.from).ok_or(Missing)?;
+    let before = depth + 1;
+    let rest = Rest {
+        at,
+        item: cut.item,
+        start: start + 2 * before,
+        steps: steps - before,
+        child: member(source, sigma, 0),
+    };
+    Ok(Cursor::Items(rest))
 }
 
 // The cursor before the member of an optional choice: none where the optional choice that its paths agree on is there and empty.
@@ -244,7 +244,7 @@ fn begin_optional<'a>(
 ) -> Cursor
     requires image { ImageThere source.now target.now map.now em.now tr.now sp.now image }
     requires optional { get_or (kinds_of source.now) image.sigma 0 ≡ optional_kind }
-    ensures { ShowsAll source.now target.now map.now em.now tr.now image result }
+    ensures { ShowsAll source.now target.now map.now em.now tr.now image (Ok result) }
 {
     let sigma = image.sigma;
     let edge = sigma * MAX_MEMBERS;
@@ -252,16 +252,9 @@ fn begin_optional<'a>(
     let steps = loaded_embedding::steps(map, edge);
     let tau = loaded_embedding::target(map, sigma);
     let depth = choice_depth(target, em, start, steps, tau);
-    let found = follow(target, em, start, depth, tau, tr, sp, image.from);
-    match found {
-        Found::At(o) => {
-            if tr[o] == CLOSES {
-                Cursor::Last
-            } else {
-                Cursor::Choice
-            }
-        }
-        Found::Missing => Cursor::Choice,
+    match follow(target, em, start, depth, tau, tr, sp, image.from) {
+        Some(at) if tr[at] == CLOSES => Cursor::Last,
+        _ => Cursor::Choice,
     }
 }
 
@@ -274,16 +267,16 @@ pub fn begin<'a>(
     tr: &'a [u8],
     sp: &'a [u16],
     image: Image,
-) -> Cursor
+) -> Result<Cursor, Missing>
     requires image { ImageThere source.now target.now map.now em.now tr.now sp.now image }
     ensures { ShowsAll source.now target.now map.now em.now tr.now image result }
 {
     let kind = loaded_table::kind(source, image.sigma);
     match kind {
-        TEXT | EMPTY => Cursor::Last,
-        SEQUENCE => Cursor::Edges(0),
-        CHOICE => Cursor::Choice,
-        OPTIONAL => begin_optional(source, target, map, em, tr, sp, image),
+        TEXT | EMPTY => Ok(Cursor::Last),
+        SEQUENCE => Ok(Cursor::Edges(0)),
+        CHOICE => Ok(Cursor::Choice),
+        OPTIONAL => Ok(begin_optional(source, target, map, em, tr, sp, image)),
         _ => begin_list(source, target, map, em, tr, sp, image),
     }
 }

@@ -1,14 +1,18 @@
 -- The loop of `read_to`: one child a turn.
-use mathlib.Core.Path.{◌≡◌, refl, ap, ◌∙◌}
+use mathlib.Core.Path.{◌≡◌, refl, sym, ap, ◌∙◌}
 use mathlib.Core.List.{List}
 use mathlib.Core.Option.{Option, some}
 use Prim.Native.Nat.{ℕ, ◌+◌, ◌-◌, ◌≤◌, ◌<◌}
 use native.Mathlib.Omega.{arith}
 use lib.ListN.{length, get_or}
+use Rattle.std.specs.Prelude.{Some, None, Result, Ok, Err}
+use Rattle.std.specs.Result.{result_ok}
+use Rattle.std.proofs.lemmas.Option.{none-some, same_Some}
 use Rattle.model.specs.Definitions.Content.{Content, bytes}
 use Rattle.model.specs.Definitions.Image.{Setting}
 use Rattle.model.specs.Definitions.Inverse.{Located, located, Parts, done, broken, child_parts}
 use Rattle.model.proofs.Theorems.ReadsPlain.{plain_then, plain_parts}
+use Rattle.model.proofs.Theorems.Tools.{some_none}
 use Rattle.loaded_table.specs.Loaded.{types_in, kinds_of}
 use Rattle.loaded_setting.specs.Ready.{setting_in, Ready}
 use Rattle.scanning.specs.Scanning.{ContentAt}
@@ -18,6 +22,15 @@ use Rattle.children.specs.Cursors.{Shows, cursor_weight, GivesOne}
 use Rattle.inverse.specs.Reading.{read_as, element_of, ReadsTo}
 use Rattle.inverse.proofs.Joining.{Onto, onto_start, onto_missing, onto_done, child_refused, child_written}
 use Rattle.inverse.proofs.ByKind.{read_children_lem}
+
+-- what `ok` leaves of a Result tells the Result
+pub ok_value : {T E : Type 0} (r : Result T E) (x : T) → Some x ≡ result_ok r → r ≡ Ok x
+ok_value (Ok y) x e = ap Ok (same_Some y x (sym e))
+ok_value (Err d) x e = absurd (none-some x (sym e))
+
+pub ok_none : {T E : Type 0} (r : Result T E) → None ≡ result_ok r → (d : E) × (r ≡ Err d)
+ok_none (Ok y) e = absurd (none-some y e)
+ok_none (Err d) e = (d, refl)
 
 -- what a child of source type m is read as
 abbrev child_read : List ℕ → List ℕ → List ℕ → List ℕ → ℕ → ℕ → Located → Option Content
@@ -53,6 +66,15 @@ reading_start {source} {target} {map} {em} ready {σ} exists {from = from} {dept
             onto = onto_start old at₀ _ _ (read_children_lem ready exists depth some_level other (located from k));
           };
     }
+
+-- or one can't be begun with
+pub reading_broken : {source target map em : List ℕ} (ready : Ready source target map em) {σ : ℕ} (exists : σ < types_in source) {tr : List ℕ} {from depth : ℕ} (old : List ℕ) (at₀ : ℕ)
+    → (depth ≡ 0 → ⊥) → (get_or (kinds_of source) σ 0 ≡ 0 → ⊥)
+    → ((k : Content) → ContentAt tr from k → child_parts (setting_in source target map em) σ (located from k) ≡ broken)
+    → (k : Content) → ContentAt tr from k → (j : Content) → read_as (setting_in source target map em) depth σ (located from k) ≡ some j → length old < at₀ + length (bytes j)
+unfolding plain_parts
+reading_broken {source} {target} {map} {em} ready exists {from = from} {depth} old at₀ some_level other gone k a j e =
+    some_none e (read_children_lem ready exists depth some_level other (located from k) ∙ ap (plain_parts (child_read source target map em depth)) (gone k a))
 
 module _ {source target map em : List ℕ} {σ : ℕ} {tr : List ℕ} {from depth : ℕ} {old : List ℕ} {at₀ : ℕ} {out : List ℕ} {to : ℕ} {cursor : Cursor}
     (now : Reading source target map em σ tr from depth old at₀ out to cursor) where

@@ -18,30 +18,23 @@ ghost use Rattle.scanning.specs.Spanning.{Spans};
 ghost use Rattle.loaded_setting.specs.Ready.{setting_in, Ready};
 ghost use Rattle.model.specs.Definitions.TableChecks.{max_members, max_types};
 
-use children::{Image, Part, along, begin, next};
+use children::{Image, along, begin, next};
 use codes::ELEMENT_BYTES;
 use loaded_embedding::MAP;
 use loaded_table::{TABLE, TEXT};
-use scanning::Found;
 use scanning::spans::close_of;
 use writing::{copy, put_close, put_end, put_open};
 
 // An element to be read: its image, a bound of its levels, and where it is written.
-#[derive(Drop)]
+#[derive(Clone, Copy)]
 pub struct ToRead {
     pub image: Image,
     pub depth: usize,
     pub at: usize,
 }
 
-// What was read ends at an offset of the buffer; or something is missing, or the buffer is too short.
-#[derive(Drop)]
-pub enum Read {
-    To(usize),
-    Nothing,
-}
-
-// Reads a text: writes the characters that stand at the end of its path.
+// Reads a text: writes the characters that stand at the end of its path. The answer, here and below, is the offset after what was
+// written; there is none where something is missing or the buffer is too short.
 fn read_text<'a>(
     target: &[u16; TABLE],
     map: &[u16; MAP],
@@ -50,7 +43,7 @@ fn read_text<'a>(
     sp: &'a [u16],
     out: &mut [u8],
     task: ToRead,
-) -> Read
+) -> Option<usize>
     requires spans { Spans tr.now sp.now }
     requires place { task.image.sigma < max_types }
     requires path { Followable target.now em.now (get_or (starts_of map.now) (task.image.sigma * max_members + 0) 0) (get_or (lengths_of map.now) (task.image.sigma * max_members + 0) 0) (get_or (targets_of map.now) task.image.sigma 0) }
@@ -59,18 +52,12 @@ fn read_text<'a>(
     ensures { (k : Content) → ContentAt tr.now task.image.from k → ReadsInto out.old out.new task.at result (held_at (model.follow_at (table_by target.now) (get_or (targets_of map.now) task.image.sigma 0) (path_at em.now map.now (task.image.sigma * max_members + 0)) (located task.image.from k))) }
 {
     let at = task.at;
-    let found = along(target, map, em, tr, sp, task.image, 0);
-    match found {
-        Found::At(o) => {
-            let close = close_of(tr, sp, o);
-            if out.len() - at < close - o {
-                return Read::Nothing;
-            }
-            let end = copy(tr, o, close, out, at);
-            Read::To(end)
-        }
-        Found::Missing => Read::Nothing,
+    let from = along(target, map, em, tr, sp, task.image, 0)?;
+    let close = close_of(tr, sp, from);
+    if out.len() - at < close - from {
+        return None;
     }
+    Some(copy(tr, from, close, out, at))
 }
 
 // Reads what a source element holds from what its image holds, and writes it. The loop reads one child a turn.
@@ -84,7 +71,7 @@ fn read_to<'a>(
     sp: &'a [u16],
     out: &mut [u8],
     task: ToRead,
-) -> Read
+) -> Option<usize>
     requires image { ImageThere source.now target.now map.now em.now tr.now sp.now task.image }
     requires room { task.at ≤ length out.old }
     ensures { (k : Content) → ContentAt tr.now task.image.from k → ReadsInto out.old out.new task.at result (read_as (setting_in source.now target.now map.now em.now) task.depth task.image.sigma (located task.image.from k)) }
@@ -92,36 +79,23 @@ fn read_to<'a>(
     let image = task.image;
     let depth = task.depth;
     if depth == 0 {
-        return Read::Nothing;
+        return None;
     }
     if loaded_table::kind(source, image.sigma) == TEXT {
         return read_text(target, map, em, tr, sp, out, task);
     }
-    let mut cursor = begin(source, target, map, em, tr, sp, image);
+    let mut cursor = begin(source, target, map, em, tr, sp, image).ok()?;
     let mut to = task.at;
-    loop {
-        let part = next(source, target, map, em, tr, sp, image, cursor);
-        match part {
-            Part::One(m, o, then) => {
-                let inside = Image { sigma: m, from: o };
-                let below = ToRead {
-                    image: inside,
-                    depth: depth - 1,
-                    at: to,
-                };
-                let child = read_element(source, target, map, em, tr, sp, out, below);
-                match child {
-                    Read::To(end) => {
-                        to = end;
-                        cursor = then;
-                    }
-                    Read::Nothing => return Read::Nothing,
-                }
-            }
-            Part::Done => return Read::To(to),
-            Part::Broken => return Read::Nothing,
-        }
+    while let Some(child) = next(source, target, map, em, tr, sp, image, cursor).ok()? {
+        let below = ToRead {
+            image: child.image,
+            depth: depth - 1,
+            at: to,
+        };
+        to = read_element(source, target, map, em, tr, sp, out, below)?;
+        cursor = child.then;
     }
+    Some(to)
 }
 
 // Reads a source element from its image, and writes it with the bytes that open and close it.
@@ -135,30 +109,22 @@ fn read_element<'a>(
     sp: &'a [u16],
     out: &mut [u8],
     task: ToRead,
-) -> Read
+) -> Option<usize>
     requires image { ImageThere source.now target.now map.now em.now tr.now sp.now task.image }
     requires room { task.at ≤ length out.old }
     ensures { (k : Content) → ContentAt tr.now task.image.from k → ReadsInto out.old out.new task.at result (element_of task.image.sigma (read_as (setting_in source.now target.now map.now em.now) task.depth task.image.sigma (located task.image.from k))) }
 {
     let at = task.at;
     if out.len() - at < ELEMENT_BYTES {
-        return Read::Nothing;
+        return None;
     }
-    let sigma = task.image.sigma;
-    let inside = put_open(out, at, sigma as u8);
-    let mut content = task;
-    content.at = inside;
-    let held = read_to(source, target, map, em, tr, sp, out, content);
-    match held {
-        Read::To(end) => {
-            if end == out.len() {
-                return Read::Nothing;
-            }
-            let after = put_close(out, end);
-            Read::To(after)
-        }
-        Read::Nothing => Read::Nothing,
+    let inside = put_open(out, at, task.image.sigma as u8);
+    let content = ToRead { at: inside, ..task };
+    let end = read_to(source, target, map, em, tr, sp, out, content)?;
+    if end == out.len() {
+        return None;
     }
+    Some(put_close(out, end))
 }
 
 // Reads a whole target document: writes the source document that is read from it at the start of `out`. The document has
@@ -171,7 +137,7 @@ pub fn read_back<'a>(
     tr: &'a [u8],
     sp: &'a [u16],
     out: &mut [u8],
-) -> Read
+) -> Option<usize>
     requires spans { Spans tr.now sp.now }
     requires setting { Ready source.now target.now map.now em.now }
     requires document { (k : Content) × (tr.now ≡ document 0 k) }
@@ -182,15 +148,9 @@ pub fn read_back<'a>(
         depth: tr.len(),
         at: 0,
     };
-    let root = read_element(source, target, map, em, tr, sp, out, whole);
-    match root {
-        Read::To(end) => {
-            if end == out.len() {
-                return Read::Nothing;
-            }
-            let last = put_end(out, end);
-            Read::To(last)
-        }
-        Read::Nothing => Read::Nothing,
+    let end = read_element(source, target, map, em, tr, sp, out, whole)?;
+    if end == out.len() {
+        return None;
     }
+    Some(put_end(out, end))
 }

@@ -2,7 +2,7 @@
 use mathlib.Core.Path.{◌≡◌, refl, sym, ap, ◌∙◌}
 use mathlib.Core.List.{List}
 use mathlib.Core.Option.{Option, none, some}
-use Prim.Native.Nat.{ℕ, zero, suc, ◌+◌, ◌-◌, ◌≤◌, ◌<◌}
+use Prim.Native.Nat.{ℕ, zero, suc, ◌+◌, ◌≤◌, ◌<◌}
 use native.Mathlib.Omega.{arith}
 use lib.ListN.{length, get_or}
 use lib.Dec.{eqb}
@@ -29,22 +29,20 @@ unfolding child_at
 child_one t k r p one = rw one
 
 -- a later child is an earlier one of what follows
-child_later : (t : ℕ) (k r : Content) (p : ℕ) → 2 ≤ p → child_at (elem t k r) p ≡ child_at r (p - 1)
+child_later : (t : ℕ) (k r : Content) (p later : ℕ) → 1 ≤ later → p ≡ later + 1 → child_at (elem t k r) p ≡ child_at r later
 unfolding child_at
-child_later t k r zero more = absurd (omega arith)
-child_later t k r (suc zero) more = absurd (omega arith)
-child_later t k r (suc (suc p)) more = let less : suc (suc p) - 1 ≡ suc p = omega arith in rw less
+child_later t k r p zero more next = absurd (omega arith)
+child_later t k r p (suc later) more next = let two : p ≡ suc (suc later) = omega arith in rw two
 
 -- the bytes before it
 before_one : (t : ℕ) (k r : Content) (p : ℕ) → p ≡ 1 → bytes_before (elem t k r) p ≡ 0
 unfolding bytes_before
 before_one t k r p one = rw one
 
-before_later : (t : ℕ) (k r : Content) (p : ℕ) → 2 ≤ p → bytes_before (elem t k r) p ≡ 3 + length (bytes k) + bytes_before r (p - 1)
+before_later : (t : ℕ) (k r : Content) (p later : ℕ) → 1 ≤ later → p ≡ later + 1 → bytes_before (elem t k r) p ≡ 3 + length (bytes k) + bytes_before r later
 unfolding bytes_before
-before_later t k r zero more = absurd (omega arith)
-before_later t k r (suc zero) more = absurd (omega arith)
-before_later t k r (suc (suc p)) more = let less : suc (suc p) - 1 ≡ suc p = omega arith in rw less
+before_later t k r p zero more next = absurd (omega arith)
+before_later t k r p (suc later) more next = let two : p ≡ suc (suc later) = omega arith in rw two
 
 -- what is there begins where it was found, and what isn't has no offset
 found_there : {o : ℕ} (w : ℕ) {sought : Option Content} (k : Content) → sought ≡ some k → w ≡ o → found_at w sought ≡ some (located o k)
@@ -106,20 +104,19 @@ module _ {tr : List ℕ} {at w : ℕ} {sought : Option Content} {left : ℕ} (no
       pub reached-close : (at < close) × (close < length tr)
       reached-close = omega (arith, skips o.inside o.within, content_within o.within)
 
-      pub reached-next : 2 ≤ left → SearchReached tr (close + 1) w sought (left - 1)
-      reached-next more =
+      pub reached-next : (later : ℕ) → 1 ≤ later → left ≡ later + 1 → SearchReached tr (close + 1) w sought later
+      reached-next later more next =
           let place : at + 2 + length (bytes o.inside) ≡ close = sym (skips o.inside o.within) in
           record {
             content = o.next;
             there = rw place at (opens_next o);
-            same = same-opens ∙ child_later o.type o.inside o.next left more;
-            place = omega (arith, before-opens, before_later o.type o.inside o.next left more, place);
+            same = same-opens ∙ child_later o.type o.inside o.next left later more next;
+            place = omega (arith, before-opens, before_later o.type o.inside o.next left later more next, place);
           }
 
 -- the loop's invariant: so it is for every content that begins at `from`
-pub record Seeks (tr : List ℕ) (from p at left : ℕ) : Type 0 where
-  pub some_left : 1 ≤ left
-  pub reached : (k : Content) → ContentAt tr from k → SearchReached tr at (from + bytes_before k p + 2) (child_at k p) left
+abbrev pub Seeks : List ℕ → ℕ → ℕ → ℕ → ℕ → Type 0
+Seeks tr from p at left = (k : Content) → ContentAt tr from k → SearchReached tr at (from + bytes_before k p + 2) (child_at k p) left
 
 -- ---- a child by its type
 

@@ -1,5 +1,5 @@
 -- The distances to closing bytes, filled from the last offset to the first.
-use mathlib.Core.Path.{◌≡◌, refl, sym, ap, ◌∙◌, subst, subst₂}
+use mathlib.Core.Path.{◌≡◌, refl, sym, ap, ◌∙◌, subst₂}
 use mathlib.Core.Bool.{Bool, true, false}
 use mathlib.Core.List.{List, ◌∷◌}
 use Prim.Native.Nat.{ℕ, ◌+◌, ◌-◌, ◌≤◌, ◌<◌}
@@ -90,16 +90,6 @@ module _ (tr spans : List ℕ) (o : ℕ) (room : length tr ≤ length spans) (f 
   kept : (j : ℕ) → j < length tr → span_in tr spans j ≡ get_or spans j 0
   kept j less = get_or-take (length tr) spans j 0 less
 
-  -- what the span of an offset needs of those behind it
-  pub span_asked : o < length tr → length tr ≤ 60000
-      → (o < length (take (length tr) spans)) × (length (take (length tr) spans) ≤ 60000) × SpansWithin (take (length tr) spans) o
-  span_asked less short = (omega (arith, long), omega (arith, long), record { within = within })
-    where
-      within : (j : ℕ) → o < j → j < length (take (length tr) spans) → j + span_in tr spans j ≤ length (take (length tr) spans) + 1
-      within j low high =
-          let inside : j < length tr = omega (arith, long) in
-          rw (long, kept j inside) (f.bounded j (omega arith) inside)
-
   -- how far it is from an offset at which content begins, by the first command of the content
   span_of : {far : ℕ} → SpanAt (take (length tr) spans) (get_or tr o 0) o far → (k : Content) → ContentAt tr o k → far ≡ length (bytes k)
   unfolding bytes
@@ -118,10 +108,6 @@ module _ (tr spans : List ℕ) (o : ℕ) (room : length tr ≤ length spans) (f 
       omega (arith, far-is (omega (arith, content_within next, long)), length-append (bytes k) (0x32 ∷ bytes r))
 
   module _ {far : ℕ} (less : o < length tr) (s : SpanAt (take (length tr) spans) (get_or tr o 0) o far) where
-    -- a span is a number of 16 bits
-    pub far-short : length tr ≤ 60000 → far ≤ 60001
-    far-short short = omega (arith, s.short, long)
-
     -- one offset more is filled
     pub one-filled : FilledFrom tr o (set spans o far)
     one-filled =
@@ -199,13 +185,7 @@ module _ {tr old spans : List ℕ} {p near behind : ℕ} (g : Fills tr old spans
   less : q < length tr
   less = omega (arith, g.low)
 
-  -- the offset before it is asked for
-  pub fill_asked : (SpansRoom tr spans × (q < length tr) × FilledFrom tr (q + 1) spans) × (behind ≡ span_in tr spans (q + 2))
-  fill_asked =
-      let place : p + 1 ≡ q + 2 = omega arith in
-      (((asked.0, room), less, subst (λ (o : ℕ). FilledFrom tr o spans) is g.filled), g.behind_is ∙ ap (span_in tr spans) place)
-
-  -- and the loop has come to it
+  -- the loop has come to the offset before it
   pub fill_next : {after : List ℕ} {far : ℕ} → (after ≡ set spans q far) × FilledFrom tr q after → Fills tr old after q far near
   fill_next {after} {far} w =
       let same : set spans q far ≡ after = sym w.0 in

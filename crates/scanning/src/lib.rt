@@ -14,47 +14,35 @@ use spans::close_of;
 
 pub mod spans;
 
-// The offset at which what an element holds begins, or that there is no such element.
-#[derive(Drop)]
-pub enum Found {
-    At(usize),
-    Missing,
-}
-
-// Where the p-th child element's content begins, counted from 1, among the siblings that begin at `from`. The loop
-// skips one element a turn.
-pub fn child<'a>(tr: &'a [u8], sp: &'a [u16], from: usize, p: usize) -> Found
+// Where the p-th child element's content begins, counted from 1, among the siblings that begin at `from`, if there is one. The
+// loop skips one element a turn.
+pub fn child<'a>(tr: &'a [u8], sp: &'a [u16], from: usize, p: usize) -> Option<usize>
     requires spans { Spans tr.now sp.now }
     requires content { (k : Content) × ContentAt tr.now from k }
     ensures { (k : Content) → ContentAt tr.now from k → Finds tr.now result (found_at (from + bytes_before k p + 2) (child_at k p)) }
 {
     if p == 0 {
-        return Found::Missing;
+        return None;
     }
     let mut at = from;
-    let mut left = p;
-    while tr[at] == OPENS {
-        let inside = at + 2;
-        if left == 1 {
-            return Found::At(inside);
+    for _ in 1..p {
+        if tr[at] != OPENS {
+            return None;
         }
-        let close = close_of(tr, sp, inside);
+        let close = close_of(tr, sp, at + 2);
         at = close + 1;
-        left -= 1;
     }
-    Found::Missing
+    if tr[at] == OPENS { Some(at + 2) } else { None }
 }
 
 // Where the content of the first element of the siblings that begin at `from` begins, if that element has type t.
-pub fn child_of_type(tr: &[u8], from: usize, t: u8) -> Found
+pub fn child_of_type(tr: &[u8], from: usize, t: u8) -> Option<usize>
     requires { (k : Content) × ContentAt tr.now from k }
     ensures { (k : Content) → ContentAt tr.now from k → Finds tr.now result (found_at (from + 2) (child_of_type k t)) }
 {
-    if tr[from] == OPENS {
-        let second = from + 1;
-        if tr[second] == t {
-            return Found::At(from + 2);
-        }
+    if tr[from] == OPENS && tr[from + 1] == t {
+        Some(from + 2)
+    } else {
+        None
     }
-    Found::Missing
 }

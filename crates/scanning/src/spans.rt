@@ -11,7 +11,8 @@ use codes::{CHARACTER, OPENS};
 pub const SHORT: usize = 2048;
 
 // How far it is from offset o, where the byte b stands, to the 32 that closes the element around it, by how far it is from the
-// offsets behind o, `behind` from the second of them; 0 where the document ends too soon.
+// offsets behind o, `behind` from the second of them. Where the document ends too soon it is 0, as at a 32: it goes into an array of
+// two bytes an offset, and nobody asks for it.
 fn span_at(b: u8, spans: &[u16], o: usize, behind: usize) -> usize
     requires o_in_bounds { (o < length spans.now) × (length spans.now ≤ max_length) × SpansWithin spans.now o }
     requires behind { behind ≡ get_or spans.now (o + 2) 0 }
@@ -23,7 +24,7 @@ fn span_at(b: u8, spans: &[u16], o: usize, behind: usize) -> usize
             if spans.len() <= next {
                 return 0;
             }
-            next - o + spans[next] as usize
+            next - o + usize::from(spans[next])
         }
         CHARACTER => 2 + behind,
         _ => 0,
@@ -43,7 +44,8 @@ fn fill_span(tr: &[u8], spans: &mut [u16], o: usize, behind: usize) -> usize
 
 // Fills `spans`: for content that begins at an offset of the document, its length. The loop goes from the last offset to the
 // first, so that what is behind an offset is known, and takes two offsets a turn. `near` and `behind` are the spans of the offsets
-// o and o + 1: reading them from where they were just stored would take longer than all else.
+// o and o + 1: reading them from where they were just stored would take longer than all else, and a `for` over one offset a turn would
+// pass each from one to the other, which was measured to take a tenth longer.
 pub fn fill_spans(tr: &[u8], spans: &mut [u16])
     requires { SpansRoom tr.now spans.old }
     ensures { Spans tr.now spans.new }
@@ -67,5 +69,5 @@ pub fn close_of<'a>(tr: &'a [u8], spans: &'a [u16], from: usize) -> usize
     requires content { (k : Content) × ContentAt tr.now from k }
     ensures { (k : Content) → ContentAt tr.now from k → result ≡ from + length (bytes k) }
 {
-    from + spans[from] as usize
+    from + usize::from(spans[from])
 }

@@ -1,11 +1,13 @@
 -- Reading fails as its children do, once its own paths can be followed.
-use mathlib.Core.Path.{◌≡◌, refl, sym, ap₂, ◌∙◌}
+use mathlib.Core.Path.{◌≡◌, refl, sym, ap₂, ◌∙◌, subst}
 use mathlib.Core.Bool.{Bool, true, false, not}
 use mathlib.Core.List.{List}
-use mathlib.Core.Option.{Option, none, some}
+use mathlib.Core.Option as model
 use Prim.Native.Nat.{ℕ, zero, suc, ◌+◌, ◌-◌, ◌*◌, ◌<◌}
 use native.Mathlib.Omega.{arith}
 use lib.ListN.{get_or}
+use Rattle.std.specs.Prelude.{Option, Some, None}
+use Rattle.std.specs.Option.{is_some}
 use Rattle.model.specs.Definitions.Basics.{is_there}
 use Rattle.model.specs.Definitions.Table.{Kind, text, kind_of}
 use Rattle.model.specs.Definitions.Content.{Content, end, elem}
@@ -17,7 +19,7 @@ use Rattle.model.proofs.Theorems.ReadsPlain.{by_children}
 use Rattle.loaded_table.specs.Loaded.{types_in, kinds_of}
 use Rattle.loaded_embedding.specs.Loaded.{targets_of}
 use Rattle.loaded_setting.specs.Ready.{setting_in, Ready}
-use Rattle.scanning.specs.Finding.{FoundContent}
+use Rattle.scanning.specs.Finding.{Finds}
 use Rattle.paths.specs.Following.{path_at}
 use Rattle.paths.specs.Edges.{target_is, no_text, is_text_lem, text_path}
 use Rattle.unreadable.specs.Losing.{FailsAs, children_read, OwnPaths}
@@ -71,13 +73,10 @@ fails_broken read own now = now.fails own refl
 -- ---- own paths
 
 -- what was found is there, and what is missing is not
-pub there_found : {tr : List ℕ} {o : ℕ} {sought : Option Located} → FoundContent tr o sought → is_there sought ≡ true
+pub found_or_not : (tr : List ℕ) (r : Option ℕ) (sought : model.Option Located) → Finds tr r sought → is_there sought ≡ is_some r
 unfolding is_there
-there_found found = rw found.is
-
-pub nowhere_found : {sought : Option Located} → sought ≡ none → is_there sought ≡ false
-unfolding is_there
-nowhere_found e = rw e
+found_or_not tr (Some o) sought found = rw found.is
+found_or_not tr None sought miss = rw miss
 
 -- with no level left reading fails at the element
 pub read_zero : (X : Setting) (n σ : ℕ) (l : Located) → n ≡ 0 → read_to X n σ l ≡ missing (opened_at l)
@@ -114,11 +113,11 @@ module _ (X : Setting) (σ : ℕ) (l : Located) where
     by-path : (b : Bool) → is_there (follow_at X.target (target_of X.embedding σ) (first_path (paths_of X.embedding σ)) l) ≡ not b → OwnPaths X σ l b
     by-path b e = go b (follow_at X.target (target_of X.embedding σ) (first_path (paths_of X.embedding σ)) l) refl e
       where
-        go : (b : Bool) (o : Option Located) → follow_at X.target (target_of X.embedding σ) (first_path (paths_of X.embedding σ)) l ≡ o → is_there o ≡ not b → OwnPaths X σ l b
-        go true none f h = λ n. read-characters n ∙ unfold read_characters in rw f refl
-        go true (some a) f h = unfold is_there in true_false refl h
-        go false none f h = unfold is_there in true_false refl (sym h)
-        go false (some a) f h =
+        go : (b : Bool) (o : model.Option Located) → follow_at X.target (target_of X.embedding σ) (first_path (paths_of X.embedding σ)) l ≡ o → is_there o ≡ not b → OwnPaths X σ l b
+        go true model.none f h = λ n. read-characters n ∙ unfold read_characters in rw f refl
+        go true (model.some a) f h = unfold is_there in true_false refl h
+        go false model.none f h = unfold is_there in true_false refl (sym h)
+        go false (model.some a) f h =
             λ n.
             let read : read_to X (suc n) σ l ≡ yields a.holds = read-characters n ∙ unfold read_characters in rw f refl in
             record { fails = λ at q. let z : ◌≡◌ {A = ℕ} 0 1 = (let apart : yields end ≡ missing at = sym (no-children _ _) ∙ q in cc) in absurd (omega arith); succeeds = λ j q. (a.holds, read) }
@@ -127,6 +126,12 @@ module _ (X : Setting) (σ : ℕ) (l : Located) where
 pub fails_children : (X : Setting) (n σ : ℕ) (l : Located) → (n ≡ 0 → ⊥) → OwnPaths X σ l false → FailsAs (read_to X n σ l) (children_read X (n - 1) σ l)
 fails_children X zero σ l other own = absurd (other refl)
 fails_children X (suc n) σ l other own = let less : suc n - 1 ≡ n = omega arith in rw less (own n)
+
+-- where they can't be begun with, it fails at the element
+pub fails_begun : (X : Setting) (n σ : ℕ) (l : Located) → (n ≡ 0 → ⊥) → OwnPaths X σ l false → child_parts X σ l ≡ broken → read_to X n σ l ≡ missing (opened_at l)
+fails_begun X n σ l other own gone =
+    fails_broken (λ m a. read_to X (n - 1) m a) (opened_at l)
+    (subst (λ (parts : Parts). FailsAs (read_to X n σ l) (read_parts (λ m a. read_to X (n - 1) m a) (opened_at l) parts)) gone (fails_children X n σ l other own))
 
 -- with an own path missing it fails at the element
 pub fails_own : (X : Setting) (n σ : ℕ) (l : Located) → (n ≡ 0 → ⊥) → OwnPaths X σ l true → read_to X n σ l ≡ missing (opened_at l)

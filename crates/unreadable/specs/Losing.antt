@@ -1,15 +1,12 @@
 -- Where reading fails, by the model's definition of reading.
-use Rattle.std.specs.Prelude.{◌≡◌, Bool, true, false, ℕ, suc}
+use Rattle.std.specs.Prelude.{◌≡◌, Bool, true, false, ℕ, suc, Option, MatchOption}
 use Rattle.model.specs.Definitions.Content.{Content}
 use Rattle.model.specs.Definitions.Image.{Setting}
 use Rattle.model.specs.Definitions.Inverse.{Located, opened_at, child_parts, Reading, yields, missing, read_parts, read_to}
-use Rattle.unreadable.specs.declared.Lost.{Lost}
-use Rattle.unreadable.specs.declared.Lost.TheVariants as lost
 
 -- reading fails at this offset, or it yields something
-abbrev pub Loses : Lost → Reading → Type 0
-Loses (lost.At at) r = r ≡ missing at
-Loses lost.Nowhere r = (j : Content) × (r ≡ yields j)
+abbrev pub Loses : Option ℕ → Reading → Type 0
+Loses lost r = MatchOption lost ((j : Content) × (r ≡ yields j)) (λ at. r ≡ missing at)
 
 -- one reading fails where another does, and yields something where that does
 pub record FailsAs (whole rest : Reading) : Type 0 where

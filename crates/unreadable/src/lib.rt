@@ -17,27 +17,9 @@ ghost use Rattle.scanning.specs.Scanning.{ContentAt};
 ghost use Rattle.scanning.specs.Spanning.{Spans};
 ghost use Rattle.unreadable.specs.Losing.{Loses, OwnPaths};
 
-use children::{Image, Part, along, begin, next};
+use children::{Image, Missing, along, begin, next};
 use loaded_embedding::MAP;
 use loaded_table::{TABLE, TEXT};
-use scanning::Found;
-
-// The offset of the target element that stands for that source element; or all paths can be followed.
-#[derive(Drop)]
-pub enum Lost {
-    At(usize),
-    Nowhere,
-}
-
-// The offset of the element whose content begins at `from`: its 30 and its type stand before.
-fn opened_at(from: usize) -> usize
-    ensures { result ≡ from - 2 }
-{
-    if from < 2 {
-        return 0;
-    }
-    from - 2
-}
 
 // Whether a path of an element that is no text can't be followed. The loop goes over its children.
 fn is_broken<'a>(
@@ -52,38 +34,15 @@ fn is_broken<'a>(
     requires image { ImageThere source.now target.now map.now em.now tr.now sp.now image }
     ensures { (k : Content) → ContentAt tr.now image.from k → unbroken (child_parts (setting_in source.now target.now map.now em.now) image.sigma (located image.from k)) ≡ not result }
 {
-    let mut cursor = begin(source, target, map, em, tr, sp, image);
+    let Ok(mut cursor) = begin(source, target, map, em, tr, sp, image) else {
+        return true;
+    };
     loop {
-        let part = next(source, target, map, em, tr, sp, image, cursor);
-        match part {
-            Part::One(m, o, then) => {
-                cursor = then;
-            }
-            Part::Done => return false,
-            Part::Broken => return true,
+        match next(source, target, map, em, tr, sp, image, cursor) {
+            Ok(Some(child)) => cursor = child.then,
+            Ok(None) => return false,
+            Err(Missing) => return true,
         }
-    }
-}
-
-// Whether the path of a text can't be followed.
-fn is_text_missing<'a>(
-    target: &[u16; TABLE],
-    map: &[u16; MAP],
-    em: &[u8],
-    tr: &'a [u8],
-    sp: &'a [u16],
-    image: Image,
-) -> bool
-    requires spans { Spans tr.now sp.now }
-    requires place { image.sigma < max_types }
-    requires path { Followable target.now em.now (get_or (starts_of map.now) (image.sigma * max_members + 0) 0) (get_or (lengths_of map.now) (image.sigma * max_members + 0) 0) (get_or (targets_of map.now) image.sigma 0) }
-    requires content { (k : Content) × ContentAt tr.now image.from k }
-    ensures { (k : Content) → ContentAt tr.now image.from k → is_there (follow_at (table_by target.now) (get_or (targets_of map.now) image.sigma 0) (path_at em.now map.now (image.sigma * max_members + 0)) (located image.from k)) ≡ not result }
-{
-    let found = along(target, map, em, tr, sp, image, 0);
-    match found {
-        Found::At(o) => false,
-        Found::Missing => true,
     }
 }
 
@@ -101,13 +60,14 @@ fn is_missing<'a>(
     ensures { (k : Content) → ContentAt tr.now image.from k → OwnPaths (setting_in source.now target.now map.now em.now) image.sigma (located image.from k) result }
 {
     if loaded_table::kind(source, image.sigma) == TEXT {
-        return is_text_missing(target, map, em, tr, sp, image);
+        return along(target, map, em, tr, sp, image, 0).is_none();
     }
     is_broken(source, target, map, em, tr, sp, image)
 }
 
-// Where reading an element fails: at itself, if an own path is missing, else at the first of its children that fails. `depth` bounds
-// its levels. The loop goes over the children.
+// The offset of the target element that stands for the source element at which reading an element fails: itself, if an own path is
+// missing, else the first of its children that fails; none where all paths can be followed. `depth` bounds its levels. The loop goes
+// over the children.
 pub fn find_lost<'a>(
     source: &[u16; TABLE],
     target: &[u16; TABLE],
@@ -117,33 +77,28 @@ pub fn find_lost<'a>(
     sp: &'a [u16],
     image: Image,
     depth: usize,
-) -> Lost
+) -> Option<usize>
     requires image { ImageThere source.now target.now map.now em.now tr.now sp.now image }
     ensures { (k : Content) → ContentAt tr.now image.from k → Loses result (read_to (setting_in source.now target.now map.now em.now) depth image.sigma (located image.from k)) }
 {
-    let own = opened_at(image.from);
-    if depth == 0 {
-        return Lost::At(own);
+    let own = image.from.saturating_sub(2);
+    if depth == 0 || is_missing(source, target, map, em, tr, sp, image) {
+        return Some(own);
     }
-    if is_missing(source, target, map, em, tr, sp, image) {
-        return Lost::At(own);
-    }
-    let mut cursor = begin(source, target, map, em, tr, sp, image);
+    let Ok(mut cursor) = begin(source, target, map, em, tr, sp, image) else {
+        return Some(own);
+    };
     loop {
-        let part = next(source, target, map, em, tr, sp, image, cursor);
-        match part {
-            Part::One(m, o, then) => {
-                let inside = Image { sigma: m, from: o };
-                let child = find_lost(source, target, map, em, tr, sp, inside, depth - 1);
-                match child {
-                    Lost::At(at) => return Lost::At(at),
-                    Lost::Nowhere => {
-                        cursor = then;
-                    }
+        match next(source, target, map, em, tr, sp, image, cursor) {
+            Ok(Some(child)) => {
+                let inside = child.image;
+                if let Some(at) = find_lost(source, target, map, em, tr, sp, inside, depth - 1) {
+                    return Some(at);
                 }
+                cursor = child.then;
             }
-            Part::Done => return Lost::Nowhere,
-            Part::Broken => return Lost::At(own),
+            Ok(None) => return None,
+            Err(Missing) => return Some(own),
         }
     }
 }

@@ -13,8 +13,7 @@ pub fn put_open(out: &mut [u8], at: usize, t: u8) -> usize
     ensures { Writes out.old out.new at (0x30 ∷ t ∷ []) result }
 {
     out[at] = OPENS;
-    let second = at + 1;
-    out[second] = t;
+    out[at + 1] = t;
     at + 2
 }
 
@@ -36,17 +35,12 @@ pub fn put_end(out: &mut [u8], at: usize) -> usize
     at + 1
 }
 
-// Writes the bytes of `from` at a, a + 1, .., e - 1. What the loop has yet to write gives the whole.
+// Writes the bytes of `from` at a, a + 1, .., e - 1.
 pub fn copy(from: &[u8], a: usize, e: usize, out: &mut [u8], at: usize) -> usize
     requires { (a ≤ e) × (e ≤ length from.now) × (at + (e - a) ≤ length out.old) }
     ensures { Writes out.old out.new at (take (e - a) (drop a from.now)) result }
 {
-    let mut i = a;
-    let mut to = at;
-    while i < e {
-        out[to] = from[i];
-        to += 1;
-        i += 1;
-    }
-    to
+    let end = at + (e - a);
+    out[at..end].copy_from_slice(&from[a..e]);
+    end
 }

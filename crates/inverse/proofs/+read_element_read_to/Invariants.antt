@@ -11,9 +11,9 @@ decreases-read_element l = 2 * l.task.depth + 1
 abbrev pub decreases-read_to : goal.decreases-read_to
 decreases-read_to l = 2 * l.task.depth
 
-abbrev pub invariant-read_to-loop-m : goal.invariant-read_to-loop-m
-invariant-read_to-loop-m l =
+abbrev pub invariant-read_to-loop-child : goal.invariant-read_to-loop-child
+invariant-read_to-loop-child l =
     Reading l.source l.target l.map l.em l.image.sigma l.tr l.image.from l.depth l.initial.out l.initial.to l.out l.to l.cursor
 
-abbrev pub decreases-read_to-loop-m : goal.decreases-read_to-loop-m
-decreases-read_to-loop-m l = cursor_weight l.tr l.cursor
+abbrev pub decreases-read_to-loop-child : goal.decreases-read_to-loop-child
+decreases-read_to-loop-child l = cursor_weight l.tr l.cursor

@@ -10,13 +10,13 @@ use Rattle.unreadable.proofs.+find_lost.Given as goal
 abbrev pub decreases-find_lost : goal.decreases-find_lost
 decreases-find_lost l = l.depth
 
-abbrev pub invariant-loop-m : goal.invariant-loop-m
-invariant-loop-m l =
+abbrev pub invariant-loop-child : goal.invariant-loop-child
+invariant-loop-child l =
     let X = setting_in l.source l.target l.map l.em in
     let σ = l.image.sigma in
     let depth = l.depth in
     Going l.source l.target l.map l.em σ l.tr l.image.from
     (λ k parts. FailsAs (read_to X depth σ k) (read_parts (λ m a. read_to X (depth - 1) m a) (opened_at k) parts)) l.cursor
 
-abbrev pub decreases-loop-m : goal.decreases-loop-m
-decreases-loop-m l = cursor_weight l.tr l.cursor
+abbrev pub decreases-loop-child : goal.decreases-loop-child
+decreases-loop-child l = cursor_weight l.tr l.cursor

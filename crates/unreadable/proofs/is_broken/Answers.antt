@@ -1,29 +1,29 @@
-use mathlib.Core.Path.{refl}
+use mathlib.Core.Path.{refl, ap}
 use Rattle.model.specs.Definitions.Inverse.{unbroken}
 use Rattle.unreadable.proofs.Going.{going_start, going_shows, going_ends, going_less, going_on}
 use Rattle.unreadable.proofs.is_broken.Goals as goal
 
-pub begin-cursor-requires : goal.begin-cursor-requires
-begin-cursor-requires c = c.requires
-
-pub loop-m-init : goal.loop-m-init
-loop-m-init c = going_start _ c.requires.image.content c.begin-cursor.ensures (λ k a. refl)
-
-pub next-part-requires : goal.next-part-requires
-next-part-requires c = record { image = c.requires.image; left = going_shows c.loop-m.invariant }
-
-pub loop-m-smaller : goal.loop-m-smaller
-loop-m-smaller c = going_less c.loop-m.invariant (rw c.in-One.is at c.next-part.ensures)
-
-pub loop-m-preserved : goal.loop-m-preserved
+pub returns-in_default : goal.returns-in_default
 unfolding unbroken
-loop-m-preserved c =
-    going_on c.loop-m.invariant (rw c.in-One.is at c.next-part.ensures) (λ l j rest a same. same)
+returns-in_default c k a = ap unbroken (c.in_default.ensures k a)
 
-pub returns-in-Done : goal.returns-in-Done
-unfolding unbroken
-returns-in-Done c k a = going_ends c.loop-m.invariant (rw c.in-Done.is at c.next-part.ensures) k a
+pub loop-child-init : goal.loop-child-init
+loop-child-init c = going_start _ c.requires.image.content c.in-Ok.ensures (λ k a. refl)
 
-pub returns-in-Broken : goal.returns-in-Broken
+pub next-requires-clause-left : goal.next-requires-clause-left
+next-requires-clause-left c = going_shows c.loop-child.invariant
+
+pub loop-child-smaller : goal.loop-child-smaller
+loop-child-smaller c = going_less c.loop-child.invariant (rw c.in-Ok-Some.field-0-is at c.in-Ok-Some.ensures)
+
+pub loop-child-preserved : goal.loop-child-preserved
 unfolding unbroken
-returns-in-Broken c k a = going_ends c.loop-m.invariant (rw c.in-Broken.is at c.next-part.ensures) k a
+loop-child-preserved c = going_on c.loop-child.invariant (rw c.in-Ok-Some.field-0-is at c.in-Ok-Some.ensures) (λ l j rest a same. same)
+
+pub returns-in-Ok-None : goal.returns-in-Ok-None
+unfolding unbroken
+returns-in-Ok-None c k a = going_ends c.loop-child.invariant (rw c.in-Ok-None.field-0-is at c.in-Ok-None.ensures) k a
+
+pub returns-in-Err : goal.returns-in-Err
+unfolding unbroken
+returns-in-Err c k a = going_ends c.loop-child.invariant c.in-Err.ensures k a

@@ -6,9 +6,9 @@ use Rattle.children.specs.Cursors.{cursor_weight}
 use Rattle.unreadable.proofs.Going.{Going}
 use Rattle.unreadable.proofs.is_broken.Given as goal
 
-abbrev pub invariant-loop-m : goal.invariant-loop-m
-invariant-loop-m l =
+abbrev pub invariant-loop-child : goal.invariant-loop-child
+invariant-loop-child l =
     Going l.source l.target l.map l.em l.image.sigma l.tr l.image.from (λ k parts. unbroken (child_parts (setting_in l.source l.target l.map l.em) l.image.sigma k) ≡ unbroken parts) l.cursor
 
-abbrev pub decreases-loop-m : goal.decreases-loop-m
-decreases-loop-m l = cursor_weight l.tr l.cursor
+abbrev pub decreases-loop-child : goal.decreases-loop-child
+decreases-loop-child l = cursor_weight l.tr l.cursor

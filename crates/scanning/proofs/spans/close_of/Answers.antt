@@ -11,11 +11,5 @@ offset_bounds-spans-from c = omega (arith, content_within c.requires.content.1, 
 pub bounds-spans-from : goal.bounds-spans-from
 bounds-spans-from c = omega (arith, content_within c.requires.content.1, c.requires.spans.whole)
 
-pub overflow_cast-result : goal.overflow_cast-result
-overflow_cast-result c = omega (arith, content_within c.requires.content.1, c.requires.spans.short, c.requires.spans.span_is _ _ c.requires.content.1)
-
-pub overflow_add-result : goal.overflow_add-result
-overflow_add-result c = omega (arith, content_within c.requires.content.1, c.requires.spans.short, c.requires.spans.span_is _ _ c.requires.content.1)
-
 pub returns : goal.returns
-returns c k a = ap (λ (n : ℕ). c.args.from + n) (c.requires.spans.span_is _ k a)
+returns c k a = rw c.from.ensures (ap (λ (n : ℕ). c.args.from + n) (c.requires.spans.span_is _ k a))
