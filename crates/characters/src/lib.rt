@@ -7,7 +7,7 @@ ghost use Rattle.model.specs.Definitions.Characters as model;
 ghost use Rattle.characters.specs.Classes.{class};
 
 // A character is written as itself, as an entity or as a decimal character reference, or it is not allowed.
-#[derive(Drop)]
+#[derive(Clone, Copy, Debug, PartialEq, Eq)]
 pub enum CharacterClass {
     Plain,
     Entity,
@@ -34,9 +34,5 @@ pub fn class_of(c: u8) -> CharacterClass
 pub fn allowed(c: u8) -> bool
     ensures { result ≡ model.allowed c }
 {
-    let class = class_of(c);
-    match class {
-        CharacterClass::NotAllowed => false,
-        _ => true,
-    }
+    class_of(c) != CharacterClass::NotAllowed
 }

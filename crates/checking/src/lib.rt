@@ -10,8 +10,8 @@ ghost use Rattle.checking.specs.Checks.{Turn, Ending};
 
 // The state of a check among the commands of a document.
 pub trait Check: Drop {
-    // What may be assumed of a state.
-    ghost fits: { Self → Type 0 };
+    // What may be assumed of a state at an offset.
+    ghost fits: { Self → ℕ → Type 0 };
 
     // The verdict on what is left of a document, in a state at an offset.
     ghost rest: { List ℕ → Self → ℕ → Verdict };
@@ -19,18 +19,17 @@ pub trait Check: Drop {
     // Takes the command at an offset: its width, or none where it is refused.
     fn step(&mut self, document: &[u8], at: usize) -> Option<usize>
         requires inside { at < length document.now }
-        requires fit { fits self.old }
+        requires fit { fits self.old at }
         ensures { Turn fits rest document.now at self.old self.new result };
 
     // Whether a document may end in this state.
     fn may_end(&self) -> bool
-        requires { fits self.now }
         ensures { Ending rest self.now result };
 }
 
 // The lowest place at which a check refuses a document. Each turn takes one command off what is left, and keeps the verdict.
 pub fn run<C: Check>(begin: C, document: &[u8]) -> Result<(), usize>
-    requires { C.fits begin }
+    requires { C.fits begin 0 }
     ensures { verdict result ≡ C.rest document.now begin 0 }
 {
     let mut state = begin;

@@ -11,6 +11,7 @@ use lib.ListN.{length, take, drop, get_or, length-take, length-drop, drop_of_len
 use lib.Seq.{drop-cons, get_or-take, get_or-drop}
 use lib.Dec.{eqb, leb, leb-zero, leb-suc-zero, leb-suc-suc, eqb-suc-zero}
 use borrow.Author.Tests.{eq-eqb, ne_eqb}
+use Rattle.std.specs.Prelude.{Some, None}
 use Rattle.model.specs.Definitions.Basics.{member_of}
 use Rattle.model.specs.Definitions.Commands.{Need, needed, optional}
 use Rattle.model.specs.Definitions.Table.{empty, sequence, list, is_text}
@@ -71,12 +72,12 @@ list_rest c n l h = list_codes (λ (k : ℕ). rest_from k n l h ≡ list (get_or
 -- ---- what the answer to an opening says, by the kind of the type
 
 -- no element may come
-opening_none : (rows : List ℕ) (m h x : ℕ) → false ≡ admits (rest_of rows m h) x → Opening rows m h x 0
-opening_none rows m h x e = record { refused = λ z. sym e; admitted = λ p. absurd (omega arith); onward = λ p. absurd (omega arith) }
+opening_none : (rows : List ℕ) (m h x : ℕ) → false ≡ admits (rest_of rows m h) x → Opening rows m h x None
+opening_none rows m h x e = sym e
 
 -- one may, and r says what may follow it
-opening_some : (rows : List ℕ) (m h x r : ℕ) → 0 < r → true ≡ admits (rest_of rows m h) x → rest_of rows m r ≡ after (rest_of rows m h) → Opening rows m h x r
-opening_some rows m h x r p e f = record { refused = λ z. absurd (omega arith); admitted = λ q. sym e; onward = λ q. f }
+opening_some : (rows : List ℕ) (m h x r : ℕ) → 0 < r → true ≡ admits (rest_of rows m h) x → rest_of rows m r ≡ after (rest_of rows m h) → Opening rows m h x (Some r)
+opening_some rows m h x r p e f = record { some = p; admitted = sym e; onward = f }
 
 module _ (rows : List ℕ) (m h x : ℕ) where
   -- the kind's code
@@ -92,12 +93,12 @@ module _ (rows : List ℕ) (m h x : ℕ) where
   row = drop (m * 16) (members_in rows)
 
   -- a text or an empty type admits no element
-  pub opening_nothing : get_or (kinds_of rows) m 0 < 2 → Opening rows m h x 0
+  pub opening_nothing : get_or (kinds_of rows) m 0 < 2 → Opening rows m h x None
   unfolding code count row
   opening_nothing low = opening_none rows m h x (none_admits code count row h x low)
 
   -- a sequence admits nothing behind its last member
-  pub opening_past : get_or (kinds_of rows) m 0 ≡ 2 → get_or (counts_of rows) m 0 ≤ h → Opening rows m h x 0
+  pub opening_past : get_or (kinds_of rows) m 0 ≡ 2 → get_or (counts_of rows) m 0 ≤ h → Opening rows m h x None
   unfolding admits count row
   opening_past e past =
       let short : length (take count row) ≤ h = simp length-take (omega arith) in
@@ -114,13 +115,13 @@ module _ (rows : List ℕ) (m h x : ℕ) where
       = drop-cons (take count row) h 0 within ∙ ap (λ (t : ℕ). t ∷ drop (suc h) (take count row)) here in
       rw (e, members)
 
-  pub opening_next : TypeReadable rows m → get_or (kinds_of rows) m 0 ≡ 2 → h < get_or (counts_of rows) m 0 → x ≡ get_or (members_in rows) (m * 16 + h) 0 → Opening rows m h x (h + 1)
+  pub opening_next : TypeReadable rows m → get_or (kinds_of rows) m 0 ≡ 2 → h < get_or (counts_of rows) m 0 → x ≡ get_or (members_in rows) (m * 16 + h) 0 → Opening rows m h x (Some (h + 1))
   unfolding count row
   opening_next r e next same =
       let onward : rest_of rows m (h + 1) ≡ after (rest_of rows m h) = rw (e, add-one h) (sequence_suc (take count row) h) in
       opening_some rows m h x (h + 1) (omega arith) (sym (eq-eqb _ _ same) ∙ sequence_admits r e next) onward
 
-  pub opening_other : TypeReadable rows m → get_or (kinds_of rows) m 0 ≡ 2 → h < get_or (counts_of rows) m 0 → (x ≡ get_or (members_in rows) (m * 16 + h) 0 → ⊥) → Opening rows m h x 0
+  pub opening_other : TypeReadable rows m → get_or (kinds_of rows) m 0 ≡ 2 → h < get_or (counts_of rows) m 0 → (x ≡ get_or (members_in rows) (m * 16 + h) 0 → ⊥) → Opening rows m h x None
   opening_other r e next other = opening_none rows m h x (sym (ne_eqb _ _ other) ∙ sequence_admits r e next)
 
   -- a choice of either kind admits no second member, and as the first one of its members
@@ -129,7 +130,7 @@ module _ (rows : List ℕ) (m h x : ℕ) where
     unfolding code count row
     choice-here n = choice_rest code count row n low high
 
-    pub opening-second : (h ≡ 0 → ⊥) → Opening rows m h x 0
+    pub opening-second : (h ≡ 0 → ⊥) → Opening rows m h x None
     unfolding admits
     opening-second some = opening_none rows m h x (rw (choice-here h ∙ rest_chosen _ _ h some))
 
@@ -137,11 +138,11 @@ module _ (rows : List ℕ) (m h x : ℕ) where
     unfolding admits
     choice-admits none found = rw (choice-here h, none) found
 
-    pub opening-member : {b : Bool} → h ≡ 0 → b ≡ member_of x (take (get_or (counts_of rows) m 0) (drop (m * 16) (members_in rows))) → b ≡ true → Opening rows m h x 1
+    pub opening-member : {b : Bool} → h ≡ 0 → b ≡ member_of x (take (get_or (counts_of rows) m 0) (drop (m * 16) (members_in rows))) → b ≡ true → Opening rows m h x (Some 1)
     unfolding after
     opening-member none found yes-it-is = opening_some rows m h x 1 (omega arith) (sym yes-it-is ∙ choice-admits none found) (rw (choice-here 1, choice-here h, none))
 
-    pub opening-no-member : {b : Bool} → h ≡ 0 → b ≡ member_of x (take (get_or (counts_of rows) m 0) (drop (m * 16) (members_in rows))) → b ≡ false → Opening rows m h x 0
+    pub opening-no-member : {b : Bool} → h ≡ 0 → b ≡ member_of x (take (get_or (counts_of rows) m 0) (drop (m * 16) (members_in rows))) → b ≡ false → Opening rows m h x None
     opening-no-member none found no_way = opening_none rows m h x (sym no_way ∙ choice-admits none found)
 
   -- a list admits its item type
@@ -150,11 +151,11 @@ module _ (rows : List ℕ) (m h x : ℕ) where
     unfolding code count row
     list-here n = list_rest code count row n high ∙ ap list (get_or-drop (m * 16) (members_in rows) 0 0)
 
-    pub opening-item : x ≡ get_or (members_in rows) (m * 16 + 0) 0 → Opening rows m h x 1
+    pub opening-item : x ≡ get_or (members_in rows) (m * 16 + 0) 0 → Opening rows m h x (Some 1)
     unfolding admits after
     opening-item same = opening_some rows m h x 1 (omega arith) (rw (list-here h) (sym (eq-eqb _ _ same))) (rw (list-here h) (list-here 1))
 
-    pub opening-no-item : (x ≡ get_or (members_in rows) (m * 16 + 0) 0 → ⊥) → Opening rows m h x 0
+    pub opening-no-item : (x ≡ get_or (members_in rows) (m * 16 + 0) 0 → ⊥) → Opening rows m h x None
     unfolding admits
     opening-no-item other = opening_none rows m h x (rw (list-here h) (sym (ne_eqb _ _ other)))
 

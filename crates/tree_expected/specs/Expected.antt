@@ -1,6 +1,6 @@
 -- What may still follow in an open element, by its type in a loaded table and how many elements it has had; and what a loop
 -- keeps that makes check 11.
-use Rattle.std.specs.Prelude.{◌≡◌, Bool, true, false, List, [], ◌∷◌, ℕ, zero, suc, ◌+◌, ◌*◌, ◌<◌, length, take, drop, get_or}
+use Rattle.std.specs.Prelude.{◌≡◌, Bool, true, false, List, [], ◌∷◌, ℕ, zero, suc, ◌+◌, ◌*◌, ◌<◌, length, take, drop, get_or, Option, Some, None}
 use Rattle.model.specs.Definitions.Basics.{Verdict, passes, run}
 use Rattle.model.specs.Definitions.Commands.{Need, needed, optional, TreeCommand, opens, character, closes, tree_end, alien_t, tree_commands, tree_width}
 use Rattle.model.specs.Definitions.Conformance.{admits, after, complete}
@@ -12,7 +12,8 @@ use Rattle.tree_form.specs.Form.{InForm}
 use Rattle.tree_levels.specs.Levels.{InLevels}
 use Rattle.tree_operands.specs.Operands.{InOperands}
 use Rattle.tree_expected.specs.declared.Turn.{Turn}
-use Rattle.tree_expected.specs.declared.Turn.TheVariants.{Opened, Character, Closed, Refused}
+use Rattle.tree_expected.specs.declared.Turn.TheVariants.{Opened, Character, Closed}
+use Rattle.tree_expected.specs.declared.Open.{Open}
 
 -- ---- what may still follow
 
@@ -39,11 +40,16 @@ pub record TypeReadable (rows : List ℕ) (t : ℕ) : Type 0 where
   pub bounded : Bounded rows
   pub below : t < 64
 
--- what the number r says of an element of type x that comes behind h others in one of type m
-pub record Opening (rows : List ℕ) (m h x r : ℕ) : Type 0 where
-  pub refused : r ≡ 0 → admits (rest_of rows m h) x ≡ false
-  pub admitted : 0 < r → admits (rest_of rows m h) x ≡ true
-  pub onward : 0 < r → rest_of rows m r ≡ after (rest_of rows m h)
+-- an element of type x may come behind h others in one of type m, and r says what may follow it
+pub record Admits (rows : List ℕ) (m h x r : ℕ) : Type 0 where
+  pub some : 0 < r
+  pub admitted : admits (rest_of rows m h) x ≡ true
+  pub onward : rest_of rows m r ≡ after (rest_of rows m h)
+
+-- what an answer says of an element of type x that comes behind h others in one of type m
+abbrev pub Opening : List ℕ → ℕ → ℕ → ℕ → Option ℕ → Type 0
+Opening rows m h x (Some r) = Admits rows m h x r
+Opening rows m h x None = admits (rest_of rows m h) x ≡ false
 
 -- whether an element of type m holds text, however many elements it has had
 abbrev pub SaysText : List ℕ → ℕ → Bool → Type 0
@@ -54,8 +60,7 @@ SaysText rows m b = (h : ℕ) → b ≡ is_text (rest_of rows m h)
 -- an element of type x that may come is opened, and `next` is how many there are then
 pub record MayOpen (rows bs : List ℕ) (m h at x next : ℕ) : Type 0 where
   pub reads : ReadsCommand bs at (opens x)
-  pub opening : Opening rows m h x next
-  pub some : 0 < next
+  pub opening : Admits rows m h x next
 
 -- a character that may come
 pub record MayHold (rows bs : List ℕ) (m h at c : ℕ) : Type 0 where
@@ -82,18 +87,22 @@ pub record Refuses (rows bs : List ℕ) (m h at : ℕ) : Type 0 where
   pub unfit : Unfit (rest_of rows m h) met
 
 -- what an answer says of the command at an offset
-abbrev pub Does : List ℕ → List ℕ → ℕ → ℕ → ℕ → Turn → Type 0
-Does rows bs m h at (Opened x next) = MayOpen rows bs m h at x next
-Does rows bs m h at (Character c) = MayHold rows bs m h at c
-Does rows bs m h at Closed = Closes rows bs m h at
-Does rows bs m h at Refused = Refuses rows bs m h at
+abbrev pub Does : List ℕ → List ℕ → ℕ → ℕ → ℕ → Option Turn → Type 0
+Does rows bs m h at (Some (Opened x next)) = MayOpen rows bs m h at x next
+Does rows bs m h at (Some (Character c)) = MayHold rows bs m h at c
+Does rows bs m h at (Some Closed) = Closes rows bs m h at
+Does rows bs m h at None = Refuses rows bs m h at
 
 -- ---- the elements around
 
+-- the n-th of the open elements, the outermost first
+abbrev pub open_at : List Open → ℕ → Open
+open_at around n = get_or around n (record { kind = 0; had = 0 })
+
 -- what may follow in each of n open elements, the innermost first, and in the document, which has its root
-unfoldable pub rests : List ℕ → List ℕ → List ℕ → ℕ → List Kind
-rests rows opened had zero = sequence [] ∷ []
-rests rows opened had (suc n) = rest_of rows (get_or opened n 0) (get_or had n 0) ∷ rests rows opened had n
+unfoldable pub rests : List ℕ → List Open → ℕ → List Kind
+rests rows around zero = sequence [] ∷ []
+rests rows around (suc n) = rest_of rows (open_at around n).kind (open_at around n).had ∷ rests rows around n
 
 -- ---- check 11
 
@@ -114,17 +123,16 @@ pub record InRoot (rows bs : List ℕ) : Type 0 where
   pub root : ReadsCommand bs 0 (opens 0)
 
 -- The machines of the four checks at an offset in an element of type m that has had h elements: what is left gives the
--- verdict of the whole. The arrays have the types of the `top` elements around it, and how many elements each has had.
-pub record Inside (rows bs opened had : List ℕ) (top m h at : ℕ) : Type 0 where
+-- verdict of the whole. The array has the `top` elements around it.
+pub record Inside (rows bs : List ℕ) (around : List Open) (top m h at : ℕ) : Type 0 where
   pub bounded : Bounded rows
   pub form : InForm bs (top + 1) at
   pub levels : InLevels bs (top + 1) at
   pub operands : InOperands (types_in rows) bs at
-  pub room_opened : length opened ≡ 128
-  pub room_had : length had ≡ 128
-  pub types_exist : (i : ℕ) → i < top → get_or opened i 0 < types_in rows
+  pub room : length around ≡ 128
+  pub types_exist : (i : ℕ) → i < top → (open_at around i).kind < types_in rows
   pub type_exists : m < types_in rows
-  pub whole : expected_left (table_by rows) bs (rest_of rows m h ∷ rests rows opened had top) at ≡ tree_expected (table_by rows) bs
+  pub whole : expected_left (table_by rows) bs (rest_of rows m h ∷ rests rows around top) at ≡ tree_expected (table_by rows) bs
 
 -- the same behind the root element
 pub record Outside (rows bs : List ℕ) (at : ℕ) : Type 0 where

@@ -1,24 +1,72 @@
 -- The loop of the form check: what its machine does at each command, and what is left behind it.
 use mathlib.Core.Path.{◌≡◌, refl, sym, ◌∙◌}
+use mathlib.Core.Bool.{false}
 use mathlib.Core.List.{List}
+use Rattle.std.specs.Prelude.{⊤}
 use Prim.Native.Nat.{ℕ, zero, suc, ◌+◌, ◌-◌, ◌≤◌, ◌<◌}
 use native.Mathlib.Numerals.{add-one, sub-one}
 use native.Mathlib.Omega.{arith}
 use lib.ListN.{length}
-use Rattle.model.specs.Definitions.Basics.{pick, passes, fails, goes, stops}
+use Rattle.model.specs.Definitions.Basics.{pick, passes, fails, Next, goes, stops}
 use Rattle.model.specs.Definitions.Commands.{TreeCommand, opens, character, closes, tree_end, alien_t, tree_command, tree_commands, tree_width}
 use Rattle.model.specs.Definitions.TreeChecks.{TreeState, no_root, inside, root_closed, tree_ended, closed, tree_step, tree_complete, tree_form}
 use Rattle.model.proofs.Theorems.Reading.{raw_at, tree_reads, left_stops, left_goes, goes_within, left_ends, no_tree-commands}
-use Rattle.tree_form.specs.Form.{form_left, InForm, AfterEnd}
-use Rattle.tree_form.specs.Commands.{ReadsCommand}
+use Rattle.tree_form.specs.Form.{state, form_left, Shallow, InForm, AfterEnd}
+use Rattle.tree_form.specs.Commands.{command, ReadsCommand}
+use Rattle.tree_form.specs.declared.command.TreeCommand.TheVariants as code
+use Rattle.tree_form.specs.declared.form.TreeState.TheVariants as states
+use Rattle.tree_form.specs.declared.command.TreeCommand as commands
+use Rattle.tree_form.specs.declared.form.TreeState as forms
 
 -- the machine stops at an alien command
-form_alien : (s : TreeState) → tree_step s alien_t ≡ stops
+pub form_alien : (s : TreeState) → tree_step s alien_t ≡ stops
 unfolding tree_step
 form_alien no_root = refl
 form_alien (inside n) = refl
 form_alien root_closed = refl
 form_alien tree_ended = refl
+
+-- behind a close in an element that is in another
+pub closed_inside : (around : ℕ) → (around ≡ 0 → ⊥) → inside (around - 1) ≡ closed around
+unfolding closed
+closed_inside zero h = absurd (h refl)
+closed_inside (suc n) h = rw (sub-one (suc n)) refl
+
+-- the next state, if there is one, has fewer elements around it than bytes before it
+abbrev Held : ℕ → Next TreeState → Type 0
+Held at (goes t) = Shallow t at
+Held at stops = ⊤
+
+shallow_closed : (around at : ℕ) → around < at → Shallow (closed around) (at + 1)
+unfolding closed
+shallow_closed zero at h = tt
+shallow_closed (suc n) at h = omega arith
+
+shallow_next : (s : TreeState) (c : TreeCommand) (at : ℕ) → Shallow s at → Held (at + tree_width c) (tree_step s c)
+unfolding tree_step tree_width
+shallow_next no_root (opens t) at h = omega arith
+shallow_next no_root (character c) at h = tt
+shallow_next no_root closes at h = tt
+shallow_next no_root tree_end at h = tt
+shallow_next no_root alien_t at h = tt
+shallow_next (inside n) (opens t) at h = omega arith
+shallow_next (inside n) (character c) at h = omega arith
+shallow_next (inside n) closes at h = shallow_closed n at h
+shallow_next (inside n) tree_end at h = tt
+shallow_next (inside n) alien_t at h = tt
+shallow_next root_closed (opens t) at h = tt
+shallow_next root_closed (character c) at h = tt
+shallow_next root_closed closes at h = tt
+shallow_next root_closed tree_end at h = tt
+shallow_next root_closed alien_t at h = tt
+shallow_next tree_ended (opens t) at h = tt
+shallow_next tree_ended (character c) at h = tt
+shallow_next tree_ended closes at h = tt
+shallow_next tree_ended tree_end at h = tt
+shallow_next tree_ended alien_t at h = tt
+
+pub shallow_goes : (s t : TreeState) (c : TreeCommand) (at : ℕ) → Shallow s at → tree_step s c ≡ goes t → Shallow t (at + tree_width c)
+shallow_goes s t c at h e = rw e at (shallow_next s c at h)
 
 -- a command that the form's machine refuses is the verdict
 pub form_stops : {bs : List ℕ} {at : ℕ} {c : TreeCommand} (s : TreeState) → ReadsCommand bs at c → tree_step s c ≡ stops → form_left bs s at ≡ tree_form bs → fails at ≡ tree_form bs
@@ -128,7 +176,7 @@ unfolding tree_complete pick
 form_ended bs at h i = sym (form_ends bs tree_ended at h) ∙ i.whole
 
 -- every command is refused there
-ended_stops : (c : TreeCommand) → tree_step tree_ended c ≡ stops
+pub ended_stops : (c : TreeCommand) → tree_step tree_ended c ≡ stops
 unfolding tree_step
 ended_stops (opens t) = refl
 ended_stops (character c) = refl
@@ -139,3 +187,29 @@ ended_stops alien_t = refl
 -- so a byte behind 3F is the verdict
 pub form_more : (bs : List ℕ) (at : ℕ) → at < length bs → AfterEnd bs at → fails at ≡ tree_form bs
 form_more bs at h i = form_stops tree_ended (tree_reads bs at h) (ended_stops (tree_command (raw_at bs at))) i.whole
+
+-- ---- what the default arms of the code leave
+
+-- before the root every command is refused that opens no element
+pub no_root_stops : (c : commands.TreeCommand) → ((t : ℕ) → c ≡ code.Opens t → ⊥) → stops ≡ tree_step no_root (command c)
+unfolding tree_step
+no_root_stops (code.Opens t) h = absurd (h t refl)
+no_root_stops (code.Character b) h = refl
+no_root_stops code.Closes h = refl
+no_root_stops code.End h = refl
+
+-- behind it every one but 3F
+pub root_closed_stops : (c : commands.TreeCommand) → (c ≡ code.End → ⊥) → stops ≡ tree_step root_closed (command c)
+unfolding tree_step
+root_closed_stops (code.Opens t) h = refl
+root_closed_stops (code.Character b) h = refl
+root_closed_stops code.Closes h = refl
+root_closed_stops code.End h = absurd (h refl)
+
+-- a document may end in no other state than the last
+pub not_ended : (s : forms.TreeState) → (s ≡ states.Ended → ⊥) → tree_complete (state s) ≡ false
+unfolding tree_complete
+not_ended states.NoRoot h = refl
+not_ended (states.Inside n) h = refl
+not_ended states.RootClosed h = refl
+not_ended states.Ended h = absurd (h refl)

@@ -1,2 +1,3 @@
 pub mod Commands
 pub mod FormTurns
+pub mod Machines

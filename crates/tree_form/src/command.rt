@@ -1,44 +1,42 @@
 // The command that stands at an offset of a tree document.
 ghost use Rattle.std.specs.Prelude.{◌≡◌, ◌<◌, length};
-ghost use Rattle.model.specs.Definitions.Commands.{tree_command};
+ghost use Rattle.model.specs.Definitions.Commands.{tree_command, tree_width};
 ghost use Rattle.model.proofs.Theorems.Reading.{raw_at};
 ghost use Rattle.tree_form.specs.Commands as said;
 
 use codes::{CHARACTER, CLOSES, OPENS, TREE_END};
 
-// A command of a tree document; a byte that begins none, or whose operand is missing, is alien.
-#[derive(Drop)]
+// A command of a tree document, with its operand.
+#[derive(Clone, Copy, Debug, PartialEq, Eq)]
 pub enum TreeCommand {
     Opens(u8),
     Character(u8),
     Closes,
     End,
-    Alien,
 }
 
-// The command at an offset within the document.
-pub fn command_at(t: &[u8], at: usize) -> TreeCommand
+// The command at an offset within the document; none where its byte begins none, or its operand is missing.
+pub fn command_at(t: &[u8], at: usize) -> Option<TreeCommand>
     requires { at < length t.now }
-    ensures { said.command result ≡ tree_command (raw_at t.now at) }
+    ensures { said.read result ≡ tree_command (raw_at t.now at) }
 {
-    let b = t[at];
-    match b {
-        OPENS => {
-            if at + 1 < t.len() {
-                TreeCommand::Opens(t[at + 1])
-            } else {
-                TreeCommand::Alien
-            }
+    match t[at] {
+        OPENS => Some(TreeCommand::Opens(*t.get(at + 1)?)),
+        CHARACTER => Some(TreeCommand::Character(*t.get(at + 1)?)),
+        CLOSES => Some(TreeCommand::Closes),
+        TREE_END => Some(TreeCommand::End),
+        _ => None,
+    }
+}
+
+impl TreeCommand {
+    // The number of bytes of a command.
+    pub fn width(self) -> usize
+        ensures { result ≡ tree_width (said.command self) }
+    {
+        match self {
+            TreeCommand::Opens(_) | TreeCommand::Character(_) => 2,
+            TreeCommand::Closes | TreeCommand::End => 1,
         }
-        CHARACTER => {
-            if at + 1 < t.len() {
-                TreeCommand::Character(t[at + 1])
-            } else {
-                TreeCommand::Alien
-            }
-        }
-        CLOSES => TreeCommand::Closes,
-        TREE_END => TreeCommand::End,
-        _ => TreeCommand::Alien,
     }
 }

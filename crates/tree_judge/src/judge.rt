@@ -4,7 +4,7 @@ ghost use Rattle.answers.specs.Answers.{judged};
 ghost use Rattle.loaded_table.specs.Loaded.{table_by, Bounded};
 ghost use Rattle.tree_judge.specs.Judging.{judged_before, TreeJudged};
 
-use answers::{Fault, Judged, Verdict};
+use answers::Fault;
 use codes::MAX_BYTES;
 use loaded_table::TABLE;
 use tree_expected::expected;
@@ -14,77 +14,36 @@ use tree_levels::levels::levels;
 use tree_operands::operands::operands;
 use tree_pass::elements;
 
-// What is judged of a document, and the number of its elements where it is sound, else 0.
-#[derive(Drop)]
-pub struct JudgedTree {
-    pub judged: Judged,
-    pub elements: usize,
-}
-
-// The judgement of a document by a loaded table. A document that the one pass accepts is sound; else the checks say which of
-// them fails first, and where.
-pub fn judge<'a>(table: &'a [u16; TABLE], t: &'a [u8]) -> JudgedTree
+// The number of a document's elements, or its fault, by a loaded table. A document that the one pass accepts is sound; else the
+// checks say which of them fails first, and where.
+pub fn judge(table: &[u16; TABLE], t: &[u8]) -> Result<usize, Fault>
     requires { Bounded table.now }
     ensures { TreeJudged (table_by table.now) t.now result }
 {
-    let n = elements(table, t);
-    if n == 0 {
-        by_checks(table, t)
-    } else {
-        JudgedTree {
-            judged: Judged::Sound,
-            elements: n,
-        }
+    match elements(table, t) {
+        Some(n) => Ok(n),
+        None => by_checks(table, t),
     }
 }
 
-// The judgement by one check after the other: the first that fails gives the fault.
-fn by_checks<'a>(table: &'a [u16; TABLE], t: &'a [u8]) -> JudgedTree
+// The same by one check after the other: the first that fails gives the fault.
+fn by_checks(table: &[u16; TABLE], t: &[u8]) -> Result<usize, Fault>
     requires { Bounded table.now }
     ensures { TreeJudged (table_by table.now) t.now result }
 {
-    let before = checks(t, loaded_table::types(table));
-    match before {
-        Judged::Has(f) => JudgedTree {
-            judged: Judged::Has(f),
-            elements: 0,
-        },
-        Judged::Sound => {
-            let e = expected(table, t);
-            match e {
-                Verdict::Fails(at) => JudgedTree {
-                    judged: Judged::Has(Fault::Unexpected(at)),
-                    elements: 0,
-                },
-                Verdict::Passes => JudgedTree {
-                    judged: Judged::Sound,
-                    elements: count(t),
-                },
-            }
-        }
-    }
+    checks(t, loaded_table::types(table))?;
+    expected(table, t).map_err(Fault::Unexpected)?;
+    Ok(count(t))
 }
 
 // The judgement by checks 1 to 4: length, form, levels and operands.
-fn checks(t: &[u8], types: usize) -> Judged
+fn checks(t: &[u8], types: usize) -> Result<(), Fault>
     ensures { judged result ≡ judged_before types t.now }
 {
     if MAX_BYTES < t.len() {
-        return Judged::Has(Fault::TooLong);
+        return Err(Fault::TooLong);
     }
-    let f = form(t);
-    match f {
-        Verdict::Fails(at) => return Judged::Has(Fault::BadForm(at)),
-        Verdict::Passes => {}
-    }
-    let l = levels(t);
-    match l {
-        Verdict::Fails(at) => return Judged::Has(Fault::OverLimit(at)),
-        Verdict::Passes => {}
-    }
-    let o = operands(t, types);
-    match o {
-        Verdict::Fails(at) => Judged::Has(Fault::BadOperand(at)),
-        Verdict::Passes => Judged::Sound,
-    }
+    form(t).map_err(Fault::BadForm)?;
+    levels(t).map_err(Fault::OverLimit)?;
+    operands(t, types).map_err(Fault::BadOperand)
 }

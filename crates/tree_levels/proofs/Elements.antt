@@ -11,8 +11,10 @@ use Rattle.model.specs.Definitions.Content.{Content, end, char, elem, content_of
 use Rattle.model.specs.Definitions.TreeChecks.{tree_form}
 use Rattle.model.proofs.Theorems.Documents.{commands_then, document_commands, document-commands, content_of_form}
 use Rattle.model.proofs.Theorems.Reading.{no_tree-commands}
-use Rattle.tree_levels.specs.Elements.{opens_in}
-use Rattle.tree_form.specs.Commands.{ReadsCommand}
+use Rattle.tree_levels.specs.Elements.{opened, opens_in}
+use Rattle.tree_form.specs.Commands.{command, ReadsCommand}
+use Rattle.tree_form.specs.declared.command.TreeCommand as code
+use Rattle.tree_form.specs.declared.command.TreeCommand.TheVariants.{Opens, Character, Closes, End}
 
 -- the commands of a content open its elements
 opens_then : (k : Content) (cs : List TreeCommand) → opens_in (commands_then k cs) ≡ elements k + opens_in cs
@@ -91,3 +93,12 @@ module _ {bs : List ℕ} where
   pub counting_alien : (at n : ℕ) → Counting bs at n → ReadsCommand bs at alien_t → n ≡ opens_in (tree_commands bs)
   unfolding opens_in
   counting_alien at n i r = sym (add-zero n) ∙ rw r.reads at i.whole
+
+-- the command that the code read adds what it opens
+pub counting_next : (bs : List ℕ) (at n : ℕ) (c : code.TreeCommand) → Counting bs at n → ReadsCommand bs at (command c)
+    → Counting bs (at + tree_width (command c)) (n + opened (command c))
+unfolding tree_width
+counting_next bs at n (Opens t) i r = counting_opens at n i r
+counting_next bs at n (Character b) i r = rw (add-zero n) (counting_character at n i r)
+counting_next bs at n Closes i r = rw (add-zero n) (counting_closes at n i r)
+counting_next bs at n End i r = rw (add-zero n) (counting_tree_end at n i r)

@@ -1,14 +1,16 @@
 -- The loop of the level check: what its machine does at each command, and what is left behind it.
 use mathlib.Core.Path.{◌≡◌, refl, sym, ◌∙◌, subst}
-use mathlib.Core.Bool.{true}
+use mathlib.Core.Bool.{Bool, true, false}
+use Rattle.std.specs.Prelude.{⊤}
+use lib.Dec.{ltb}
 use mathlib.Core.List.{List}
 use mathlib.Core.Logic.{◌⊎◌, ⊎_elim}
-use Prim.Native.Nat.{ℕ, pred, ◌+◌, ◌-◌, ◌≤◌, ◌<◌}
+use Prim.Native.Nat.{ℕ, suc, pred, ◌+◌, ◌-◌, ◌≤◌, ◌<◌}
 use native.Mathlib.Numerals.{add-one}
 use native.Mathlib.Omega.{arith}
 use lib.ListN.{length}
-use borrow.Author.Tests.{lt-ltb, le-ltb}
-use Rattle.model.specs.Definitions.Basics.{pick, passes, fails, goes, stops, goes_if}
+use borrow.Author.Tests.{lt-ltb, le-ltb, ltb-true}
+use Rattle.model.specs.Definitions.Basics.{pick, passes, fails, Next, goes, stops, goes_if}
 use Rattle.model.specs.Definitions.Commands.{TreeCommand, opens, character, closes, tree_end, alien_t, tree_commands, tree_width}
 use Rattle.model.specs.Definitions.TreeChecks.{level_step, tree_levels}
 use Rattle.model.proofs.Theorems.Reading.{left_stops, left_goes, goes_within, left_ends, no_tree-commands}
@@ -16,7 +18,7 @@ use Rattle.tree_levels.specs.Levels.{InLevels}
 use Rattle.tree_form.specs.Commands.{ReadsCommand}
 
 -- the machine stops at an alien command
-levels_alien : (n : ℕ) → level_step n alien_t ≡ stops
+pub levels_alien : (n : ℕ) → level_step n alien_t ≡ stops
 unfolding level_step
 levels_alien n = refl
 
@@ -74,3 +76,34 @@ levels_tree_end n at i r = levels_goes n n r refl i.low i
 -- an alien command is the verdict
 pub levels_at_alien : {bs : List ℕ} (n at : ℕ) → InLevels bs n at → ReadsCommand bs at alien_t → fails at ≡ tree_levels bs
 levels_at_alien n at i r = levels_stops n r (levels_alien n) i
+
+-- ---- the machine alone
+
+-- an element is opened, but no 129th level
+pub opens_more : (n t : ℕ) → n < 128 → goes (n + 1) ≡ level_step n (opens t)
+unfolding level_step goes_if
+opens_more n t h = rw (lt-ltb n 128 h, add-one n)
+
+pub opens_none : (n t : ℕ) → 128 ≤ n → stops ≡ level_step n (opens t)
+unfolding level_step goes_if
+opens_none n t h = rw (le-ltb n 128 h)
+
+-- no command takes it above
+abbrev Low : Next ℕ → Type 0
+Low (goes n) = n ≤ 128
+Low stops = ⊤
+
+low_next : (n : ℕ) (c : TreeCommand) → n ≤ 128 → Low (level_step n c)
+unfolding level_step goes_if
+low_next n (opens t) h = go (ltb n 128) refl
+  where
+    go : (b : Bool) → ltb n 128 ≡ b → Low (goes_if b (suc n))
+    go true e = let low : n < 128 = ltb-true n 128 e in omega arith
+    go false e = tt
+low_next n (character c) h = h
+low_next n closes h = omega arith
+low_next n tree_end h = h
+low_next n alien_t h = tt
+
+pub low_goes : (n m : ℕ) (c : TreeCommand) → n ≤ 128 → level_step n c ≡ goes m → m ≤ 128
+low_goes n m c h e = rw e at (low_next n c h)

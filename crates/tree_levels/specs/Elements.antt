@@ -10,3 +10,11 @@ opens_in (character c ∷ cs) = opens_in cs
 opens_in (closes ∷ cs) = opens_in cs
 opens_in (tree_end ∷ cs) = opens_in cs
 opens_in (alien_t ∷ cs) = 0
+
+-- the number of elements that a command opens
+abbrev pub opened : TreeCommand → ℕ
+opened (opens t) = 1
+opened (character c) = 0
+opened closes = 0
+opened tree_end = 0
+opened alien_t = 0

@@ -1,42 +1,62 @@
 // Check 3 of a tree document: at most 128 levels.
-ghost use Rattle.std.specs.Prelude.{◌≡◌};
-ghost use Rattle.model.specs.Definitions.TreeChecks.{tree_levels};
+ghost use Rattle.std.specs.Prelude.{◌≡◌, ◌≤◌};
 ghost use Rattle.answers.specs.Answers.{verdict};
+ghost use Rattle.model.specs.Definitions.TreeChecks.{tree_levels, level_step, max_levels};
+ghost use Rattle.tree_form.specs.Commands.{command};
+ghost use Rattle.tree_levels.specs.Levels.{next, levels_left};
 
-use answers::Verdict;
+use checking::Check;
 use codes::MAX_LEVELS;
 use tree_form::command::{TreeCommand, command_at};
 
-// The verdict of a document's levels. The loop keeps the number of open elements.
-pub fn levels(t: &[u8]) -> Verdict
-    ensures { verdict result ≡ tree_levels t.now }
-{
-    let mut at = 0;
-    let mut depth: usize = 0;
-    while at < t.len() {
-        let c = command_at(t, at);
+// The number of open elements.
+#[derive(Clone, Copy, Debug, PartialEq, Eq)]
+pub struct Depth {
+    pub open: usize,
+}
+
+impl Depth {
+    // The number behind a command; none where that opens a 129th level.
+    fn after(self, c: TreeCommand) -> Option<Depth>
+        requires { self.open ≤ max_levels }
+        ensures { next result ≡ level_step self.open (command c) }
+    {
         match c {
             TreeCommand::Opens(_) => {
-                if MAX_LEVELS <= depth {
-                    return Verdict::Fails(at);
+                if MAX_LEVELS <= self.open {
+                    return None;
                 }
-                depth += 1;
-                at += 2;
+                Some(Depth {
+                    open: self.open + 1,
+                })
             }
-            TreeCommand::Character(_) => {
-                at += 2;
-            }
-            TreeCommand::Closes => {
-                if 0 < depth {
-                    depth -= 1;
-                }
-                at += 1;
-            }
-            TreeCommand::End => {
-                at += 1;
-            }
-            TreeCommand::Alien => return Verdict::Fails(at),
+            TreeCommand::Closes => Some(Depth {
+                open: self.open.saturating_sub(1),
+            }),
+            TreeCommand::Character(_) | TreeCommand::End => Some(self),
         }
     }
-    Verdict::Passes
+}
+
+impl Check for Depth {
+    ghost fits = { λ s at. s.open ≤ max_levels };
+
+    ghost rest = { λ bs s at. levels_left bs s.open at };
+
+    fn step(&mut self, document: &[u8], at: usize) -> Option<usize> {
+        let c = command_at(document, at)?;
+        *self = self.after(c)?;
+        Some(c.width())
+    }
+
+    fn may_end(&self) -> bool {
+        true
+    }
+}
+
+// The verdict of a document's levels.
+pub fn levels(t: &[u8]) -> Result<(), usize>
+    ensures { verdict result ≡ tree_levels t.now }
+{
+    checking::run(Depth { open: 0 }, t)
 }

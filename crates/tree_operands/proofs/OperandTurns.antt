@@ -16,7 +16,7 @@ use Rattle.tree_form.specs.Commands.{ReadsCommand}
 
 module _ (types : ℕ) where
   -- the machine stops at an alien command
-  operands_alien : (u : Unit {0}) → operand_step types u alien_t ≡ stops
+  pub operands_alien : (u : Unit {0}) → operand_step types u alien_t ≡ stops
   unfolding operand_step
   operands_alien u = refl
 

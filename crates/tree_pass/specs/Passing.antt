@@ -1,5 +1,5 @@
 -- What the pass over a tree document knows: at its beginning, of each command, at its end, and of a document that it accepts.
-use Rattle.std.specs.Prelude.{◌≡◌, true, List, ℕ, ◌+◌, ◌≤◌, ◌<◌, length}
+use Rattle.std.specs.Prelude.{◌≡◌, true, List, ℕ, ◌+◌, ◌≤◌, ◌<◌, length, Option, Some, None}
 use Rattle.model.specs.Definitions.Basics.{passes}
 use Rattle.model.specs.Definitions.Commands.{opens, tree_end, tree_commands}
 use Rattle.model.specs.Definitions.Characters.{allowed}
@@ -7,9 +7,9 @@ use Rattle.model.specs.Definitions.TreeChecks.{tree_form, tree_levels, tree_oper
 use Rattle.loaded_table.specs.Loaded.{table_by, types_in, Bounded}
 use Rattle.tree_form.specs.Commands.{ReadsCommand}
 use Rattle.tree_levels.specs.Elements.{opens_in}
-use Rattle.tree_expected.specs.Expected.{TypeReadable, Opening, SaysText, MayOpen, MayHold, Closes}
+use Rattle.tree_expected.specs.Expected.{TypeReadable, Admits, SaysText, MayOpen, MayHold, Closes}
 use Rattle.tree_expected.specs.declared.Turn.{Turn}
-use Rattle.tree_expected.specs.declared.Turn.TheVariants.{Opened, Character, Closed, Refused}
+use Rattle.tree_expected.specs.declared.Turn.TheVariants.{Opened, Character, Closed}
 
 -- a document that is not too long and begins with an element of type 0
 pub record Begun (bs : List ℕ) : Type 0 where
@@ -43,7 +43,7 @@ pub record Innermost (rows bs : List ℕ) (top m at : ℕ) : Type 0 where
 pub record Enters (rows : List ℕ) (top m h x next : ℕ) : Type 0 where
   pub exists : x < types_in rows
   pub room : top + 1 < 128
-  pub opening : Opening rows m h x next
+  pub opening : Admits rows m h x next
 
 -- c is a character that an element of type m may hold
 pub record Textual (rows : List ℕ) (m c : ℕ) : Type 0 where
@@ -51,11 +51,11 @@ pub record Textual (rows : List ℕ) (m c : ℕ) : Type 0 where
   pub fine : allowed c ≡ true
 
 -- what an answer says of the command at an offset
-abbrev pub Checked : List ℕ → List ℕ → ℕ → ℕ → ℕ → ℕ → Turn → Type 0
-Checked rows bs top m h at (Opened x next) = MayOpen rows bs m h at x next × (x < types_in rows) × (top + 1 < 128)
-Checked rows bs top m h at (Character c) = MayHold rows bs m h at c × (allowed c ≡ true)
-Checked rows bs top m h at Closed = Closes rows bs m h at
-Checked rows bs top m h at Refused = Unit
+abbrev pub Checked : List ℕ → List ℕ → ℕ → ℕ → ℕ → ℕ → Option Turn → Type 0
+Checked rows bs top m h at (Some (Opened x next)) = MayOpen rows bs m h at x next × (x < types_in rows) × (top + 1 < 128)
+Checked rows bs top m h at (Some (Character c)) = MayHold rows bs m h at c × (allowed c ≡ true)
+Checked rows bs top m h at (Some Closed) = Closes rows bs m h at
+Checked rows bs top m h at None = Unit
 
 -- ---- the end
 

@@ -5,7 +5,7 @@ use Rattle.checking.proofs.run.Given as goal
 abbrev pub invariant-loop-at : goal.invariant-loop-at
 invariant-loop-at g l =
     let check = g.C.Check in
-    (l.at ≤ length l.document) × check.fits l.state × (check.rest l.document l.state l.at ≡ check.rest l.document l.fn.begin 0)
+    (l.at ≤ length l.document) × check.fits l.state l.at × (check.rest l.document l.state l.at ≡ check.rest l.document l.fn.begin 0)
 
 abbrev pub decreases-loop-at : goal.decreases-loop-at
 decreases-loop-at g l = length l.document - l.at

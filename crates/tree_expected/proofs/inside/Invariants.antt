@@ -1,13 +1,11 @@
--- `tree_expected::inside` meets its contract. The invariant: the machines at the offset, in the state that the arrays stand for,
--- give the verdicts of the whole; the checks before say what can come. The measure is what is left of the document. Assumes
--- nothing.
-use Prim.Native.Nat.{◌-◌}
-use lib.ListN.{length}
+-- The invariant: the machines at the offset, in the state that the array stands for, give the verdicts of the whole; the checks
+-- before say what can come. The measure is what is left of the document.
+use Rattle.std.proofs.Common.{length, ◌-◌}
 use Rattle.tree_expected.specs.Expected.{Inside}
 use Rattle.tree_expected.proofs.inside.Given as goal
 
-abbrev pub invariant-loop-x : goal.invariant-loop-x
-invariant-loop-x l = Inside l.table l.t l.opened l.had l.top l.m l.h l.at
+abbrev pub invariant-loop-turn : goal.invariant-loop-turn
+invariant-loop-turn l = Inside l.table l.t l.around l.top l.here.kind l.here.had l.at
 
-abbrev pub decreases-loop-x : goal.decreases-loop-x
-decreases-loop-x l = length l.t - l.at
+abbrev pub decreases-loop-turn : goal.decreases-loop-turn
+decreases-loop-turn l = length l.t - l.at

@@ -1,13 +1,8 @@
--- `tree_expected::member_of` meets its contract. The invariant: the members that are left give the answer. The measure is
--- their number. Assumes nothing.
-use Prim.Native.Nat.{◌*◌, ◌-◌}
-use lib.ListN.{get_or}
+-- The invariant: the members that are left give the answer.
+use Rattle.std.proofs.Common.{◌*◌, get_or}
 use Rattle.loaded_table.specs.Loaded.{counts_of, members_in}
 use Rattle.tree_expected.proofs.Rests.{Searching}
 use Rattle.tree_expected.proofs.member_of.Given as goal
 
 abbrev pub invariant-loop-i : goal.invariant-loop-i
 invariant-loop-i l = Searching l.x (l.m * 16) (get_or (counts_of l.table) l.m 0) (members_in l.table) l.i
-
-abbrev pub decreases-loop-i : goal.decreases-loop-i
-decreases-loop-i l = get_or (counts_of l.table) l.m 0 - l.i

@@ -1,5 +1,5 @@
--- `tree_pass::begins` meets its contract. Assumes nothing.
-use mathlib.Core.Path.{refl}
+-- `begins` meets its contract.
+use Rattle.std.proofs.Common.{refl}
 use borrow.Author.Tests.{eqb-true}
 use Rattle.model.proofs.Theorems.Tools.{true_false}
 use Rattle.tree_pass.proofs.Turns.{begun}
@@ -11,9 +11,5 @@ returns-then-t-lt2 c e = true_false e refl
 pub returns-then-t-gt-MAX_BYTES : goal.returns-then-t-gt-MAX_BYTES
 returns-then-t-gt-MAX_BYTES c e = true_false e refl
 
-pub returns-then-t-ne-OPENS : goal.returns-then-t-ne-OPENS
-returns-then-t-ne-OPENS c e = true_false e refl
-
-pub returns : goal.returns
-returns c e =
-    begun c.if-t-lt2.false c.if-t-gt-MAX_BYTES.false c.if-t-ne-OPENS.false (eqb-true _ _ e)
+pub returns-then-t-eq-OPENS : goal.returns-then-t-eq-OPENS
+returns-then-t-eq-OPENS c e = begun c.if-t-lt2.false c.if-t-gt-MAX_BYTES.false c.if-t-eq-OPENS.true (eqb-true _ _ e)

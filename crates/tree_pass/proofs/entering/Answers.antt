@@ -1,14 +1,11 @@
--- `tree_pass::entering` meets its contract. Assumes nothing.
-use native.Mathlib.Omega.{arith}
+-- `entering` meets its contract.
+use Rattle.std.proofs.Common.{arith, subst, ℕ, IfSome}
+use Rattle.tree_pass.specs.Passing.{Enters}
+use Rattle.tree_pass.proofs.Turns.{enters}
 use Rattle.tree_pass.proofs.entering.Goals as goal
 
-pub returns-then-types-x : goal.returns-then-types-x
-returns-then-types-x c some = absurd (omega arith)
-
-pub returns-then-top-ge-MAX_LEVELS : goal.returns-then-top-ge-MAX_LEVELS
-returns-then-top-ge-MAX_LEVELS c some = absurd (omega arith)
-
 pub returns : goal.returns
-returns c some =
-    let many = c.types.ensures.0 in
-    record { room = c.if-top-ge-MAX_LEVELS.false; exists = omega (arith, many, c.if-types-x.false); opening = c.opening.ensures }
+returns c =
+    let a = c.args in
+    subst (λ (x : ℕ). IfSome c.opening.result (Enters a.table.now a.top a.m a.h x)) c.from-x.ensures
+    (enters _ _ _ _ _ c.opening.result c.opening.ensures (omega (arith, c.types.ensures.0, c.if-types-x.false)) c.if-top-ge-MAX_LEVELS.false)

@@ -1,34 +1,33 @@
--- `tree_judge::judge::by_checks` meets its contract: one law for each answer. Assumes nothing.
-use mathlib.Core.Path.{◌≡◌, ◌∙◌}
-use lib.ListN.{length}
-use Rattle.answers.specs.declared.Judged.{Judged}
+-- `by_checks` meets its contract: the first check that fails gives the fault.
+use Rattle.std.proofs.Common.{◌≡◌, length, sym, ap, ◌∙◌}
+use Rattle.answers.specs.declared.Fault.TheVariants as Fault
 use Rattle.answers.specs.Answers.{judged}
+use Rattle.model.specs.Definitions.Refusals.{sound}
 use Rattle.loaded_table.specs.Loaded.{table_by}
 use Rattle.tree_levels.proofs.Elements.{opens_counted}
 use Rattle.tree_judge.specs.Judging.{judged_before}
-use Rattle.tree_judge.proofs.Judging.{told_verdict, told_judged, by_types, fault_before, fault_not_sound, passed_before, judged_unexpected, judged_expected}
-use Rattle.tree_judge.proofs.judge.by_checks.Goals.{After-checks-before}
+use Rattle.tree_judge.proofs.Judging.{by_types, fault_before, passed_before, check_named, judged_expected, refused}
+use Rattle.tree_judge.proofs.judge.by_checks.Goals.{In_ok-checks}
 use Rattle.tree_judge.proofs.judge.by_checks.Goals as goal
 
--- what checks 1 to 4 found, by the number of types
-checked : (c : After-checks-before) {j : Judged} → c.checks-before.result ≡ j → judged j ≡ judged_before (length (table_by c.args.table.now)) c.args.t.now
-checked c q = by_types c.args.table.now _ c.types.ensures.0 (told_judged q c.checks-before.ensures)
+-- checks 1 to 4 have passed
+passed : (c : In_ok-checks) → sound ≡ judged_before (length (table_by c.args.table.now)) c.args.t.now
+passed c = by_types c.args.table.now _ c.types.ensures.0 c.in_ok-checks.ensures
 
-pub expected-e-requires : goal.expected-e-requires
-expected-e-requires c = passed_before _ _ c.requires (checked (goal.at.expected-e-requires c).After-checks-before c.in-Sound.is)
+pub expected-requires : goal.expected-requires
+expected-requires c = passed_before _ _ c.requires (passed (goal.at.expected-requires c).In_ok-checks)
 
-pub returns-in-Has : goal.returns-in-Has
-returns-in-Has c = let f = fault_before _ _ (checked (goal.at.returns-in-Has c).After-checks-before c.in-Has.is) in record { same_judgement = f; counted = λ s. fault_not_sound f s }
+pub returns-in_err-checks : goal.returns-in_err-checks
+returns-in_err-checks c = refused _ _ _ _ c.from_residual.ensures.1 (fault_before _ _ (by_types c.args.table.now _ c.types.ensures.0 c.in_err-checks.ensures))
 
-pub returns-in-Fails : goal.returns-in-Fails
-returns-in-Fails c =
-    let f = judged_unexpected _ _ (checked (goal.at.returns-in-Fails c).After-checks-before c.in-Sound.is) (told_verdict c.in-Fails.is c.expected-e.ensures) in
-    record { same_judgement = f; counted = λ s. fault_not_sound f s }
+pub returns-in_err-map_err : goal.returns-in_err-map_err
+returns-in_err-map_err c =
+    refused _ _ _ _ c.from_residual-in_err-map_err.ensures.1
+    (judged_expected _ _ (passed (goal.at.returns-in_err-map_err c).In_ok-checks)
+    (sym (ap judged c.in_err-map_err.was) ∙ check_named Fault.Unexpected _ c.expected.result c.expected.ensures c.map_err.ensures.cases))
 
-pub returns-in-Passes : goal.returns-in-Passes
-returns-in-Passes c =
-    let none = checked (goal.at.returns-in-Passes c).After-checks-before c.in-Sound.is in
-    record {
-      same_judgement = judged_expected _ _ none (told_verdict c.in-Passes.is c.expected-e.ensures);
-      counted = λ s. c.count.ensures ∙ opens_counted _ (passed_before _ _ c.requires none).form;
-    }
+pub returns : goal.returns
+returns c =
+    let before = passed (goal.at.returns c).In_ok-checks in
+    let found = sym (ap judged c.in_ok-map_err.was) ∙ check_named Fault.Unexpected _ c.expected.result c.expected.ensures c.map_err.ensures.cases in
+    (sym (judged_expected _ _ before found), c.count.ensures ∙ opens_counted _ (passed_before _ _ c.requires before).form)

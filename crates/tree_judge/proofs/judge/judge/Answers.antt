@@ -1,7 +1,6 @@
--- `tree_judge::judge::judge` meets its contract: what the pass accepts is sound. Assumes nothing.
-use native.Mathlib.Omega.{arith}
+-- `judge` meets its contract: what the pass accepts is sound.
 use Rattle.tree_judge.proofs.Judging.{accepted_sound}
 use Rattle.tree_judge.proofs.judge.judge.Goals as goal
 
-pub returns-else-n-eq0 : goal.returns-else-n-eq0
-returns-else-n-eq0 c = accepted_sound _ _ (c.elements-n.ensures (omega (arith, c.if-n-eq0.false)))
+pub returns-in-Some : goal.returns-in-Some
+returns-in-Some c = accepted_sound _ _ c.in-Some.ensures

@@ -1,65 +1,24 @@
-use mathlib.Core.Path.{◌≡◌}
-use native.Mathlib.Omega.{arith}
-use Rattle.tree_form.specs.declared.command.TreeCommand.{TreeCommand}
-use Rattle.tree_form.specs.Commands.{command, ReadsCommand}
-use Rattle.tree_form.proofs.Commands.{met}
-use Rattle.tree_levels.proofs.Elements.{counting_start, counting_end, counting_opens, counting_character, counting_closes, counting_tree_end, counting_alien}
-use Rattle.tree_levels.proofs.count.count.Goals.{After-command_at-c}
+-- `count` meets its contract: each command adds what it opens.
+use Rattle.std.proofs.Common.{arith}
+use Rattle.tree_form.proofs.Machines.{stands, some_width}
+use Rattle.tree_levels.proofs.Elements.{counting_start, counting_end, counting_alien, counting_next}
 use Rattle.tree_levels.proofs.count.count.Goals as goal
-
--- the command that was read stands there
-here : (c : After-command_at-c) {d : TreeCommand} → c.command_at-c.result ≡ d → ReadsCommand c.args.t.now c.loop-at.at (command d)
-here c q = met _ _ c.loop-at-test.true c.command_at-c.ensures q
 
 pub loop-at-init : goal.loop-at-init
 loop-at-init c = counting_start _
 
--- what is left behind each command
-pub loop-at-preserved-in-Opens : goal.loop-at-preserved-in-Opens
-loop-at-preserved-in-Opens c =
-    counting_opens _ _ c.loop-at.invariant (here (goal.at.loop-at-preserved-in-Opens c).After-command_at-c c.in-Opens.is)
-
-pub overflow_add-n : goal.overflow_add-n
-overflow_add-n c = omega (arith, (loop-at-preserved-in-Opens c).within, (loop-at-preserved-in-Opens c).few)
-
-pub overflow_add-at : goal.overflow_add-at
-overflow_add-at c = omega (arith, (loop-at-preserved-in-Opens c).within)
-
-pub loop-at-smaller-in-Opens : goal.loop-at-smaller-in-Opens
-loop-at-smaller-in-Opens c = omega (arith, (loop-at-preserved-in-Opens c).within)
-
-pub loop-at-preserved-in-Character : goal.loop-at-preserved-in-Character
-loop-at-preserved-in-Character c =
-    counting_character _ _ c.loop-at.invariant (here (goal.at.loop-at-preserved-in-Character c).After-command_at-c c.in-Character.is)
-
-pub overflow_add-at-in-Character : goal.overflow_add-at-in-Character
-overflow_add-at-in-Character c = omega (arith, (loop-at-preserved-in-Character c).within)
-
-pub loop-at-smaller-in-Character : goal.loop-at-smaller-in-Character
-loop-at-smaller-in-Character c = omega (arith, (loop-at-preserved-in-Character c).within)
-
-pub loop-at-preserved-in-Closes : goal.loop-at-preserved-in-Closes
-loop-at-preserved-in-Closes c =
-    counting_closes _ _ c.loop-at.invariant (here (goal.at.loop-at-preserved-in-Closes c).After-command_at-c c.in-Closes.is)
-
-pub overflow_add-at-in-Closes : goal.overflow_add-at-in-Closes
-overflow_add-at-in-Closes c = omega (arith, (loop-at-preserved-in-Closes c).within)
-
-pub loop-at-smaller-in-Closes : goal.loop-at-smaller-in-Closes
-loop-at-smaller-in-Closes c = omega (arith, (loop-at-preserved-in-Closes c).within)
+pub returns-in_default : goal.returns-in_default
+returns-in_default c = counting_alien _ _ c.loop-at.invariant (stands _ _ c.loop-at-test.true c.in_default.ensures)
 
 pub loop-at-preserved : goal.loop-at-preserved
 loop-at-preserved c =
-    counting_tree_end _ _ c.loop-at.invariant (here (goal.at.loop-at-preserved c).After-command_at-c c.in-End.is)
+    rw (c.width-at.ensures, c.opened-n.ensures) (counting_next _ _ _ _ c.loop-at.invariant (stands _ _ c.loop-at-test.true c.in-Some.ensures))
 
-pub overflow_add-at-in-End : goal.overflow_add-at-in-End
-overflow_add-at-in-End c = omega (arith, (loop-at-preserved c).within)
+pub overflow_add-at : goal.overflow_add-at
+overflow_add-at c = omega (arith, (loop-at-preserved c).within)
 
 pub loop-at-smaller : goal.loop-at-smaller
-loop-at-smaller c = omega (arith, (loop-at-preserved c).within)
-
-pub returns-in-Alien : goal.returns-in-Alien
-returns-in-Alien c = counting_alien _ _ c.loop-at.invariant (here (goal.at.returns-in-Alien c).After-command_at-c c.in-Alien.is)
+loop-at-smaller c = omega (arith, (loop-at-preserved c).within, c.width-at.ensures, some_width c.in-Some.c)
 
 pub returns : goal.returns
 returns c = counting_end _ _ _ c.loop-at-test.false c.loop-at.invariant

@@ -1,7 +1,5 @@
--- `tree_levels::count::count` meets its contract. The invariant: the elements counted and those that the commands left open are
--- all. The measure is what is left of the document. Assumes nothing.
-use Prim.Native.Nat.{◌-◌}
-use lib.ListN.{length}
+-- The invariant of the loop: the elements counted and those that the commands left open are all.
+use Rattle.std.proofs.Common.{length, ◌-◌}
 use Rattle.tree_levels.proofs.Elements.{Counting}
 use Rattle.tree_levels.proofs.count.count.Given as goal
 

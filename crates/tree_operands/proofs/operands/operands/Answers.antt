@@ -1,68 +1,7 @@
-use mathlib.Core.Path.{◌≡◌, sym, ◌∙◌}
-use native.Mathlib.Omega.{arith}
-use Rattle.tree_form.specs.declared.command.TreeCommand.{TreeCommand}
-use Rattle.tree_form.specs.Commands.{command, ReadsCommand}
-use Rattle.tree_form.proofs.Commands.{met}
-use Rattle.tree_operands.proofs.OperandTurns.{operands_start, operands_end, operands_opens, operands_no_type, operands_character, operands_not_allowed, operands_closes, operands_tree_end, operands_at_alien}
-use Rattle.tree_operands.proofs.operands.operands.Goals.{After-command_at-c}
+-- `operands` meets its contract: the machine runs over the whole document.
+use Rattle.model.specs.Definitions.TreeChecks.{tree_operands}
 use Rattle.tree_operands.proofs.operands.operands.Goals as goal
 
--- the command that was read stands there
-here : (c : After-command_at-c) {d : TreeCommand} → c.command_at-c.result ≡ d → ReadsCommand c.args.t.now c.loop-at.at (command d)
-here c q = met _ _ c.loop-at-test.true c.command_at-c.ensures q
-
-pub loop-at-init : goal.loop-at-init
-loop-at-init c = operands_start _ _
-
-pub returns-then-types-m : goal.returns-then-types-m
-returns-then-types-m c = operands_no_type _ _ c.if-types-m.true c.loop-at.invariant (here (goal.at.returns-then-types-m c).After-command_at-c c.in-Opens.is)
-
--- what is left behind each command
-pub loop-at-preserved-in-Opens : goal.loop-at-preserved-in-Opens
-loop-at-preserved-in-Opens c =
-    operands_opens _ _ c.if-types-m.false c.loop-at.invariant (here (goal.at.loop-at-preserved-in-Opens c).After-command_at-c c.in-Opens.is)
-
-pub overflow_add-at : goal.overflow_add-at
-overflow_add-at c = omega (arith, (loop-at-preserved-in-Opens c).within)
-
-pub loop-at-smaller-in-Opens : goal.loop-at-smaller-in-Opens
-loop-at-smaller-in-Opens c = omega (arith, (loop-at-preserved-in-Opens c).within)
-
-pub returns-then-not-allowed : goal.returns-then-not-allowed
-returns-then-not-allowed c = operands_not_allowed _ _ (sym c.allowed.ensures ∙ c.if-not-allowed.true) c.loop-at.invariant (here (goal.at.returns-then-not-allowed c).After-command_at-c c.in-Character.is)
-
-pub loop-at-preserved-in-Character : goal.loop-at-preserved-in-Character
-loop-at-preserved-in-Character c =
-    operands_character _ _ (sym c.allowed.ensures ∙ c.if-not-allowed.false) c.loop-at.invariant (here (goal.at.loop-at-preserved-in-Character c).After-command_at-c c.in-Character.is)
-
-pub overflow_add-at-in-Character : goal.overflow_add-at-in-Character
-overflow_add-at-in-Character c = omega (arith, (loop-at-preserved-in-Character c).within)
-
-pub loop-at-smaller-in-Character : goal.loop-at-smaller-in-Character
-loop-at-smaller-in-Character c = omega (arith, (loop-at-preserved-in-Character c).within)
-
-pub loop-at-preserved-in-Closes : goal.loop-at-preserved-in-Closes
-loop-at-preserved-in-Closes c =
-    operands_closes _ _ c.loop-at.invariant (here (goal.at.loop-at-preserved-in-Closes c).After-command_at-c c.in-Closes.is)
-
-pub overflow_add-at-in-Closes : goal.overflow_add-at-in-Closes
-overflow_add-at-in-Closes c = omega (arith, (loop-at-preserved-in-Closes c).within)
-
-pub loop-at-smaller-in-Closes : goal.loop-at-smaller-in-Closes
-loop-at-smaller-in-Closes c = omega (arith, (loop-at-preserved-in-Closes c).within)
-
-pub loop-at-preserved : goal.loop-at-preserved
-loop-at-preserved c =
-    operands_tree_end _ _ c.loop-at.invariant (here (goal.at.loop-at-preserved c).After-command_at-c c.in-End.is)
-
-pub overflow_add-at-in-End : goal.overflow_add-at-in-End
-overflow_add-at-in-End c = omega (arith, (loop-at-preserved c).within)
-
-pub loop-at-smaller : goal.loop-at-smaller
-loop-at-smaller c = omega (arith, (loop-at-preserved c).within)
-
-pub returns-in-Alien : goal.returns-in-Alien
-returns-in-Alien c = operands_at_alien _ _ c.loop-at.invariant (here (goal.at.returns-in-Alien c).After-command_at-c c.in-Alien.is)
-
 pub returns : goal.returns
-returns c = operands_end _ _ _ c.loop-at-test.false c.loop-at.invariant
+unfolding tree_operands
+returns c = c.run.ensures
