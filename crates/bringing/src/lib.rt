@@ -11,10 +11,10 @@ ghost use Rattle.inverse.specs.Sources.{ReadFrom};
 ghost use Rattle.bringing.specs.Bringing.{Brings};
 ghost use Rattle.model.specs.Definitions.Refusals.{max_length};
 
-use answers::Brought;
+use answers::Refusal;
 use codes::MAX_BYTES;
 use comparing::is_image;
-use inverse::{Read, read_back};
+use inverse::read_back;
 use loaded_embedding::MAP;
 use loaded_table::TABLE;
 use scanning::spans::{SHORT, fill_spans};
@@ -31,7 +31,7 @@ fn give<'a>(
     tr: &'a [u8],
     spans: &mut [u16],
     out: &mut [u8],
-) -> Brought
+) -> Result<usize, Refusal>
     requires setting { Ready from.now to.now map.now em.now }
     requires target { SoundTree (table_by to.now) tr.now }
     requires reading { ReadFrom (setting_in from.now to.now map.now em.now) tr.now source.now }
@@ -40,14 +40,13 @@ fn give<'a>(
 {
     fill_spans(source, spans);
     if !is_image(from, to, map, em, source, &spans[..], tr) {
-        return Brought::NoImage;
+        return Err(Refusal::NoImage);
     }
     let n = source.len();
     if out.len() < n {
-        return Brought::NoRoom;
+        return Err(Refusal::OutputTooShort);
     }
-    let written = copy(source, 0, n, out, 0);
-    Brought::Written(written)
+    Ok(copy(source, 0, n, out, 0))
 }
 
 // Brings back `tr` by way of two buffers that are at least as long: what is read goes to the first; the lengths of what elements
@@ -61,18 +60,17 @@ fn bring_through<'a>(
     buffer: &mut [u8],
     spans: &mut [u16],
     out: &mut [u8],
-) -> Brought
+) -> Result<usize, Refusal>
     requires setting { Ready from.now to.now map.now em.now }
     requires target { SoundTree (table_by to.now) tr.now }
     requires within { (length tr.now ≤ length buffer.old) × (length buffer.old ≤ max_length) × (length buffer.old ≤ length spans.old) }
     ensures { Brings (setting_in from.now to.now map.now em.now) tr.now out.old out.new result }
 {
     fill_spans(tr, spans);
-    let read = read_back(from, to, map, em, tr, &spans[..], buffer);
-    match read {
-        Read::Nothing => Brought::NoImage,
-        Read::To(n) => give(from, to, map, em, &buffer[..n], tr, spans, out),
-    }
+    let Some(n) = read_back(from, to, map, em, tr, &spans[..], buffer) else {
+        return Err(Refusal::NoImage);
+    };
+    give(from, to, map, em, &buffer[..n], tr, spans, out)
 }
 
 // Brings back the document `tr`, which conforms to the target table. For a short one short buffers do, and need not be cleared at
@@ -84,7 +82,7 @@ pub fn bring_back<'a>(
     em: &'a [u8],
     tr: &'a [u8],
     out: &mut [u8],
-) -> Brought
+) -> Result<usize, Refusal>
     requires setting { Ready from.now to.now map.now em.now }
     requires target { SoundTree (table_by to.now) tr.now }
     ensures { Brings (setting_in from.now to.now map.now em.now) tr.now out.old out.new result }

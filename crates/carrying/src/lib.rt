@@ -3,84 +3,62 @@
 
 #![tactic(auto)]
 
-ghost use Rattle.std.specs.Prelude.{◌≡◌, length};
-ghost use Rattle.loaded_table.specs.Loaded.{table_by};
+ghost use Rattle.loaded_table.specs.Loaded.{table_by, types_in};
 ghost use Rattle.loaded_setting.specs.Ready.{setting_in, Ready};
 ghost use Rattle.loaded_setting.specs.Trees.{SoundTree};
-ghost use Rattle.rows.specs.Rows.{Rows, Sizes};
-ghost use Rattle.pools.specs.Pools.{Arrays, HasRoom, IsSmall};
+ghost use Rattle.rows.specs.Rows.{HasRows};
+ghost use Rattle.carrying.specs.Sizing.{Sizable, CarriesByRows};
 ghost use Rattle.carry_prepared.specs.Carrying.{Carries};
 
-use answers::Carried;
+use answers::{Refusal, Written};
 use carry_prepared::carry_prepared;
 use loaded_embedding::MAP;
 use loaded_table::TABLE;
-use pools::{MIDDLE_POOL, PLACES, SMALL_PLACES, SMALL_POOL, is_small, largest_pool, room};
-use preparing::prepare;
+use pools::{PLACES, SMALL_PLACES};
+use preparing::with_rows;
 use row_sizes::size_rows;
 
-// Prepares the templates of a setting, and finds their sizes.
-fn prepare_sized(
-    source: &[u16; TABLE],
+// Carries the document `tr` by rows, whose sizes are found first and go to an array that is long enough.
+fn carry_sized<'a>(
+    source: &'a [u16; TABLE],
     target: &[u16; TABLE],
-    map: &[u16; MAP],
-    em: &[u8],
-    pool: &mut [u8],
-    places: &mut [u32],
+    map: &'a [u16; MAP],
+    pool: &'a [u8],
+    places: &'a [u32],
     sizes: &mut [u16],
-)
-    requires ready { Ready source.now target.now map.now em.now }
-    requires arrays { Arrays source.now target.now map.now pool.old places.old × (length sizes.old ≡ length places.old) }
-    ensures { Rows (setting_in source.now target.now map.now em.now) pool.new places.new × Sizes (setting_in source.now target.now map.now em.now) sizes.new }
+    tr: &'a [u8],
+    out: &mut [u8],
+) -> Result<Written, Refusal>
+    requires rows { Sizable source.now target.now map.now pool.now places.now tr.now }
+    requires long { HasRows sizes.old (types_in source.now) }
+    ensures { CarriesByRows source.now target.now map.now pool.now places.now tr.now out.old out.new result }
 {
-    prepare(source, target, map, em, pool, places);
     size_rows(source, target, pool, places, sizes);
+    carry_prepared(source, map, pool, places, &sizes[..], tr, out)
 }
 
-// Carries the document `tr` by the smallest arrays.
-fn carry_small<'a>(
+// Carries the document `tr` by rows. For few of them a short array of sizes does, and need not be cleared at length.
+fn carry_by_rows<'a>(
     source: &'a [u16; TABLE],
     target: &[u16; TABLE],
     map: &'a [u16; MAP],
-    em: &[u8],
+    pool: &'a [u8],
+    places: &'a [u32],
     tr: &'a [u8],
     out: &mut [u8],
-) -> Carried
-    requires ready { Ready source.now target.now map.now em.now }
-    requires tree { SoundTree (table_by source.now) tr.now }
-    requires small { IsSmall source.now target.now map.now }
-    ensures { Carries (setting_in source.now target.now map.now em.now) tr.now out.old out.new result }
+) -> Result<Written, Refusal>
+    requires { Sizable source.now target.now map.now pool.now places.now tr.now }
+    ensures { CarriesByRows source.now target.now map.now pool.now places.now tr.now out.old out.new result }
 {
-    let mut pool = [0u8; SMALL_POOL];
-    let mut places = [0u32; SMALL_PLACES];
-    let mut sizes = [0u16; SMALL_PLACES];
-    prepare_sized(source, target, map, em, &mut pool, &mut places, &mut sizes);
-    carry_prepared(source, map, &pool, &places, &sizes, tr, out)
-}
-
-// Carries the document `tr` by a pool that is long enough, and places for any setting.
-fn carry_pooled<'a>(
-    source: &'a [u16; TABLE],
-    target: &[u16; TABLE],
-    map: &'a [u16; MAP],
-    em: &[u8],
-    tr: &'a [u8],
-    out: &mut [u8],
-    pool: &mut [u8],
-) -> Carried
-    requires ready { Ready source.now target.now map.now em.now }
-    requires tree { SoundTree (table_by source.now) tr.now }
-    requires enough { HasRoom source.now target.now map.now pool.old }
-    ensures { Carries (setting_in source.now target.now map.now em.now) tr.now out.old out.new result }
-{
-    let mut places = [0u32; PLACES];
+    if places.len() <= SMALL_PLACES {
+        let mut sizes = [0u16; SMALL_PLACES];
+        return carry_sized(source, target, map, pool, places, &mut sizes, tr, out);
+    }
     let mut sizes = [0u16; PLACES];
-    prepare_sized(source, target, map, em, pool, &mut places, &mut sizes);
-    carry_prepared(source, map, pool, &places, &sizes, tr, out)
+    carry_sized(source, target, map, pool, places, &mut sizes, tr, out)
 }
 
-// Carries the document `tr`, which conforms to the source table. The pool is as long as the setting asks for, in three sizes, since
-// clearing it is what a small document pays.
+// Carries the document `tr`, which conforms to the source table.
 pub fn carry<'a>(
     source: &'a [u16; TABLE],
     target: &[u16; TABLE],
@@ -88,19 +66,20 @@ pub fn carry<'a>(
     em: &[u8],
     tr: &'a [u8],
     out: &mut [u8],
-) -> Carried
+) -> Result<Written, Refusal>
     requires ready { Ready source.now target.now map.now em.now }
     requires tree { SoundTree (table_by source.now) tr.now }
     ensures { Carries (setting_in source.now target.now map.now em.now) tr.now out.old out.new result }
 {
-    let long = room(source, target, map);
-    if is_small(loaded_table::types(source), long) {
-        return carry_small(source, target, map, em, tr, out);
-    }
-    if long <= MIDDLE_POOL {
-        let mut pool = [0u8; MIDDLE_POOL];
-        return carry_pooled(source, target, map, em, tr, out, &mut pool);
-    }
-    let mut pool = largest_pool();
-    carry_pooled(source, target, map, em, tr, out, &mut pool)
+    with_rows(
+        source,
+        target,
+        map,
+        em,
+        out,
+        |pool: &[u8], places: &[u32], out: &mut [u8]|
+            requires { Sizable source.now target.now map.now pool.now places.now tr.now }
+            ensures { CarriesByRows source.entry.now target.entry.now map.entry.now pool.entry.now places.entry.now tr.entry.now out.entry.now out.exit.now result }
+        { carry_by_rows(source, target, map, pool, places, tr, out) },
+    )
 }

@@ -1,67 +1,21 @@
-// Whether a document is the image of a source document: the templates of the setting are prepared in arrays that are long enough,
-// and the document is compared along them.
+// Whether a document is the image of a source document: it is compared along the templates of the setting.
 
 #![tactic(auto)]
 
-ghost use Rattle.std.specs.Prelude.{◌≡◌, true, ◌↔◌};
+ghost use Rattle.std.specs.Prelude.{◌≡◌, List, ℕ, true, ◌↔◌};
+ghost use Rattle.row_traversal.specs.Asked.{ImageAsked};
 ghost use Rattle.model.specs.Definitions.Content.{content_of, document};
 ghost use Rattle.model.specs.Definitions.Image.{image};
 ghost use Rattle.loaded_table.specs.Loaded.{table_by};
 ghost use Rattle.loaded_setting.specs.Ready.{setting_in, Ready};
 ghost use Rattle.loaded_setting.specs.Trees.{SoundTree};
 ghost use Rattle.scanning.specs.Spanning.{Spans};
-ghost use Rattle.pools.specs.Pools.{HasRoom, IsSmall};
 
 use loaded_embedding::MAP;
 use loaded_table::TABLE;
-use pools::{MIDDLE_POOL, PLACES, SMALL_PLACES, SMALL_POOL, is_small, largest_pool, room};
-use preparing::prepare;
+use preparing::with_rows;
 
-// Whether `tr` is the image of `source`, by the smallest arrays.
-fn is_image_small<'a>(
-    from: &'a [u16; TABLE],
-    to: &'a [u16; TABLE],
-    map: &'a [u16; MAP],
-    em: &'a [u8],
-    source: &'a [u8],
-    spans: &'a [u16],
-    tr: &'a [u8],
-) -> bool
-    requires setting { Ready from.now to.now map.now em.now }
-    requires conforming { SoundTree (table_by from.now) source.now }
-    requires spans { Spans source.now spans.now }
-    requires small { IsSmall from.now to.now map.now }
-    ensures { (result ≡ true) ↔ (document 0 (image (setting_in from.now to.now map.now em.now) (content_of source.now)) ≡ tr.now) }
-{
-    let mut pool = [0u8; SMALL_POOL];
-    let mut places = [0u32; SMALL_PLACES];
-    prepare(from, to, map, em, &mut pool, &mut places);
-    matching::is_image(from, &pool, &places, source, spans, tr)
-}
-
-// Whether `tr` is the image of `source`, by a pool that is long enough, and places for any setting.
-fn is_image_pooled<'a>(
-    from: &'a [u16; TABLE],
-    to: &'a [u16; TABLE],
-    map: &'a [u16; MAP],
-    em: &'a [u8],
-    source: &'a [u8],
-    spans: &'a [u16],
-    tr: &'a [u8],
-    pool: &mut [u8],
-) -> bool
-    requires setting { Ready from.now to.now map.now em.now }
-    requires conforming { SoundTree (table_by from.now) source.now }
-    requires spans { Spans source.now spans.now }
-    requires enough { HasRoom from.now to.now map.now pool.old }
-    ensures { (result ≡ true) ↔ (document 0 (image (setting_in from.now to.now map.now em.now) (content_of source.now)) ≡ tr.now) }
-{
-    let mut places = [0u32; PLACES];
-    prepare(from, to, map, em, pool, &mut places);
-    matching::is_image(from, pool, &places, source, spans, tr)
-}
-
-// Whether `tr` is the image of `source`, whose spans are given. The pool is as long as the setting asks for, in three sizes.
+// Whether `tr` is the image of `source`, whose spans are given.
 pub fn is_image<'a>(
     from: &'a [u16; TABLE],
     to: &'a [u16; TABLE],
@@ -76,14 +30,16 @@ pub fn is_image<'a>(
     requires spans { Spans source.now spans.now }
     ensures { (result ≡ true) ↔ (document 0 (image (setting_in from.now to.now map.now em.now) (content_of source.now)) ≡ tr.now) }
 {
-    let long = room(from, to, map);
-    if is_small(loaded_table::types(from), long) {
-        return is_image_small(from, to, map, em, source, spans, tr);
-    }
-    if long <= MIDDLE_POOL {
-        let mut pool = [0u8; MIDDLE_POOL];
-        return is_image_pooled(from, to, map, em, source, spans, tr, &mut pool);
-    }
-    let mut pool = largest_pool();
-    is_image_pooled(from, to, map, em, source, spans, tr, &mut pool)
+    with_rows(
+        from,
+        to,
+        map,
+        em,
+        &mut [],
+        |pool: &[u8], places: &[u32], _out: &mut [u8]|
+            requires spans { Spans source.now spans.now }
+            requires task { (bs : List ℕ) × ImageAsked from.now pool.now places.now source.now bs }
+            ensures { (bs : List ℕ) → ImageAsked from.entry.now pool.entry.now places.entry.now source.entry.now bs → (result ≡ true) ↔ (bs ≡ tr.entry.now) }
+        { matching::is_image(from, pool, places, source, spans, tr) },
+    )
 }

@@ -14,23 +14,16 @@ ghost use Rattle.scanning.specs.Spanning.{Spans};
 ghost use Rattle.inverse.specs.Sources.{ReadFrom};
 ghost use Rattle.reading_along.specs.Along.{SourceIn, Counted, Reads};
 
-use answers::Reading;
+use answers::{Refusal, Written};
 use children::Image;
 use codes::MAX_BYTES;
-use inverse::{Read, read_back};
+use inverse::read_back;
 use loaded_embedding::MAP;
 use loaded_table::TABLE;
 use path_counts::count_path_elements;
 use scanning::spans::{SHORT, fill_spans};
-use unreadable::{Lost, find_lost};
+use unreadable::find_lost;
 use writing::copy;
-
-// What was read ends at an offset of the buffer; or the first source element whose paths can't be followed stands at this offset.
-#[derive(Drop)]
-pub enum Source {
-    To(usize),
-    Missing(usize),
-}
 
 // Where reading fails, where it is known to.
 fn lost_at<'a>(
@@ -48,15 +41,15 @@ fn lost_at<'a>(
     ensures { reading (setting_in from.now to.now map.now em.now) (content_of tr.now) ≡ missing result }
 {
     let root = Image { sigma: 0, from: 2 };
-    let lost = find_lost(from, to, map, em, tr, spans, root, tr.len());
-    match lost {
-        Lost::At(at) => at,
-        Lost::Nowhere => 0,
+    match find_lost(from, to, map, em, tr, spans, root, tr.len()) {
+        Some(at) => at,
+        None => 0,
     }
 }
 
 // Reads `tr` by way of two buffers that are at least as long: what is read goes to the first, the lengths of what elements hold to the
-// second.
+// second. What was read ends at an offset of the buffer; or the first source element whose paths can't be followed stands at this
+// offset.
 fn read_source<'a>(
     from: &'a [u16; TABLE],
     to: &'a [u16; TABLE],
@@ -65,17 +58,16 @@ fn read_source<'a>(
     tr: &'a [u8],
     buffer: &mut [u8],
     spans: &mut [u16],
-) -> Source
+) -> Result<usize, usize>
     requires setting { Ready from.now to.now map.now em.now }
     requires target { SoundTree (table_by to.now) tr.now }
     requires within { (length tr.now ≤ length buffer.old) × (length buffer.old ≤ max_length) × (length buffer.old ≤ length spans.old) }
     ensures { SourceIn result (setting_in from.now to.now map.now em.now) tr.now buffer.new }
 {
     fill_spans(tr, spans);
-    let read = read_back(from, to, map, em, tr, &spans[..], buffer);
-    match read {
-        Read::To(n) => Source::To(n),
-        Read::Nothing => Source::Missing(lost_at(from, to, map, em, tr, &spans[..])),
+    match read_back(from, to, map, em, tr, &spans[..], buffer) {
+        Some(n) => Ok(n),
+        None => Err(lost_at(from, to, map, em, tr, &spans[..])),
     }
 }
 
@@ -96,19 +88,19 @@ fn give<'a>(
     source: &'a [u8],
     elements: usize,
     out: &mut [u8],
-) -> Reading
+) -> Result<Written, Refusal>
     requires setting { Ready from.now to.now map.now em.now }
     requires reading { (tr : List ℕ) × Counted (setting_in from.now to.now map.now em.now) tr elements × ReadFrom (setting_in from.now to.now map.now em.now) tr source.now }
     ensures { (tr : List ℕ) → Counted (setting_in from.now to.now map.now em.now) tr elements → ReadFrom (setting_in from.now to.now map.now em.now) tr source.now → Reads (setting_in from.now to.now map.now em.now) tr out.old out.new result }
 {
     let n = source.len();
     if out.len() < n {
-        return Reading::NoRoom;
+        return Err(Refusal::OutputTooShort);
     }
     let built = count_path_elements(from, to, map, em, source);
-    let count = left_out(elements, built);
-    let written = copy(source, 0, n, out, 0);
-    Reading::Written(written, count)
+    let filler = left_out(elements, built);
+    let length = copy(source, 0, n, out, 0);
+    Ok(Written { length, filler })
 }
 
 // What was read into the buffer, written; or where reading failed.
@@ -117,18 +109,18 @@ fn finish<'a>(
     to: &'a [u16; TABLE],
     map: &'a [u16; MAP],
     em: &'a [u8],
-    read: Source,
+    read: Result<usize, usize>,
     buffer: &'a [u8],
     elements: usize,
     out: &mut [u8],
-) -> Reading
+) -> Result<Written, Refusal>
     requires setting { Ready from.now to.now map.now em.now }
     requires reading { (tr : List ℕ) × Counted (setting_in from.now to.now map.now em.now) tr elements × SourceIn read (setting_in from.now to.now map.now em.now) tr buffer.now }
     ensures { (tr : List ℕ) → Counted (setting_in from.now to.now map.now em.now) tr elements → SourceIn read (setting_in from.now to.now map.now em.now) tr buffer.now → Reads (setting_in from.now to.now map.now em.now) tr out.old out.new result }
 {
     match read {
-        Source::To(n) => give(from, to, map, em, &buffer[..n], elements, out),
-        Source::Missing(at) => Reading::Missing(at),
+        Ok(n) => give(from, to, map, em, &buffer[..n], elements, out),
+        Err(at) => Err(Refusal::Unreadable(at)),
     }
 }
 
@@ -142,7 +134,7 @@ pub fn read_along<'a>(
     tr: &'a [u8],
     elements: usize,
     out: &mut [u8],
-) -> Reading
+) -> Result<Written, Refusal>
     requires setting { Ready from.now to.now map.now em.now }
     requires target { Counted (setting_in from.now to.now map.now em.now) tr.now elements }
     ensures { Reads (setting_in from.now to.now map.now em.now) tr.now out.old out.new result }

@@ -8,16 +8,16 @@ use Rattle.bringing.proofs.bring_through.Goals as goal
 
 pub slice_bounds-give-end : goal.slice_bounds-give-end
 slice_bounds-give-end c =
-    read_within_lem (rw c.in-To.is at (c.read_back-read.ensures _ c.requires.target.form))
+    read_within_lem (rw c.in-Some.is at (c.read_back.ensures _ c.requires.target.form))
 
-pub slice_bounds-give-end-in-To : goal.slice_bounds-give-end-in-To
-slice_bounds-give-end-in-To c = sym (length-take-le _ _ (slice_bounds-give-end c))
+pub slice_bounds-give-end-2 : goal.slice_bounds-give-end-2
+slice_bounds-give-end-2 c = sym (length-take-le _ _ (slice_bounds-give-end c))
 
 pub give-requires : goal.give-requires
 give-requires c =
-    let read = rw c.in-To.is at (c.read_back-read.ensures _ c.requires.target.form) in
+    let read = rw c.in-Some.is at (c.read_back.ensures _ c.requires.target.form) in
     record { setting = c.requires.setting; target = c.requires.target; reading = read_front c.requires.within.1 read; room = spans_room read c.requires.within.2 (search rules) }
 
-pub returns-in-Nothing : goal.returns-in-Nothing
-returns-in-Nothing c =
-    nothing_read _ c.requires.setting.valid c.requires.target _ c.requires.within.0 (rw c.in-Nothing.is at (c.read_back-read.ensures _ c.requires.target.form))
+pub returns-in_default : goal.returns-in_default
+returns-in_default c =
+    nothing_read _ c.requires.setting.valid c.requires.target _ c.requires.within.0 (rw c.in_default.is at (c.read_back.ensures _ c.requires.target.form))

@@ -17,4 +17,4 @@ returns-then-out-n c =
 
 pub returns : goal.returns
 returns c =
-    source-copied _ c.requires.setting.valid c.requires.target c.requires.reading _ (confirmed _ c.is_image.ensures c.if-not-is_image.false) c.if-out-n.false c.copy-written.ensures
+    source-copied _ c.requires.setting.valid c.requires.target c.requires.reading _ (confirmed _ c.is_image.ensures c.if-not-is_image.false) c.if-out-n.false c.copy.ensures

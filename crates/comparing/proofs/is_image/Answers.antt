@@ -1,40 +1,9 @@
--- `is_image` meets its contract: each pool is long enough.
-use mathlib.Core.Path.{sym}
-use Prim.Native.Nat.{ℕ}
-use native.Mathlib.Omega.{arith}
-use lib.ListN.{length-replicate}
-use Rattle.pools.specs.Room.{room_most}
-use Rattle.pools.specs.Pools.{cleared_room, largest_room}
+-- `is_image` meets its contract: by the rows that were prepared.
+use Rattle.row_traversal.specs.Whole.{image_asked}
 use Rattle.comparing.proofs.is_image.Goals as goal
 
-pub room-long-requires : goal.room-long-requires
-room-long-requires c = c.requires.setting.source_bounded.few_types
-
-pub types-requires : goal.types-requires
-types-requires c = tt
-
-pub is_small-requires : goal.is_small-requires
-is_small-requires c = tt
-
-pub is_image_small-requires : goal.is_image_small-requires
-is_image_small-requires c =
-    let small = c.is_small.ensures c.if-is_small.true in
-    record { setting = c.requires.setting; conforming = c.requires.conforming; spans = c.requires.spans; small = (omega (arith, c.types.ensures.0, small.0), omega (arith, c.room-long.ensures, small.1)) }
-
-pub returns-then-is_small : goal.returns-then-is_small
-returns-then-is_small c = c.is_image_small.ensures
-
-pub slice_bounds-is_image_pooled-end : goal.slice_bounds-is_image_pooled-end
-slice_bounds-is_image_pooled-end c = sym (length-replicate {A = ℕ} 16384 0)
-
-pub is_image_pooled-requires : goal.is_image_pooled-requires
-is_image_pooled-requires c = record { setting = c.requires.setting; conforming = c.requires.conforming; spans = c.requires.spans; enough = cleared_room 16384 (omega (arith, c.room-long.ensures, c.if-long-le-MIDDLE_POOL.true)) (omega arith) }
-
-pub returns-then-long-le-MIDDLE_POOL : goal.returns-then-long-le-MIDDLE_POOL
-returns-then-long-le-MIDDLE_POOL c = c.is_image_pooled.ensures
-
-pub is_image_pooled-requires-2 : goal.is_image_pooled-requires-2
-is_image_pooled-requires-2 c = record { setting = c.requires.setting; conforming = c.requires.conforming; spans = c.requires.spans; enough = largest_room c.largest_pool-pool.result c.largest_pool-pool.ensures (room_most _ _ _ c.requires.setting.source_bounded c.requires.setting.target_bounded c.requires.setting.paths_bounded.short) }
+pub with_rows-requires-clause-takes : goal.with_rows-requires-clause-takes
+with_rows-requires-clause-takes c pool places out rows old = (c.requires.spans, (_, image_asked c.requires.setting c.requires.conforming rows))
 
 pub returns : goal.returns
-returns c = c.is_image_pooled-2.ensures
+returns c = c.with_rows.ensures.met _ (image_asked c.requires.setting c.requires.conforming c.with_rows.ensures.rows)

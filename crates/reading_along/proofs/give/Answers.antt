@@ -10,9 +10,9 @@ returns-then-out-n c tr counted read = source-no-room _ c.requires.setting.valid
 pub count_path_elements-built-requires : goal.count_path_elements-built-requires
 count_path_elements-built-requires c = record { setting = c.requires.setting; conforming = source_read _ c.requires.setting.valid c.requires.reading.1.tree c.requires.reading.2 }
 
-pub left_out-count-requires : goal.left_out-count-requires
-left_out-count-requires c = built-less _ c.requires.setting.valid c.requires.reading.1.tree c.requires.reading.2 c.requires.reading.1.count_is c.count_path_elements-built.ensures
+pub left_out-filler-requires : goal.left_out-filler-requires
+left_out-filler-requires c = built-less _ c.requires.setting.valid c.requires.reading.1.tree c.requires.reading.2 c.requires.reading.1.count_is c.count_path_elements-built.ensures
 
 pub returns : goal.returns
 returns c tr counted read =
-    source-copied _ c.requires.setting.valid counted.tree read counted.count_is c.count_path_elements-built.ensures c.left_out-count.ensures c.if-out-n.false c.copy-written.ensures
+    source-copied _ c.requires.setting.valid counted.tree read counted.count_is c.count_path_elements-built.ensures c.left_out-filler.ensures c.if-out-n.false c.copy-length.ensures
