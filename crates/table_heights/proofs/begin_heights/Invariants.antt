@@ -1,6 +1,6 @@
 -- `begin_heights` meets its contract: the numbers of the types below t are stored.
 use mathlib.Core.Path.{◌≡◌}
-use Prim.Native.Nat.{ℕ, ◌≤◌, ◌<◌}
+use Prim.Native.Nat.{ℕ, ◌<◌}
 use lib.ListN.{get_or}
 use Rattle.loaded_table.specs.Loaded.{types_in, heights_of}
 use Rattle.table_heights.specs.Sections.{Elsewhere}

@@ -1,6 +1,5 @@
 -- `finite_bits` meets its contract: the bits of the types below t are set as their heights say.
 use mathlib.Core.Path.{◌≡◌}
-use Prim.Native.Nat.{◌≤◌}
 use lib.ListN.{take}
 use Rattle.loaded_table.specs.Loaded.{heights_of}
 use Rattle.table_heights.specs.Heights.{word, finite_bits}

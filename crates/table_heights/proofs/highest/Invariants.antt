@@ -1,6 +1,6 @@
 -- `highest` meets its contract: the highest of the members passed and of those left is the highest of all.
 use mathlib.Core.Path.{◌≡◌}
-use Prim.Native.Nat.{◌≤◌, ◌<◌, max}
+use Prim.Native.Nat.{◌<◌, max}
 use lib.ListN.{drop}
 use Rattle.loaded_table.specs.Loaded.{heights_of}
 use Rattle.model.specs.Definitions.Heights.{highest}
