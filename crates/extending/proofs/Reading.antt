@@ -13,11 +13,9 @@ use Rattle.model.specs.Definitions.Basics.{pick}
 use Rattle.model.specs.Definitions.Extending.{reads, unreadable, type_there, member_there, first_operation}
 use Rattle.model.specs.Definitions.Operations.{append_type, append_member}
 use Rattle.model.proofs.Theorems.Tools.{pick_true, pick_false}
-use Rattle.table_operations.specs.declared.Table.{Table}
-use Rattle.table_operations.specs.declared.Extended.{Extended}
-use Rattle.table_operations.specs.Operations.{Operated}
-use Rattle.extending.specs.Extending.{ReadAt, TurnAt}
-use Rattle.extending.specs.declared.Operation.TheVariants.{NewType, NewMember, Unreadable}
+use Rattle.std.specs.Prelude.{Some, None}
+use Rattle.extending.specs.Extending.{ReadAt}
+use Rattle.extending.specs.declared.Operation.TheVariants.{NewType, NewMember}
 
 -- ---- of some bytes
 
@@ -76,39 +74,25 @@ module _ (ops : List ℕ) (at : ℕ) where
   enough : (k : ℕ) → ltb k (length ops - at) ≡ true → at + k < length ops
   enough k test = omega (arith, ltb-true k (length ops - at) test)
 
-  pub type_read : (n : ℕ) → get_or ops at 0 ≡ 0x51 → ltb 1 (length ops - at) ≡ true → n ≡ get_or ops (at + 1) 0 → n + 2 ≤ length ops - at → ReadAt ops at (NewType n)
+  pub type_read : (n : ℕ) → get_or ops at 0 ≡ 0x51 → ltb 1 (length ops - at) ≡ true → n ≡ get_or ops (at + 1) 0 → n + 2 ≤ length ops - at → ReadAt ops at (Some (NewType n))
   type_read n is two count within =
       let left = enough 1 two in
       let room : n ≤ length (drop (at + 2) ops) = omega (arith, length-drop (at + 2) ops) in
       (omega arith, ap first_operation (two_there left ∙ rw (is, ← count)) ∙ type_first n (drop (at + 2) ops) room)
 
-  pub long_type_read : (n : ℕ) → get_or ops at 0 ≡ 0x51 → ltb 1 (length ops - at) ≡ true → n ≡ get_or ops (at + 1) 0 → length ops - at < n + 2 → ReadAt ops at Unreadable
+  pub long_type_read : (n : ℕ) → get_or ops at 0 ≡ 0x51 → ltb 1 (length ops - at) ≡ true → n ≡ get_or ops (at + 1) 0 → length ops - at < n + 2 → ReadAt ops at None
   long_type_read n is two count beyond =
       let left = enough 1 two in
       let long : length (drop (at + 2) ops) < n = omega (arith, length-drop (at + 2) ops) in
       ap first_operation (two_there left ∙ rw (is, ← count)) ∙ long_type_first n (drop (at + 2) ops) long
 
-  pub member_read : (t m : ℕ) → get_or ops at 0 ≡ 0x52 → ltb 2 (length ops - at) ≡ true → t ≡ get_or ops (at + 1) 0 → m ≡ get_or ops (at + 2) 0 → ReadAt ops at (NewMember t m)
+  pub member_read : (t m : ℕ) → get_or ops at 0 ≡ 0x52 → ltb 2 (length ops - at) ≡ true → t ≡ get_or ops (at + 1) 0 → m ≡ get_or ops (at + 2) 0 → ReadAt ops at (Some (NewMember t m))
   member_read t m is three type member =
       let left = enough 2 three in
       (omega arith, ap first_operation (three_there left ∙ rw (is, ← type, ← member)) ∙ member_first t m (drop (at + 3) ops))
 
-  pub none_read : at < length ops → (get_or ops at 0 ≡ 0x51 → ltb 1 (length ops - at) ≡ false) → (get_or ops at 0 ≡ 0x52 → ltb 2 (length ops - at) ≡ false) → ReadAt ops at Unreadable
+  pub none_read : at < length ops → (get_or ops at 0 ≡ 0x51 → ltb 1 (length ops - at) ≡ false) → (get_or ops at 0 ≡ 0x52 → ltb 2 (length ops - at) ≡ false) → ReadAt ops at None
   none_read some type member =
       let behind = length-drop (at + 1) ops in
       ap first_operation (one_there some)
       ∙ none_first (get_or ops at 0) (drop (at + 1) ops) (λ e. omega (arith, ltb-false 1 (length ops - at) (type e))) (λ e. omega (arith, ltb-false 2 (length ops - at) (member e)))
-
--- ---- carried out
-
-module _ (ops : List ℕ) (at : ℕ) (before : Table) (r : Extended) where
-  pub type_performed : (n : ℕ) → ReadAt ops at (NewType n) → Operated (append_type (take (at + 2 + n - (at + 2)) (drop (at + 2) ops))) before r
-      → TurnAt ops at before (record { answer = r.answer; table = r.table; width = n + 2 })
-  type_performed n read operated =
-      let size : at + 2 + n - (at + 2) ≡ n = omega arith in
-      let width : 2 + n ≡ n + 2 = omega arith in
-      (λ e. absurd (omega arith), λ e. record { operation = append_type (take n (drop (at + 2) ops)); there = rw width at read.1; within = omega (arith, read.0); wide = omega arith; operated = rw size at operated })
-
-  pub member_performed : (t m : ℕ) → ReadAt ops at (NewMember t m) → Operated (append_member t m) before r → TurnAt ops at before (record { answer = r.answer; table = r.table; width = 3 })
-  member_performed t m read operated =
-      (λ e. absurd (omega arith), λ e. record { operation = append_member t m; there = read.1; within = read.0; wide = omega arith; operated = operated })

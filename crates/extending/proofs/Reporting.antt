@@ -7,11 +7,12 @@ use native.Mathlib.Omega.{arith}
 use lib.ListN.{length, take, drop, set, get_or, length-set, length-append}
 use lib.Seq.{sets, length-take-le}
 use borrow.Author.Tests.{le-leb, lt-leb}
-use Rattle.answers.specs.declared.Extension.{Extension}
-use Rattle.answers.specs.declared.Extension.TheVariants.{NoChoice, Faulty, Types}
-use Rattle.answers.specs.Answers.{fault, extension_result}
+use Rattle.std.specs.Prelude as prelude
+use Rattle.answers.specs.declared.Refusal.{Refusal}
+use Rattle.answers.specs.declared.Refusal.TheVariants.{Faulty, NoImage, Unreadable, ImageTooDeep, ImageTooLong, OutputTooShort, NoChoice}
+use Rattle.answers.specs.Answers.{fault, counted_result}
 use Rattle.answer_numbers.specs.declared.Answer.{Answer}
-use Rattle.answer_numbers.specs.Numbers.{numbers, Answers}
+use Rattle.answer_numbers.specs.Numbers.{numbers}
 use Rattle.loaded_table.specs.Loaded.{types_in, heights_of, fill_of, table_by, length_of_lem}
 use Rattle.model.specs.Definitions.Table.{Table}
 use Rattle.model.specs.Definitions.Heights.{height_of}
@@ -25,7 +26,7 @@ use Rattle.model.proofs.Theorems.GrownTables.{finite_everywhere}
 use Rattle.table_growth.specs.Growth.{IsLoaded}
 use Rattle.writing.specs.Writing.{Writes}
 use Rattle.writing.specs.Laws.{writes_then, writes-length, stored}
-use Rattle.extending.specs.Extending.{Small}
+use Rattle.extending.specs.Extending.{Small, Reports}
 
 -- ---- an answer
 
@@ -45,23 +46,28 @@ fault_low (path_clash at) = omega arith
 fault_low (unexpected at) = omega arith
 
 -- the refusal and the value of an answer are bytes, those that the model reports
-pub record TwoBytes (e : Extension) (refusal value : ℕ) : Type 0 where
+pub record TwoBytes (e : prelude.Result ℕ Refusal) (refusal value : ℕ) : Type 0 where
   pub low_refusal : refusal ≤ 19
   pub low_value : value ≤ 255
-  pub bytes : answer_bytes (extension_result e ∷ []) ≡ refusal ∷ value ∷ []
+  pub bytes : answer_bytes (counted_result e ∷ []) ≡ refusal ∷ value ∷ []
 
-pub two_bytes : (e : Extension) (a : Answer) → Small e → numbers a ≡ answer_of (extension_result e) → TwoBytes e a.refusal a.value
+pub two_bytes : (e : prelude.Result ℕ Refusal) (a : Answer) → Small e → numbers a ≡ answer_of (counted_result e) → TwoBytes e a.refusal a.value
 unfolding answer_bytes answer_of numbers_of
 two_bytes e a small same = rw (ap (λ (n : model.Answer). n.refusal) same, ap (λ (n : model.Answer). n.value) same) (go e small)
   where
-    go : (e : Extension) → Small e → TwoBytes e (answer_of (extension_result e)).refusal (answer_of (extension_result e)).value
-    go NoChoice small = record { low_refusal = omega arith; low_value = omega arith; bytes = refl }
-    go (Faulty f) small = record { low_refusal = omega (arith, fault_low (fault f)); low_value = omega arith; bytes = refl }
-    go (Types n) small = record { low_refusal = omega arith; low_value = small; bytes = refl }
+    go : (e : prelude.Result ℕ Refusal) → Small e → TwoBytes e (answer_of (counted_result e)).refusal (answer_of (counted_result e)).value
+    go (prelude.Err (Faulty d f)) small = record { low_refusal = omega (arith, fault_low (fault f)); low_value = omega arith; bytes = refl }
+    go (prelude.Err NoImage) small = record { low_refusal = omega arith; low_value = omega arith; bytes = refl }
+    go (prelude.Err (Unreadable at)) small = record { low_refusal = omega arith; low_value = omega arith; bytes = refl }
+    go (prelude.Err ImageTooDeep) small = record { low_refusal = omega arith; low_value = omega arith; bytes = refl }
+    go (prelude.Err ImageTooLong) small = record { low_refusal = omega arith; low_value = omega arith; bytes = refl }
+    go (prelude.Err OutputTooShort) small = record { low_refusal = omega arith; low_value = omega arith; bytes = refl }
+    go (prelude.Err NoChoice) small = record { low_refusal = omega arith; low_value = omega arith; bytes = refl }
+    go (prelude.Ok n) small = record { low_refusal = omega arith; low_value = small; bytes = refl }
 
 -- stored one behind the other they are written
-pub answer-written : (old : List ℕ) (at : ℕ) (e : Extension) (refusal value : ℕ) → TwoBytes e refusal value
-    → Writes old (set (set old at refusal) (at + 1) value) at (answer_bytes (extension_result e ∷ [])) (at + 2)
+pub answer-written : (old : List ℕ) (at : ℕ) (e : prelude.Result ℕ Refusal) (refusal value : ℕ) → TwoBytes e refusal value
+    → Writes old (set (set old at refusal) (at + 1) value) at (answer_bytes (counted_result e ∷ [])) (at + 2)
 answer-written old at e refusal value two = rw two.bytes (record { written = rw (add-one at); after = refl })
 
 -- ---- what is kept
@@ -141,12 +147,12 @@ module _ (rows old answers : List ℕ) (all filled : ℕ) (types : all ≡ types
       )
 
   -- where there is less room than that, nothing is written
-  pub no_room : length old < 1 + 3 * all + filled → (a : Answer) → numbers a ≡ answer_of (model.refused output_too_short) → (rs : List Result) → answer_bytes rs ≡ take filled answers
-      → Answers (reported old (performed rs (table_by rows))) old a
+  pub no_room : length old < 1 + 3 * all + filled → (rs : List Result) → answer_bytes rs ≡ take filled answers
+      → Reports (reported old (performed rs (table_by rows))) old (prelude.Err OutputTooShort)
   unfolding reported report_if untouched
-  no_room short a answer rs same =
+  no_room short rs same =
       let R : List ℕ = report rs (table_by rows) in
-      rw (lt-leb (length R) (length old) (omega (arith, report_length rs same))) (record { same_answer = answer; same_output = refl })
+      rw (lt-leb (length R) (length old) (omega (arith, report_length rs same))) (record { same_result = refl; same_output = refl })
 
   module _ (mid : List ℕ) (behind : ℕ) (kept : Writes (set old 0 all) mid 1 (kept_bytes (table_by rows) 0 (types_in rows)) behind) where
     -- behind what is kept there is room for the answers
@@ -155,12 +161,12 @@ module _ (rows old answers : List ℕ) (all filled : ℕ) (types : all ≡ types
 
     -- the number of types, what is kept and the answers are the report
     pub report-made : (new : List ℕ) (next : ℕ) → Writes mid new behind (take (filled - 0) (drop 0 answers)) next → 1 + 3 * all + filled ≤ length old
-        → (a : Answer) → numbers a ≡ answer_of (model.accepted (1 + 3 * all + filled) 0) → (rs : List Result) → answer_bytes rs ≡ take filled answers
-        → Answers (reported old (performed rs (table_by rows))) new a
+        → (rs : List Result) → answer_bytes rs ≡ take filled answers
+        → Reports (reported old (performed rs (table_by rows))) new (prelude.Ok (1 + 3 * all + filled))
     unfolding reported report_if
-    report-made new next copied room a answer rs same =
+    report-made new next copied room rs same =
         let R : List ℕ = report rs (table_by rows) in
         let whole = writes_then (stored old 0 all) (writes_then kept copied) in
         let long = report_length rs same in
         rw (le-leb (length R) (length old) (omega (arith, long)), long)
-        (record { same_answer = answer; same_output = whole.written ∙ ap (sets old 0) (sym (report_parts rs same)) })
+        (record { same_result = refl; same_output = whole.written ∙ ap (sets old 0) (sym (report_parts rs same)) })

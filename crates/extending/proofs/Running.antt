@@ -6,27 +6,24 @@ use native.Mathlib.Omega.{arith}
 use lib.ListN.{length, take, drop, length-drop, drop_of_length-le}
 use lib.Seq.{drop-drop}
 use borrow.Author.Tests.{le-leb, lt-leb}
-use Rattle.answer_numbers.specs.declared.Answer.{Answer}
-use Rattle.answer_numbers.specs.Numbers.{ForFault, Answers, fault_answers}
-use Rattle.answers.specs.declared.Extension.{Extension}
-use Rattle.answers.specs.declared.Extension.TheVariants.{NoChoice, Faulty, Types}
+use Rattle.std.specs.Prelude as prelude
+use Rattle.answers.specs.declared.Document.{Document}
+use Rattle.answers.specs.declared.Refusal.{Refusal}
 use Rattle.answers.specs.declared.Fault.{Fault}
 use Rattle.answers.specs.declared.Fault.TheVariants.{TooLong, BadForm}
-use Rattle.answers.specs.declared.Judged.TheVariants.{Sound, Has}
-use Rattle.answers.specs.Answers.{fault, judged, extension_result}
+use Rattle.answers.specs.Answers.{fault, refusal, counted_result}
 use Rattle.model.specs.Definitions.Table as model
 use Rattle.model.specs.Definitions.Refusals.{source_table, operations, document_number, fault_unless, fits, max_length, sound, has}
-use Rattle.model.specs.Definitions.Entries.{Result, refused, accepted, unless_faulty, judged_table}
+use Rattle.model.specs.Definitions.Entries.{Result, refused, accepted, untouched, unless_faulty, judged_table}
 use Rattle.model.specs.Definitions.Operations.{Operation, operate}
 use Rattle.model.specs.Definitions.Extending.{reads, unreadable, first_operation, Performed, performed, unread, with_answer, perform_one, perform_next, perform_to, perform, answer_bytes, reported, long_operations, extend}
 use Rattle.model.proofs.Theorems.OperationLaws.{done}
 use Rattle.table_operations.specs.declared.Table.{Table}
-use Rattle.table_operations.specs.declared.Loading.{Loading}
-use Rattle.table_operations.specs.Operations.{held, StandsFor, LoadedFrom}
+use Rattle.table_operations.specs.Operations.{held, StandsFor, LoadedFrom, judgement_of}
 use Rattle.writing.specs.Writing.{Writes}
 use Rattle.writing.specs.Laws.{writes_then, writes-length, written_from_start}
 use Rattle.extending.specs.declared.Turn.{Turn}
-use Rattle.extending.specs.Extending.{Performs, TurnAt, Small}
+use Rattle.extending.specs.Extending.{Performs, Small, Reports}
 
 -- a table that stands for another holds it, and so stands for its own
 stands_for_own : (t : Table) {T : model.Table} → StandsFor t T → StandsFor t (held t)
@@ -80,18 +77,18 @@ answer_behind (accepted types f ∷ rs) r = rw (answer_behind rs r)
 
 -- ---- an answer is small: a number of types is that of a valid table
 
-small_answer : (T : model.Table) (o : Operation) (e : Extension) → extension_result e ≡ (operate T o).result → Small e
-small_answer T o NoChoice is = tt
-small_answer T o (Faulty f) is = tt
-small_answer T o (Types n) is =
+small_answer : (T : model.Table) (o : Operation) (e : prelude.Result ℕ Refusal) → counted_result e ≡ (operate T o).result → Small e
+small_answer T o (prelude.Err why) is = tt
+small_answer T o (prelude.Ok n) is =
     let it = done T o (sym is) in
     omega (arith, it.1.at_most_64, it.2)
 
 -- ---- the loop
 
--- an operation is there where the width isn't 0
-pub goes_on : {ops : List ℕ} {at : ℕ} {table : Table} {t : Turn} → TurnAt ops at table t → (t.width ≡ 0 → ⊥) → Performs ops at table t
-goes_on turn some = turn.1 (omega (arith, some))
+-- a refusal, and the output as it was
+refused_reports : (out : List ℕ) (why : Refusal) → Reports (untouched out (refusal why)) out (prelude.Err why)
+unfolding untouched
+refused_reports out why = record { same_result = refl; same_output = refl }
 
 -- The operations before offset `at` are carried out, their answers written, and those behind it give the rest.
 pub record Ran (ops : List ℕ) (loaded : Table) (answers : List ℕ) (table : Table) (at filled : ℕ) : Type 0 where
@@ -137,14 +134,14 @@ module _ {ops : List ℕ} {loaded : Table} {answers : List ℕ} {table : Table} 
         let here = none_readable (r.most - 1) at (held table) (drop at ops) some none in
         sym r.whole ∙ ap (prepended r.results) (one_more ∙ here) ∙ prepended_unread r.results at
 
-    pub stop-answered : (out : List ℕ) (a : Answer) → first_operation (drop at ops) ≡ unreadable → ForFault (BadForm at) 11 a → Answers (reported out (perform ops (held loaded))) out a
-    unfolding reported document_number
-    stop-answered out a none answer = rw (stopped none) (fault_answers out operations (BadForm at) a answer)
+    pub stop-answered : (out : List ℕ) → first_operation (drop at ops) ≡ unreadable → Reports (reported out (perform ops (held loaded))) out (prelude.Err (Refusal.Faulty Document.Operations (BadForm at)))
+    unfolding reported
+    stop-answered out none = rw (stopped none) (refused_reports out (Refusal.Faulty Document.Operations (BadForm at)))
 
-    pub one-more-ran : {t : Turn} {after : List ℕ} → Performs ops at table t → Writes answers after filled (answer_bytes (extension_result t.answer ∷ [])) (filled + 2)
+    pub one-more-ran : {t : Turn} {after : List ℕ} → Performs ops at table t → Writes answers after filled (answer_bytes (counted_result t.answer ∷ [])) (filled + 2)
         → Ran ops loaded after t.table (at + t.width) (filled + 2)
     one-more-ran {t} {after} p w =
-        let answer = extension_result t.answer in
+        let answer = counted_result t.answer in
         let then = p.operated.then in
         let same = then.stands.same_table in
         let later = perform_to (r.most - 1) (at + t.width) (drop (at + t.width) ops) (held t.table) in
@@ -176,34 +173,34 @@ module _ {ops : List ℕ} {loaded : Table} {answers : List ℕ} {table : Table} 
   pub answers_there : length ops ≤ max_length → filled ≤ length answers
   answers_there short = omega (arith, r.few, r.within, answers_room)
 
-  pub report_answered : (out new : List ℕ) (a : Answer) → length ops ≤ at → length ops ≤ max_length
-      → ((rs : List Result) → answer_bytes rs ≡ take filled answers → Answers (reported out (performed rs (held table))) new a)
-      → Answers (reported out (perform ops (held loaded))) new a
+  pub report_answered : (out new : List ℕ) (a : prelude.Result ℕ Refusal) → length ops ≤ at → length ops ≤ max_length
+      → ((rs : List Result) → answer_bytes rs ≡ take filled answers → Reports (reported out (performed rs (held table))) new a)
+      → Reports (reported out (perform ops (held loaded))) new a
   report_answered out new a end short report =
       let fits : length (answer_bytes r.results) ≤ length r.blank = omega (arith, r.written.after, r.few, r.within, r.room) in
       rw (all_ran end) (report r.results (sym (written_from_start r.written fits)))
 
 -- ---- the entry
 
-module _ {table : List ℕ} {r : Loading} (h : LoadedFrom table r) where
-  pub table_refused : (ops out : List ℕ) (f : Fault) (a : Answer) → r.judged ≡ Has f → ForFault f 1 a → Answers (extend table ops out) out a
-  unfolding extend unless_faulty document_number
-  table_refused ops out f a is answer =
-      let found : judged_table table ≡ has (fault f) = sym h.judgement ∙ ap judged is in
-      rw found (fault_answers out source_table f a answer)
+module _ {table : List ℕ} {r : prelude.Result Table Fault} (h : LoadedFrom table r) where
+  pub table_refused : (ops out : List ℕ) (f : Fault) → r ≡ prelude.Err f → Reports (extend table ops out) out (prelude.Err (Refusal.Faulty Document.SourceTable f))
+  unfolding extend unless_faulty
+  table_refused ops out f is =
+      let found : judged_table table ≡ has (fault f) = sym h.judgement ∙ ap judgement_of is in
+      rw found (refused_reports out (Refusal.Faulty Document.SourceTable f))
 
-  module _ (is : r.judged ≡ Sound) where
+  module _ {t : Table} (is : r ≡ prelude.Ok t) where
     accepted-table : judged_table table ≡ sound
-    accepted-table = sym h.judgement ∙ ap judged is
+    accepted-table = sym h.judgement ∙ ap judgement_of is
 
-    pub loaded-stands : StandsFor r.table (held r.table)
-    loaded-stands = stands_for_own r.table (h.loaded accepted-table)
+    pub loaded-stands : StandsFor t (held t)
+    loaded-stands = stands_for_own t (h.loaded t is)
 
-    pub operations-refused : (ops out : List ℕ) (a : Answer) → max_length < length ops → ForFault TooLong 11 a → Answers (extend table ops out) out a
-    unfolding extend unless_faulty document_number long_operations fault_unless fits
-    operations-refused ops out a long answer = rw (accepted-table, lt-leb (length ops) max_length long) (fault_answers out operations TooLong a answer)
+    pub operations-refused : (ops out : List ℕ) → max_length < length ops → Reports (extend table ops out) out (prelude.Err (Refusal.Faulty Document.Operations TooLong))
+    unfolding extend unless_faulty long_operations fault_unless fits
+    operations-refused ops out long = rw (accepted-table, lt-leb (length ops) max_length long) (refused_reports out (Refusal.Faulty Document.Operations TooLong))
 
-    pub run-answered : (ops out new : List ℕ) (a : Answer) → length ops ≤ max_length → Answers (reported out (perform ops (held r.table))) new a → Answers (extend table ops out) new a
+    pub run-answered : (ops out new : List ℕ) (a : prelude.Result ℕ Refusal) → length ops ≤ max_length → Reports (reported out (perform ops (held t))) new a → Reports (extend table ops out) new a
     unfolding extend unless_faulty long_operations fault_unless fits
     run-answered ops out new a short answers =
-        rw (accepted-table, le-leb (length ops) max_length short, ← (h.loaded accepted-table).stands.same_table) answers
+        rw (accepted-table, le-leb (length ops) max_length short, ← (h.loaded t is).stands.same_table) answers

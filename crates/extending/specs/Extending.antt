@@ -1,24 +1,25 @@
 -- What the contracts of this crate say: an operation read at an offset, a turn of carrying operations out, and what is reported. The
 -- definitions are those of the model's Extending.antt.
-use Rattle.std.specs.Prelude.{◌≡◌, List, ℕ, ◌+◌, ◌≤◌, ◌<◌, length, take, drop}
-use Rattle.answers.specs.declared.Extension.{Extension}
-use Rattle.answers.specs.declared.Extension.TheVariants as answers
+use Rattle.std.specs.Prelude.{◌≡◌, Option, Some, None, Result, Ok, Err, List, ℕ, ◌+◌, ◌≤◌, ◌<◌, length, take, drop}
+use Rattle.answers.specs.Answers.{counted_result}
+use Rattle.answers.specs.declared.Refusal.{Refusal}
+use Rattle.model.specs.Definitions.Entries.{Outcome}
 use Rattle.model.specs.Definitions.Operations as model
 use Rattle.model.specs.Definitions.Operations.{append_type, append_member}
 use Rattle.model.specs.Definitions.Extending.{reads, unreadable, first_operation}
 use Rattle.table_operations.specs.declared.Table.{Table}
 use Rattle.table_operations.specs.Operations.{Operated}
 use Rattle.extending.specs.declared.Operation.{Operation}
-use Rattle.extending.specs.declared.Operation.TheVariants.{NewType, NewMember, Unreadable}
+use Rattle.extending.specs.declared.Operation.TheVariants.{NewType, NewMember}
 use Rattle.extending.specs.declared.Turn.{Turn}
 
 -- ---- an operation read
 
 -- the model's operation at an offset, which ends within the document; or none can be read there
-abbrev pub ReadAt : List ℕ → ℕ → Operation → Type 0
-ReadAt ops at (NewType n) = (at + (2 + n) ≤ length ops) × (first_operation (drop at ops) ≡ reads (append_type (take n (drop (at + 2) ops))) (2 + n))
-ReadAt ops at (NewMember t m) = (at + 3 ≤ length ops) × (first_operation (drop at ops) ≡ reads (append_member t m) 3)
-ReadAt ops at Unreadable = first_operation (drop at ops) ≡ unreadable
+abbrev pub ReadAt : List ℕ → ℕ → Option Operation → Type 0
+ReadAt ops at (Some (NewType n)) = (at + (2 + n) ≤ length ops) × (first_operation (drop at ops) ≡ reads (append_type (take n (drop (at + 2) ops))) (2 + n))
+ReadAt ops at (Some (NewMember t m)) = (at + 3 ≤ length ops) × (first_operation (drop at ops) ≡ reads (append_member t m) 3)
+ReadAt ops at None = first_operation (drop at ops) ≡ unreadable
 
 -- ---- carried out
 
@@ -30,12 +31,19 @@ pub record Performs (ops : List ℕ) (at : ℕ) (before : Table) (r : Turn) : Ty
   pub wide : 2 ≤ r.width
   pub operated : Operated operation before (record { answer = r.answer; table = r.table })
 
--- or none can be read there, and the width is 0
-abbrev pub TurnAt : List ℕ → ℕ → Table → Turn → Type 0
-TurnAt ops at before r = (r.width ≡ 0 → first_operation (drop at ops) ≡ unreadable) × (0 < r.width → Performs ops at before r)
+-- or none can be read there
+abbrev pub TurnAt : List ℕ → ℕ → Table → Option Turn → Type 0
+TurnAt ops at before (Some r) = Performs ops at before r
+TurnAt ops at before None = first_operation (drop at ops) ≡ unreadable
 
 -- an answer whose numbers are bytes
-abbrev pub Small : Extension → Type 0
-Small answers.NoChoice = Unit {0}
-Small (answers.Faulty f) = Unit {0}
-Small (answers.Types n) = n ≤ 255
+abbrev pub Small : Result ℕ Refusal → Type 0
+Small (Ok n) = n ≤ 255
+Small (Err why) = Unit {0}
+
+-- ---- reported
+
+-- the result and the output are those of an outcome
+pub record Reports (o : Outcome) (new : List ℕ) (r : Result ℕ Refusal) : Type 0 where
+  pub same_result : counted_result r ≡ o.result
+  pub same_output : new ≡ o.output

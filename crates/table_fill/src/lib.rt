@@ -24,12 +24,8 @@ const OWN_BYTES: u16 = ELEMENT_BYTES as u16;
 fn held_sum(a: u16, b: u16) -> u16
     ensures { result ≡ held_length (a + b) }
 {
-    let sum = a as usize + b as usize;
-    if sum < OVER_BYTES {
-        sum as u16
-    } else {
-        OVER_BYTES as u16
-    }
+    let sum = usize::from(a) + usize::from(b);
+    sum.min(OVER_BYTES) as u16
 }
 
 // The filler length kept for a type, 0 for a number beyond them.
@@ -43,17 +39,14 @@ fn fill_at(table: &[u16; TABLE], t: usize) -> u16
     }
 }
 
-// 3 more than the filler lengths of the members of type t, held at 60,001. The loop adds one a turn.
+// 3 more than the filler lengths of the members of type t, held at 60,001.
 fn fill_sum(table: &[u16; TABLE], t: usize) -> u16
     requires { Bounded table.now × (t < types_in table.now) }
     ensures { result ≡ held_length (3 + fill_sum (fill_of table.now) (members_at table.now t)) }
 {
-    let many = count(table, t);
     let mut total = OWN_BYTES;
-    let mut i = 0;
-    while i < many {
+    for i in 0..count(table, t) {
         total = held_sum(total, fill_at(table, member(table, t, i)));
-        i += 1;
     }
     total
 }

@@ -24,20 +24,14 @@ fn height_at(table: &[u16; TABLE], t: usize) -> usize
     if t < MAX_TYPES { height(table, t) } else { 0 }
 }
 
-// The highest height of the members of type t. The loop keeps the highest of those passed.
+// The highest height of the members of type t.
 fn highest(table: &[u16; TABLE], t: usize) -> usize
     requires { Bounded table.now × (t < types_in table.now) }
     ensures { (result ≡ model.highest (heights_of table.now) (members_at table.now t)) × (result < 65536) }
 {
-    let many = count(table, t);
     let mut best = 0;
-    let mut i = 0;
-    while i < many {
-        let h = height_at(table, member(table, t, i));
-        if best < h {
-            best = h;
-        }
-        i += 1;
+    for i in 0..count(table, t) {
+        best = height_at(table, member(table, t, i)).max(best);
     }
     best
 }
@@ -95,7 +89,7 @@ fn held_height(all: usize, h: usize) -> usize
     requires { all ≤ max_types }
     ensures { result ≡ min (all + 1) h }
 {
-    if h <= all { h } else { all + 1 }
+    h.min(all + 1)
 }
 
 // The number with which rounds begin for type t of so many.
@@ -114,17 +108,14 @@ pub fn next_height(table: &[u16; TABLE], t: usize) -> usize
     held_height(types(table), height_of(table, t))
 }
 
-// Where rounds begin: for each type one more than the number of types, behind them 0. The loop has stored it for the types
-// below t.
+// Where rounds begin: for each type one more than the number of types, behind them 0.
 fn begin_heights(table: &mut [u16; TABLE])
     requires { Bounded table.old }
     ensures { Elsewhere heights_start max_types table.old table.new × ((t : ℕ) → t < max_types → get_or (heights_of table.new) t 0 ≡ first_height (types_in table.old) t) }
 {
     let all = types(table);
-    let mut t = 0;
-    while t < MAX_TYPES {
+    for t in 0..MAX_TYPES {
         set_height(table, t, first_height(all, t));
-        t += 1;
     }
 }
 
@@ -176,20 +167,17 @@ pub fn find_heights(table: &mut [u16; TABLE])
 
 // ---- types without a finite instance
 
-// The types with a finite instance as bits: those whose height is at most the number of types. The loop has set the bits
-// of the types below t.
+// The types with a finite instance as bits: those whose height is at most the number of types.
 fn finite_bits(table: &[u16; TABLE], all: usize) -> u64
     requires { (all ≤ max_types) × (length (heights_of table.now) ≡ max_types) }
     ensures { result ≡ word (finite_bits all (take all (heights_of table.now))) }
 {
     let mut bits = 0u64;
-    let mut t = 0;
-    while t < all {
+    for t in 0..all {
         let h = height(table, t);
         if h <= all {
-            bits = bits | (1u64 << t);
+            bits |= 1u64 << t;
         }
-        t += 1;
     }
     bits
 }

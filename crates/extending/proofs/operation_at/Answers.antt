@@ -5,26 +5,17 @@ use borrow.Author.Tests.{ltb-true, lt-ltb, le-ltb}
 use Rattle.extending.proofs.Reading.{type_read, long_type_read, member_read, none_read}
 use Rattle.extending.proofs.operation_at.Goals as goal
 
-pub bounds-ops-at-then-left-gt1 : goal.bounds-ops-at-then-left-gt1
-bounds-ops-at-then-left-gt1 c = omega (arith, ltb-true)
-
 pub returns-then-n-left : goal.returns-then-n-left
-returns-then-n-left c = type_read _ _ _ c.if-b-eq-APPEND_TYPE.true (lt-ltb _ _ c.if-left-gt1.true) c.wide-n.ensures.0 c.if-n-left.true
+returns-then-n-left c = type_read _ _ _ c.if-b-eq-APPEND_TYPE.true (lt-ltb _ _ c.if-left-gt1.true) c.from-n.ensures c.if-n-left.true
 
 pub returns-then-left-gt1 : goal.returns-then-left-gt1
 returns-then-left-gt1 c =
     let args = c.args in
-    long_type_read args.ops.now args.at _ c.if-b-eq-APPEND_TYPE.true (lt-ltb _ _ c.if-left-gt1.true) c.wide-n.ensures.0 c.if-n-left.false
-
-pub bounds-ops-at-then-left-gt2 : goal.bounds-ops-at-then-left-gt2
-bounds-ops-at-then-left-gt2 c = omega (arith, ltb-true)
-
-pub bounds-ops-at-then-left-gt2-2 : goal.bounds-ops-at-then-left-gt2-2
-bounds-ops-at-then-left-gt2-2 c = omega (arith, ltb-true)
+    long_type_read args.ops.now args.at _ c.if-b-eq-APPEND_TYPE.true (lt-ltb _ _ c.if-left-gt1.true) c.from-n.ensures c.if-n-left.false
 
 pub returns-then-left-gt2 : goal.returns-then-left-gt2
 returns-then-left-gt2 c =
-    member_read _ _ _ _ c.if-b-eq-APPEND_MEMBER.true (lt-ltb _ _ c.if-left-gt2.true) c.wide.ensures.0 c.wide-then-left-gt2.ensures.0
+    member_read _ _ _ _ c.if-b-eq-APPEND_MEMBER.true (lt-ltb _ _ c.if-left-gt2.true) c.from-t.ensures c.from-m.ensures
 
 pub returns : goal.returns
 returns c =

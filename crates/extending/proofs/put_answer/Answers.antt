@@ -2,17 +2,17 @@
 use borrow.Author.Rules.{rules}
 use Rattle.extending.proofs.Reporting.{TwoBytes, two_bytes, answer-written}
 use Rattle.extending.proofs.put_answer.Goals as goal
-use Rattle.extending.proofs.put_answer.Goals.{After-extended-a}
+use Rattle.extending.proofs.put_answer.Goals.{After-from-a}
 
 -- the answer's two bytes
-two : (c : After-extended-a) → TwoBytes c.args.e c.extended-a.result.refusal c.extended-a.result.value
-two c = two_bytes _ _ c.requires.1 c.extended-a.ensures
+two : (c : After-from-a) → TwoBytes c.args.e c.from-a.result.refusal c.from-a.result.value
+two c = two_bytes _ _ c.requires.1 c.from-a.ensures
 
 pub overflow_cast-answers : goal.overflow_cast-answers
-overflow_cast-answers c = search (rules, (two (goal.at.overflow_cast-answers c).After-extended-a).low_refusal)
+overflow_cast-answers c = search (rules, (two (goal.at.overflow_cast-answers c).After-from-a).low_refusal)
 
 pub overflow_cast-answers-2 : goal.overflow_cast-answers-2
-overflow_cast-answers-2 c = search (rules, (two (goal.at.overflow_cast-answers-2 c).After-extended-a).low_value)
+overflow_cast-answers-2 c = search (rules, (two (goal.at.overflow_cast-answers-2 c).After-from-a).low_value)
 
 pub returns : goal.returns
-returns c = answer-written _ _ _ _ _ (two (goal.at.returns c).After-extended-a)
+returns c = answer-written _ _ _ _ _ (two (goal.at.returns c).After-from-a)

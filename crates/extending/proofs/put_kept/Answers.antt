@@ -9,7 +9,7 @@ use Rattle.extending.proofs.put_kept.Goals.{In-loop-t, After-height}
 
 -- in a turn there is a type, and room for three bytes more
 exists : (turn : In-loop-t) → turn.loop-t.t < types_in turn.args.numbers.now
-exists turn = omega (arith, turn.loop-t-test.true, turn.types-all.ensures.0)
+exists turn = omega (arith, turn.loop-t-test.true, turn.types-t-end.ensures.0)
 
 room : (turn : In-loop-t) → turn.loop-t.at + 3 ≤ length turn.loop-t.out
 room turn =
@@ -22,7 +22,7 @@ below turn = omega (arith, exists turn, turn.requires.0.stands.bounded.few_types
 -- what was read is what is kept with the type
 with-type : (c : After-height) → KeptWith (table_by c.args.numbers.now) c.loop-t.t c.height.result c.fill-length.result
 with-type c =
-    rw (c.height.ensures.0, c.fill-length.ensures.0) (kept_with _ _ c.requires.0 (omega (arith, c.loop-t-test.true, c.types-all.ensures.0)))
+    rw (c.height.ensures.0, c.fill-length.ensures.0) (kept_with _ _ c.requires.0 (omega (arith, c.loop-t-test.true, c.types-t-end.ensures.0)))
 
 pub loop-t-init : goal.loop-t-init
 loop-t-init c = none_kept _ _ _
@@ -57,9 +57,6 @@ bounds-out-third c = simp length-set (omega (arith, room (goal.at.bounds-out-thi
 pub overflow_add-at : goal.overflow_add-at
 overflow_add-at c = search (rules, room (goal.at.overflow_add-at c).In-loop-t)
 
-pub loop-t-smaller : goal.loop-t-smaller
-loop-t-smaller c = omega (arith, c.loop-t-test.true)
-
 pub loop-t-preserved : goal.loop-t-preserved
 loop-t-preserved c = one_more_kept _ _ _ _ _ _ _ _ c.loop-t.invariant c.loop-t-test.true (with-type (goal.at.loop-t-preserved c).After-height)
 
@@ -67,4 +64,4 @@ pub shape_of-out : goal.shape_of-out
 shape_of-out c = c.loop-t.invariant.long
 
 pub returns : goal.returns
-returns c = all_kept c.loop-t.invariant c.loop-t-test.false c.types-all.ensures.0
+returns c = all_kept c.loop-t.invariant c.loop-t-test.false c.types-t-end.ensures.0

@@ -7,7 +7,7 @@ use Rattle.extending.proofs.Reporting.{no_room, room-behind, report-made}
 use Rattle.extending.proofs.write_report.Goals as goal
 
 pub returns-then-out-needed : goal.returns-then-out-needed
-returns-then-out-needed c = no_room c.args.table.numbers _ _ _ _ c.types-all.ensures.0 c.requires.1 c.if-out-needed.true _ c.without_room.ensures
+returns-then-out-needed c = no_room c.args.table.numbers _ _ _ _ c.types-all.ensures.0 c.requires.1 c.if-out-needed.true
 
 pub put_kept-behind-requires : goal.put_kept-behind-requires
 put_kept-behind-requires c = (c.requires.0, omega (arith, c.if-out-needed.false, c.types-all.ensures.0, length-set c.args.out.now 0 c.types-all.result))
@@ -24,4 +24,4 @@ shape_of-out c = search (rules, writes-length c.copy.ensures, writes-length c.pu
 
 pub returns : goal.returns
 returns c =
-    report-made c.args.table.numbers _ _ _ _ c.types-all.ensures.0 c.requires.1 _ _ c.put_kept-behind.ensures _ _ c.copy.ensures c.if-out-needed.false _ c.accepting.ensures
+    report-made c.args.table.numbers _ _ _ _ c.types-all.ensures.0 c.requires.1 _ _ c.put_kept-behind.ensures _ _ c.copy.ensures c.if-out-needed.false

@@ -6,33 +6,20 @@ use Rattle.table_heights.specs.Sections.{elsewhere_same, elsewhere_set}
 use Rattle.table_heights.specs.Heights.{first_height}
 use Rattle.table_heights.proofs.begin_heights.Goals as goal
 
-pub types-all-requires : goal.types-all-requires
-types-all-requires c = tt
-
 pub loop-t-init : goal.loop-t-init
-loop-t-init c = (omega arith, elsewhere_same 128 64 _, λ k low. absurd (omega arith))
+loop-t-init c = (elsewhere_same 128 64 _, λ k low. absurd (omega arith))
 
 pub first_height-requires : goal.first_height-requires
 first_height-requires c = omega (arith, c.types-all.ensures.0, c.requires.few_types)
 
-pub set_height-requires : goal.set_height-requires
-set_height-requires c = omega arith
-
-pub overflow_add-t : goal.overflow_add-t
-overflow_add-t c = omega arith
-
-pub loop-t-smaller : goal.loop-t-smaller
-loop-t-smaller c = omega arith
-
 pub loop-t-preserved : goal.loop-t-preserved
 loop-t-preserved c =
-    let kept = c.loop-t.invariant.1 in
+    let kept = c.loop-t.invariant.0 in
     let first = c.first_height in (
-      omega arith,
       elsewhere_set c.loop-t.t first.result (omega arith) c.set_height.ensures kept,
       section_more (first_height (types_in c.args.table.now)) 128 64 c.loop-t.table c.loop-t.t first.result (omega (arith, kept.same_size, c.requires.size)) (omega arith)
-          (first.ensures ∙ ap (λ (n : ℕ). first_height n c.loop-t.t) c.types-all.ensures.0) c.set_height.ensures c.loop-t.invariant.2,
+          (first.ensures ∙ ap (λ (n : ℕ). first_height n c.loop-t.t) c.types-all.ensures.0) c.set_height.ensures c.loop-t.invariant.1,
     )
 
 pub returns : goal.returns
-returns c = (c.loop-t.invariant.1, λ t low. c.loop-t.invariant.2 t (omega (arith, c.loop-t.invariant.0)))
+returns c = (c.loop-t.invariant.0, λ t low. c.loop-t.invariant.1 t (omega arith))
