@@ -17,8 +17,8 @@ use Rattle.embedding_clash.specs.Ready.{Checkable}
 use Rattle.embedding_clash.proofs.Arrays.{in_length, type_at}
 use Rattle.embedding_clash.proofs.Turns.{turns_start, turn_passes, turn_decides, turns_end}
 use Rattle.embedding_clash.specs.Edges.{passed, clashes_below, clashes_at}
-use Rattle.embedding_checks.specs.declared.Check.{Check}
-use Rattle.embedding_checks.specs.declared.Check.TheVariants.{Ends, Steps, Clashes, All}
+use Rattle.embedding_checks.specs.declared.EdgeCheck.{EdgeCheck}
+use Rattle.embedding_checks.specs.declared.EdgeCheck.TheVariants.{Ends, Steps, Clashes, All}
 use Rattle.embedding_ends.specs.Ends.{end_right}
 use Rattle.embedding_checks.specs.Tests.{each_from, steps_right, edge_right, type_fault, first_fault}
 
@@ -152,11 +152,11 @@ clashes_each T κ f h = clashes_from T κ f.target [] f.edges ∙ ap (each_from 
 -- ---- the three checks
 
 -- the verdict of edge i
-abbrev pub edge_verdict : Check → Embedding → Table → Kind → TypeMap → ℕ → Verdict
+abbrev pub edge_verdict : EdgeCheck → Embedding → Table → Kind → TypeMap → ℕ → Verdict
 edge_verdict check E T κ f i = pick (edge_right check E T κ f i) passes (fails (edge_of f i).at)
 
 -- a check of a type goes through its edges
-pub type_each : (check : Check) (E : Embedding) (T : Table) (κ : Kind) (f : TypeMap) → length f.edges ≡ edges_of κ
+pub type_each : (check : EdgeCheck) (E : Embedding) (T : Table) (κ : Kind) (f : TypeMap) → length f.edges ≡ edges_of κ
     → type_fault check E T κ f ≡ each_from (edge_verdict check E T κ f) 0 (edges_of κ)
 unfolding edge_right type_fault
 type_each Ends E T κ f h = ends_each E T κ f h
@@ -165,7 +165,7 @@ type_each Clashes E T κ f h = clashes_each T κ f h
 type_each All E T κ f h = refl
 
 -- a check of all goes through the types
-pub all_each : (check : Check) (S T : Table) (E : Embedding) → length E ≡ length S
+pub all_each : (check : EdgeCheck) (S T : Table) (E : Embedding) → length E ≡ length S
     → first_fault check S T E ≡ each_from (type_verdict (type_fault check E T) S E) 0 (length S)
 unfolding wrong_end_verdict wrong_steps_verdict path_clash_verdict type_fault
 all_each Ends S T E h = types_each (type_fault Ends E T) S E h
@@ -186,7 +186,7 @@ each_implies check other i (suc k) h e = go (check i) refl (each_implies check o
     go (fails at) q later e = let z : ◌≡◌ {A = ℕ} 0 1 = cc in absurd (omega arith)
 
 -- an edge that is right in all is right in each
-edge_implies : (check : Check) (E : Embedding) (T : Table) (κ : Kind) (f : TypeMap) (i : ℕ) → edge_verdict All E T κ f i ≡ passes → edge_verdict check E T κ f i ≡ passes
+edge_implies : (check : EdgeCheck) (E : Embedding) (T : Table) (κ : Kind) (f : TypeMap) (i : ℕ) → edge_verdict All E T κ f i ≡ passes → edge_verdict check E T κ f i ≡ passes
 unfolding pick edge_right
 edge_implies check E T κ f i e = right_passes (edge_of f i).at (part check (right (edge_right All E T κ f i) e))
   where
@@ -194,14 +194,14 @@ edge_implies check E T κ f i e = right_passes (edge_of f i).at (part check (rig
     right true e = refl
     right false e = let z : ◌≡◌ {A = ℕ} 0 1 = cc in absurd (omega (arith, z))
 
-    part : (check : Check) → edge_right All E T κ f i ≡ true → edge_right check E T κ f i ≡ true
+    part : (check : EdgeCheck) → edge_right All E T κ f i ≡ true → edge_right check E T κ f i ≡ true
     part Ends h = and_left _ _ h
     part Steps h = and_left _ _ (and_right (end_right E T κ f i) _ h)
     part Clashes h = and_right (steps_right T κ f i) _ (and_right (end_right E T κ f i) _ h)
     part All h = h
 
 -- an embedding that is right in all is right in each, where every source type has its edges
-all_implies : (check : Check) (S T : Table) (E : Embedding) → length E ≡ length S → ((s : ℕ) → s < length S → length (get_or E s no_map).edges ≡ edges_of (kind_of S s))
+all_implies : (check : EdgeCheck) (S T : Table) (E : Embedding) → length E ≡ length S → ((s : ℕ) → s < length S → length (get_or E s no_map).edges ≡ edges_of (kind_of S s))
     → first_fault All S T E ≡ passes → first_fault check S T E ≡ passes
 unfolding type_fault
 all_implies check S T E same due e =
@@ -214,7 +214,7 @@ all_implies check S T E same due e =
     (sym (all_each All S T E same) ∙ e)
 
 -- so it is for loaded tables and a loaded embedding
-pub all_right : {source target em map : List ℕ} → Checkable source target em map → first_fault All (table_by source) (table_by target) (embedding_by em (table_by source) map) ≡ passes → (check : Check)
+pub all_right : {source target em map : List ℕ} → Checkable source target em map → first_fault All (table_by source) (table_by target) (embedding_by em (table_by source) map) ≡ passes → (check : EdgeCheck)
     → first_fault check (table_by source) (table_by target) (embedding_by em (table_by source) map) ≡ passes
 all_right {source} {target} {em} {map} r e check =
     all_implies check (table_by source) (table_by target) (embedding_by em (table_by source) map) (in_length em (table_by source) (targets_of map) (starts_of map) (lengths_of map))

@@ -15,14 +15,14 @@ use Rattle.loaded_embedding.specs.Loaded.{targets_of, starts_of, lengths_of, emb
 use Rattle.embedding_clash.specs.Ready.{map_of}
 use Rattle.embedding_clash.specs.Edges.{clashes_at}
 use Rattle.embedding_clash.proofs.Arrays.{TypeAt, EdgeAt, in_length}
-use Rattle.embedding_checks.specs.declared.Check.{Check}
-use Rattle.embedding_checks.specs.declared.Check.TheVariants.{Ends, Steps, All}
+use Rattle.embedding_checks.specs.declared.EdgeCheck.{EdgeCheck}
+use Rattle.embedding_checks.specs.declared.EdgeCheck.TheVariants.{Ends, Steps, All}
 use Rattle.embedding_checks.specs.Tests.{each_from, edge_right, type_fault, first_fault}
 use Rattle.embedding_checks.proofs.Each.{edge_verdict, each_starts, each_passes, each_fails, each_ends, right_passes, wrong_fails, type_each, all_each}
 
 -- ---- a check, on loaded tables and a loaded embedding
 
-module _ (check : Check) (source target em map : List ℕ) where
+module _ (check : EdgeCheck) (source target em map : List ℕ) where
   -- of edge i of source type s
   abbrev edge_test : ℕ → ℕ → Bool
   edge_test s i = edge_right check (embedding_by em (table_by source) map) (table_by target) (kind_of (table_by source) s) (map_of source em map s) i
@@ -64,7 +64,7 @@ module _ (check : Check) (source target em map : List ℕ) where
         ∙ sym (all_each check (table_by source) (table_by target) (embedding_by em (table_by source) map) (in_length em (table_by source) (targets_of map) (starts_of map) (lengths_of map)));
   }
 
-module _ {check : Check} {source target em map : List ℕ} where
+module _ {check : EdgeCheck} {source target em map : List ℕ} where
   -- the test of the edge that is next was made
   module _ {s n i : ℕ} (left : EdgesLeft check source target em map s n i) where
     module _ (more : i < n) {right : Bool} (tested : right ≡ edge_test check source target em map s i) where
@@ -97,7 +97,7 @@ module _ {check : Check} {source target em map : List ℕ} where
 
 -- ---- one edge, where all three checks are asked for
 
-module _ (source target em map : List ℕ) (s i : ℕ) {check : Check} (asked : check ≡ All) {ends : Bool} (ends_is : ends ≡ edge_test Ends source target em map s i) where
+module _ (source target em map : List ℕ) (s i : ℕ) {check : EdgeCheck} (asked : check ≡ All) {ends : Bool} (ends_is : ends ≡ edge_test Ends source target em map s i) where
   -- the end is wrong
   pub end_wrong : not ends ≡ true → false ≡ edge_test check source target em map s i
   unfolding edge_right

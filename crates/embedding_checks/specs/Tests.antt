@@ -6,8 +6,8 @@ use Rattle.model.specs.Definitions.Embedding.{Edge, TypeMap, Embedding, leaves, 
 use Rattle.model.specs.Definitions.EmbeddingChecks.{each_type, right_steps, agrees, ends_of, steps_of, clashes_of, wrong_end_verdict, wrong_steps_verdict, path_clash_verdict}
 use Rattle.embedding_clash.specs.Edges.{clashes_at}
 use Rattle.embedding_ends.specs.Ends.{end_right}
-use Rattle.embedding_checks.specs.declared.Check.{Check}
-use Rattle.embedding_checks.specs.declared.Check.TheVariants.{Ends, Steps, Clashes, All}
+use Rattle.embedding_checks.specs.declared.EdgeCheck.{EdgeCheck}
+use Rattle.embedding_checks.specs.declared.EdgeCheck.TheVariants.{Ends, Steps, Clashes, All}
 
 -- the verdict of k checks, the first of them check i
 unfoldable pub each_from : (ℕ → Verdict) → ℕ → ℕ → Verdict
@@ -23,21 +23,21 @@ steps_right T κ f i =
 -- ---- the three checks of edges, and all of them at once
 
 -- what a check asks of edge i of a source type of a kind
-unfoldable pub edge_right : Check → Embedding → Table → Kind → TypeMap → ℕ → Bool
+unfoldable pub edge_right : EdgeCheck → Embedding → Table → Kind → TypeMap → ℕ → Bool
 edge_right Ends E T κ f i = end_right E T κ f i
 edge_right Steps E T κ f i = steps_right T κ f i
 edge_right Clashes E T κ f i = not (clashes_at T κ f i)
 edge_right All E T κ f i = end_right E T κ f i && (steps_right T κ f i && not (clashes_at T κ f i))
 
 -- a check of a source type
-unfoldable pub type_fault : Check → Embedding → Table → Kind → TypeMap → Verdict
+unfoldable pub type_fault : EdgeCheck → Embedding → Table → Kind → TypeMap → Verdict
 type_fault Ends E T κ f = ends_of E T κ f
 type_fault Steps E T κ f = steps_of T κ f
 type_fault Clashes E T κ f = clashes_of T κ f
 type_fault All E T κ f = each_from (λ i. pick (edge_right All E T κ f i) passes (fails (edge_of f i).at)) 0 (edges_of κ)
 
 -- a check of all
-abbrev pub first_fault : Check → Table → Table → Embedding → Verdict
+abbrev pub first_fault : EdgeCheck → Table → Table → Embedding → Verdict
 first_fault Ends S T E = wrong_end_verdict S T E
 first_fault Steps S T E = wrong_steps_verdict S T E
 first_fault Clashes S T E = path_clash_verdict S T E

@@ -9,7 +9,7 @@ ghost use Rattle.loaded_table.specs.Loaded.{table_by, types_in};
 ghost use Rattle.loaded_embedding.specs.Loaded.{embedding_by};
 ghost use Rattle.model.specs.Definitions.Table.{kind_of};
 ghost use Rattle.embedding_clash.specs.Ready.{map_of, Checkable, CheckableAt};
-ghost use Rattle.embedding_checks.specs.declared.Check.TheVariants as check;
+ghost use Rattle.embedding_checks.specs.declared.EdgeCheck.TheVariants as check;
 ghost use Rattle.embedding_checks.specs.Tests.{edge_right, type_fault, first_fault};
 
 use codes::{MAX_MEMBERS, MAX_STEPS};
@@ -26,7 +26,7 @@ use loaded_table::{OPTIONAL, TABLE};
 // What is asked of each edge: where its path ends, which kinds its steps leave, that it clashes with no earlier one; or all three,
 // which says whether every check passes, but not which one fails first.
 #[derive(Clone, Copy)]
-pub enum Check {
+pub enum EdgeCheck {
     Ends,
     Steps,
     Clashes,
@@ -35,7 +35,7 @@ pub enum Check {
 
 // The first path that a check refuses.
 pub fn first_fault(
-    check: Check,
+    check: EdgeCheck,
     source: &[u16; TABLE],
     target: &[u16; TABLE],
     em: &[u8],
@@ -53,7 +53,7 @@ pub fn first_fault(
 
 // The first path of source type `s` that a check refuses.
 fn type_fault(
-    check: Check,
+    check: EdgeCheck,
     source: &[u16; TABLE],
     target: &[u16; TABLE],
     em: &[u8],
@@ -125,7 +125,7 @@ fn steps_right(
 
 // Whether edge `i` of source type `s` is as a check asks.
 fn edge_right(
-    check: Check,
+    check: EdgeCheck,
     source: &[u16; TABLE],
     target: &[u16; TABLE],
     em: &[u8],
@@ -138,10 +138,10 @@ fn edge_right(
     ensures { result ≡ edge_right check (embedding_by em.now (table_by source.now) map.now) (table_by target.now) (kind_of (table_by source.now) s) (map_of source.now em.now map.now s) i }
 {
     match check {
-        Check::Ends => ends_right(source, target, em, map, s, i, paths),
-        Check::Steps => steps_right(source, target, em, map, s, i, paths),
-        Check::Clashes => !clashes_before(source, target, em, map, s, i, paths),
-        Check::All => {
+        EdgeCheck::Ends => ends_right(source, target, em, map, s, i, paths),
+        EdgeCheck::Steps => steps_right(source, target, em, map, s, i, paths),
+        EdgeCheck::Clashes => !clashes_before(source, target, em, map, s, i, paths),
+        EdgeCheck::All => {
             if !ends_right(source, target, em, map, s, i, paths) {
                 return false;
             }

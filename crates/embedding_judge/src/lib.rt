@@ -12,7 +12,7 @@ ghost use Rattle.embedding_judge.specs.Judging.{edge_checks, path_checks, Judgea
 
 use answers::Fault;
 use codes::MAX_BYTES;
-use embedding_checks::{Check, first_fault};
+use embedding_checks::{EdgeCheck, first_fault};
 use embedding_ends::root::root_to_root;
 use embedding_form::form::form;
 use embedding_load::load;
@@ -31,9 +31,9 @@ fn judge_each(
     requires { Checkable source.now target.now em.now map.now }
     ensures { judged result ≡ edge_checks (table_by source.now) (table_by target.now) (embedding_by em.now (table_by source.now) map.now) }
 {
-    first_fault(Check::Ends, source, target, em, map).map_err(Fault::WrongEnd)?;
-    first_fault(Check::Steps, source, target, em, map).map_err(Fault::WrongSteps)?;
-    first_fault(Check::Clashes, source, target, em, map).map_err(Fault::PathClash)
+    first_fault(EdgeCheck::Ends, source, target, em, map).map_err(Fault::WrongEnd)?;
+    first_fault(EdgeCheck::Steps, source, target, em, map).map_err(Fault::WrongSteps)?;
+    first_fault(EdgeCheck::Clashes, source, target, em, map).map_err(Fault::PathClash)
 }
 
 // Checks 7 to 10 of a loaded embedding. Where nothing is wrong one pass over the edges shows it; else the checks are made one
@@ -50,7 +50,7 @@ fn judge_paths(
     if !root_to_root(map) {
         return Err(Fault::RootMoved);
     }
-    if first_fault(Check::All, source, target, em, map).is_ok() {
+    if first_fault(EdgeCheck::All, source, target, em, map).is_ok() {
         return Ok(());
     }
     judge_each(source, target, em, map)

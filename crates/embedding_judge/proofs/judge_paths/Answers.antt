@@ -5,7 +5,7 @@ use Rattle.std.specs.Prelude.{Ok}
 use Rattle.loaded_table.specs.Loaded.{table_by}
 use Rattle.loaded_embedding.specs.Loaded.{embedding_by}
 use Rattle.model.specs.Definitions.EmbeddingChecks.{root_to_root}
-use Rattle.embedding_checks.specs.declared.Check.TheVariants.{Ends, Steps, Clashes}
+use Rattle.embedding_checks.specs.declared.EdgeCheck.TheVariants.{Ends, Steps, Clashes}
 use Rattle.embedding_checks.proofs.Each.{all_right}
 use Rattle.embedding_judge.proofs.Checks.{is_passes, root_moved, root_kept, paths_right}
 use Rattle.embedding_judge.proofs.judge_paths.Goals.{Else-not-root_to_root}

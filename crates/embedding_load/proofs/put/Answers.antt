@@ -89,4 +89,3 @@ returns-in-Step c =
 pub returns-in-End : goal.returns-in-End
 unfolding puts
 returns-in-End c = record { same_size = refl; put_there = told_puts (loaded_at c.args.p c.args.map.now) c.args.at c.in-End.is refl }
-
