@@ -1,5 +1,5 @@
 -- A read puts its bytes behind those that are there.
-use Rattle.std.proofs.Common.{rules, arith, ◌≡◌, ◌≤◌, take, drop, length, ℕ, ◌+◌, ◌-◌, List, ◌++◌, sym, ap, ap₂, ◌∙◌, subst, le_refl, drop_at, length-take-le}
+use Rattle.std.proofs.Common.{rules, ◌≡◌, ◌≤◌, take, drop, length, ℕ, ◌+◌, List, ◌++◌, sym, ap, ap₂, ◌∙◌, subst, le_refl, drop_at, length-take-le}
 use Rattle.std.proofs.lemmas.Slice.{take-put_mid_below}
 use Rattle.std.proofs.KnownBytes.{Consumes-trans}
 use Rattle.std.specs.Io.KnownBytes.{Consumes}
