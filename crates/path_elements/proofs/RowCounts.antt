@@ -33,9 +33,6 @@ pub record CountedTo (pool : List ℕ) (from to i n : ℕ) : Type 0 where
   pub few : n ≤ i
   pub others : n + row_built (row_in pool i to) ≡ row_built (row_in pool from to)
 
-pub none_counted : (pool : List ℕ) (from to : ℕ) → CountedTo pool from to from 0
-none_counted pool from to = record { few = omega arith; others = omega arith }
-
 module _ {pool : List ℕ} {from to i n : ℕ} (so_far : CountedTo pool from to i n) where
   -- at the end none are left
   pub all_counted : to ≤ i → n ≡ row_built (row_in pool from to)

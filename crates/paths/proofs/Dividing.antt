@@ -11,8 +11,8 @@ use Rattle.loaded_table.specs.Kinds.{below_lists, list_code}
 use Rattle.loaded_table.specs.Loaded.{kind_from, kind_in, table_by, kinds_of, counts_of, members_in}
 use Rattle.loaded_embedding.specs.Loaded.{steps_from}
 use Rattle.paths.specs.declared.Cut.{Cut}
-use Rattle.paths.specs.Following.{Followable, Taken, Cuts}
-use Rattle.paths.specs.Stepping.{steps_here, walks_here, kind_here, next_here, follow-on, follow_start}
+use Rattle.paths.specs.Following.{Taken, Cuts}
+use Rattle.paths.specs.Stepping.{steps_here, walks_here, kind_here, next_here, follow-on}
 
 -- ---- the parts of a path, by the number of steps before the division
 
@@ -83,12 +83,6 @@ pub record Divides (target em : List ℕ) (start steps t i τ : ℕ) : Type 0 wh
       ≡ i + length (divide (table_by target) τ (steps_from em (start + 2 * i + 2) (steps - i))).before
   pub item : (divide (table_by target) t (steps_from em (start + 2) steps)).item
       ≡ (divide (table_by target) τ (steps_from em (start + 2 * i + 2) (steps - i))).item
-
-pub divides_start : {target em : List ℕ} {start steps t : ℕ} → Followable target em start steps t → Divides target em start steps t 0 t
-divides_start {start = start} {steps} path =
-    let place : start + 2 * 0 ≡ start = omega arith in
-    let all : steps - 0 ≡ steps = omega arith in
-    record { walk = follow_start path; high = omega arith; before = rw (place, all) (omega arith); item = rw (place, all) }
 
 module _ {target em : List ℕ} {start steps t i τ : ℕ} (now : Divides target em start steps t i τ) where
   abbrev T : Table

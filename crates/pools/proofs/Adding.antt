@@ -11,10 +11,6 @@ pub record Added (sum : ℕ → ℕ → ℕ) (n total i : ℕ) : Type 0 where
   pub small : total ≤ i * most_of_edge
   pub whole : total + sum i (n - i) ≡ sum 0 n
 
--- before the loop
-pub added_none : (sum : ℕ → ℕ → ℕ) (n : ℕ) → Added sum n 0 0
-added_none sum n = let all : n - 0 ≡ n = omega arith in record { high = omega arith; small = omega arith; whole = rw all (omega arith) }
-
 -- one room more
 pub added_more : {sum : ℕ → ℕ → ℕ} {n total i : ℕ} → Added sum n total i → i < n → {one : ℕ} → one ≤ most_of_edge → ((k : ℕ) → sum i (suc k) ≡ one + sum (suc i) k)
     → Added sum n (total + one) (i + 1)

@@ -83,10 +83,6 @@ pub record SumsAlong (target pool : List ℕ) (from to depth : ℕ) (s : Sums) (
   pub bytes : min 60001 (s.bytes + row_length (fill_at target) (row_in pool i to)) ≡ min 60001 (row_length (fill_at target) (row_in pool from to))
   pub filler : min 60001 (s.filler + row_filler (fill_at target) (row_in pool i to)) ≡ min 60001 (row_filler (fill_at target) (row_in pool from to))
 
-pub along_none : (target pool : List ℕ) (from to depth : ℕ) → SumsAlong target pool from to depth (record { depth = depth; levels = 0; bytes = 0; filler = 0 }) from
-along_none target pool from to depth =
-    record { grown = omega arith; high = (omega arith, omega arith, omega arith); levels = omega arith; bytes = omega arith; filler = omega arith }
-
 module _ {target pool : List ℕ} {from to depth : ℕ} {s : Sums} {i : ℕ} (now : SumsAlong target pool from to depth s i) where
   pub along_more : i < to → to ≤ length pool → {r : Sums} {n : ℕ} → n ≡ get_or pool i 0 → AddsSymbol target n s r → SumsAlong target pool from to depth r (i + 1)
   along_more less within {n = n} is adds =

@@ -1,4 +1,4 @@
-use mathlib.Core.Path.{◌≡◌, sym, subst}
+use mathlib.Core.Path.{sym, subst}
 use Prim.Native.Nat.{◌+◌}
 use native.Mathlib.Omega.{arith}
 use Rattle.growing.specs.declared.Edges.{Edges}
@@ -10,24 +10,6 @@ pub loop-i-init : goal.loop-i-init
 loop-i-init c =
     subst (λ (e : Edges). EdgesFrom c.args.map.now c.args.first c.args.hole 0 e) (sym c.no_edges-e.ensures) (edges_none _ _ _)
 
-pub overflow_add-first : goal.overflow_add-first
-overflow_add-first c = omega (arith, c.requires.count_le_max_members)
-
-pub overflow_cast-i : goal.overflow_cast-i
-overflow_cast-i c = omega (arith, c.requires.count_le_max_members)
-
-pub overflow_add-hole : goal.overflow_add-hole
-overflow_add-hole c = omega (arith, c.requires.count_le_max_members)
-
-pub with_edge-e-requires : goal.with_edge-e-requires
-with_edge-e-requires c = (omega (arith, c.loop-i.invariant.many, c.requires.count_le_max_members), omega (arith, c.requires.count_le_max_members), c.requires.small _)
-
 pub loop-i-preserved : goal.loop-i-preserved
 loop-i-preserved c =
     subst (λ (e : Edges). EdgesFrom c.args.map.now c.args.first c.args.hole (c.loop-i.i + 1) e) (sym c.with_edge-e.ensures) (edges_more_lem c.loop-i.invariant (omega (arith, c.requires.count_le_max_members)) c.requires.count_le_max_members.3 (omega (arith, c.requires.count_le_max_members)))
-
-pub returns : goal.returns
-returns c =
-    let inv = c.loop-i.invariant in
-    let all : c.loop-i.i ≡ c.args.count = omega arith in
-    rw all at inv

@@ -5,7 +5,7 @@ use native.Mathlib.Omega.{arith}
 use lib.ListN.{get_or}
 use Rattle.loaded_embedding.specs.Loaded.{lengths_of}
 use Rattle.pools.specs.Room.{edge_room}
-use Rattle.pools.proofs.Adding.{added_none, added_more, added_all}
+use Rattle.pools.proofs.Adding.{added_more, added_all}
 use Rattle.pools.proofs.edges_room.Goals as goal
 
 -- one edge more
@@ -16,21 +16,6 @@ step-more map i e k = rw e refl
 no_room : (map : List ℕ) (i : ℕ) → edge_room map i 0 ≡ 0
 unfolding edge_room
 no_room map i = refl
-
-pub loop-i-init : goal.loop-i-init
-loop-i-init c = added_none _ _
-
-pub steps-requires : goal.steps-requires
-steps-requires c = omega (arith, c.requires)
-
-pub overflow_mul-total : goal.overflow_mul-total
-overflow_mul-total c = omega (arith, c.steps.ensures.1)
-
-pub overflow_add-total : goal.overflow_add-total
-overflow_add-total c = omega (arith, c.steps.ensures.1)
-
-pub overflow_add-total-in-loop-i : goal.overflow_add-total-in-loop-i
-overflow_add-total-in-loop-i c = omega (arith, c.steps.ensures.1, c.loop-i.invariant.small, c.requires)
 
 pub loop-i-preserved : goal.loop-i-preserved
 loop-i-preserved c =

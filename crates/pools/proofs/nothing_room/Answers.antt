@@ -3,7 +3,7 @@ use mathlib.Core.List.{List}
 use Prim.Native.Nat.{ℕ, suc, ◌+◌}
 use native.Mathlib.Omega.{arith}
 use Rattle.pools.specs.Room.{nothing_of, nothing_room}
-use Rattle.pools.proofs.Adding.{added_none, added_more, added_all}
+use Rattle.pools.proofs.Adding.{added_more, added_all}
 use Rattle.pools.proofs.nothing_room.Goals as goal
 
 -- one type more
@@ -14,15 +14,6 @@ step-more source map s e k = rw e refl
 no_room : (source map : List ℕ) (s : ℕ) → nothing_room source map s 0 ≡ 0
 unfolding nothing_room
 no_room source map s = refl
-
-pub loop-s-init : goal.loop-s-init
-loop-s-init c = added_none _ _
-
-pub nothing_of-total-requires : goal.nothing_of-total-requires
-nothing_of-total-requires c = omega (arith, c.requires)
-
-pub overflow_add-total : goal.overflow_add-total
-overflow_add-total c = omega (arith, c.nothing_of-total.ensures.1, c.loop-s.invariant.small, c.requires)
 
 pub loop-s-preserved : goal.loop-s-preserved
 loop-s-preserved c =
