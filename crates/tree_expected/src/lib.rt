@@ -129,7 +129,11 @@ pub fn opening(table: &[u16; TABLE], m: usize, h: usize, x: usize) -> Option<usi
                 None
             }
         }
-        _ => if x == member(table, m, 0) { Some(1) } else { None },
+        _ => if x == member(table, m, 0) {
+            Some(1)
+        } else {
+            None
+        },
     }
 }
 

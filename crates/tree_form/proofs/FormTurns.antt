@@ -152,11 +152,6 @@ form_end_inside (suc n) at h i r = form_stops (inside n) r refl i.whole
 pub form_alien_inside : {bs : List ℕ} (depth at : ℕ) → InForm bs depth at → ReadsCommand bs at alien_t → fails at ≡ tree_form bs
 form_alien_inside depth at i r = form_stops (closed depth) r (form_alien (closed depth)) i.whole
 
--- where no element is open, the root is closed
-pub form_root_closed : {bs : List ℕ} (depth at : ℕ) → depth ≤ 0 → InForm bs depth at → InForm bs 0 at
-form_root_closed zero at h i = i
-form_root_closed (suc n) at h i = absurd (omega arith)
-
 -- only 3F may stand behind the root
 pub form_root_stops : {bs : List ℕ} {c : TreeCommand} (at : ℕ) → InForm bs 0 at → ReadsCommand bs at c → tree_step root_closed c ≡ stops → fails at ≡ tree_form bs
 unfolding closed

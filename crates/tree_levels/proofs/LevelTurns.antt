@@ -1,11 +1,10 @@
 -- The loop of the level check: what its machine does at each command, and what is left behind it.
-use mathlib.Core.Path.{◌≡◌, refl, sym, ◌∙◌, subst}
+use mathlib.Core.Path.{◌≡◌, refl, sym, ◌∙◌}
 use mathlib.Core.Bool.{Bool, true, false}
 use Rattle.std.specs.Prelude.{⊤}
 use lib.Dec.{ltb}
 use mathlib.Core.List.{List}
-use mathlib.Core.Logic.{◌⊎◌, ⊎_elim}
-use Prim.Native.Nat.{ℕ, suc, pred, ◌+◌, ◌-◌, ◌≤◌, ◌<◌}
+use Prim.Native.Nat.{ℕ, suc, pred, ◌+◌, ◌≤◌, ◌<◌}
 use native.Mathlib.Numerals.{add-one}
 use native.Mathlib.Omega.{arith}
 use lib.ListN.{length}
@@ -64,18 +63,10 @@ pub levels-closed : {bs : List ℕ} (n at : ℕ) → InLevels bs n at → ReadsC
 unfolding level_step tree_width
 levels-closed n at i r = levels_goes n (pred n) r refl (let low : n ≤ 128 = i.low in omega arith) i
 
--- the same as the code has it, by a test whether one is open
-pub levels_closes : {bs : List ℕ} (n m at : ℕ) → ((0 < n) × (m ≡ n - 1)) ⊎ ((n ≤ 0) × (m ≡ n)) → InLevels bs n at → ReadsCommand bs at closes → InLevels bs m (at + 1)
-levels_closes {bs} n m at came i r = subst (λ (d : ℕ). InLevels bs d (at + 1)) (⊎_elim (λ w. omega arith) (λ w. omega arith) came) (levels-closed n at i r)
-
 -- 3F changes nothing
 pub levels_tree_end : {bs : List ℕ} (n at : ℕ) → InLevels bs n at → ReadsCommand bs at tree_end → InLevels bs n (at + 1)
 unfolding level_step tree_width
 levels_tree_end n at i r = levels_goes n n r refl i.low i
-
--- an alien command is the verdict
-pub levels_at_alien : {bs : List ℕ} (n at : ℕ) → InLevels bs n at → ReadsCommand bs at alien_t → fails at ≡ tree_levels bs
-levels_at_alien n at i r = levels_stops n r (levels_alien n) i
 
 -- ---- the machine alone
 

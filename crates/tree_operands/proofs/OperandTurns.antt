@@ -70,7 +70,3 @@ module _ (types : ℕ) where
   pub operands_tree_end : {bs : List ℕ} (at : ℕ) → InOperands types bs at → ReadsCommand bs at tree_end → InOperands types bs (at + 1)
   unfolding operand_step tree_width
   operands_tree_end at i r = operands_goes r refl i
-
-  -- an alien command is the verdict
-  pub operands_at_alien : {bs : List ℕ} (at : ℕ) → InOperands types bs at → ReadsCommand bs at alien_t → fails at ≡ tree_operands types bs
-  operands_at_alien at i r = operands_stops r (operands_alien tt) i

@@ -22,8 +22,8 @@ returns-else-h-count c =
     let a = c.args in
     let is = sym c.kind.ensures.0 ∙ c.in-2.is in
     elim c.else-h-count.branch [
-      else-h-count-via-then-h-count+else-x-member w ↦
-        opening_other a.table.now a.m a.h a.x c.requires is (omega (arith, c.count.ensures.0, w.if-h-count.true)) (λ e. w.if-x-member.false (e ∙ sym w.member.ensures.0))
+      | else-h-count-via-then-h-count+else-x-member w ↦
+          opening_other a.table.now a.m a.h a.x c.requires is (omega (arith, c.count.ensures.0, w.if-h-count.true)) (λ e. w.if-x-member.false (e ∙ sym w.member.ensures.0))
       | else-h-count-via-else-h-count w ↦ opening_past a.table.now a.m a.h a.x is (omega (arith, c.count.ensures.0, w.if-h-count.false))
     ]
 
@@ -41,7 +41,7 @@ returns-else-h-eq0 c =
     let low : 3 ≤ get_or (kinds_of a.table.now) a.m 0 = omega (arith, c.kind.ensures.0) in
     let high : get_or (kinds_of a.table.now) a.m 0 < 5 = omega (arith, c.kind.ensures.0) in
     elim c.else-h-eq0.branch [
-      else-h-eq0-via-then-h-eq0+else-member_of w ↦ opening-no-member a.table.now a.m a.h a.x low high w.if-h-eq0.true w.member_of.ensures w.if-member_of.false
+      | else-h-eq0-via-then-h-eq0+else-member_of w ↦ opening-no-member a.table.now a.m a.h a.x low high w.if-h-eq0.true w.member_of.ensures w.if-member_of.false
       | else-h-eq0-via-else-h-eq0 w ↦ opening-second a.table.now a.m a.h a.x low high w.if-h-eq0.false
     ]
 
