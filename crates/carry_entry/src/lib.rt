@@ -4,13 +4,32 @@
 
 ghost use Rattle.model.specs.Definitions.Entries as model;
 ghost use Rattle.answer_numbers.specs.Numbers.{Answers};
+ghost use Rattle.outcomes.specs.Outcomes.{Writes};
 
-use answer_numbers::{Answer, carried, faulting};
-use answers::Judged;
-use codes::TREE;
+use answer_numbers::Answer;
+use answers::{Document, Refusal, Written};
 use loaded_embedding::MAP;
 use loaded_table::TABLE;
-use setting_judge::Verdict;
+
+// The image of a document, after all documents are judged; or why one is refused, or the image.
+fn carried<'a>(
+    source: &[u8],
+    target: &[u8],
+    embedding: &'a [u8],
+    tree: &'a [u8],
+    output: &mut [u8],
+) -> Result<Written, Refusal>
+    ensures { Writes (model.carry source.now target.now embedding.now tree.now output.old) output.new result }
+{
+    let mut from = [0u16; TABLE];
+    let mut to = [0u16; TABLE];
+    let mut map = [0u16; MAP];
+    setting_judge::judge(source, target, embedding, &mut from, &mut to, &mut map)?;
+    match tree_judge::judge::judge(&from, tree) {
+        Ok(_) => carrying::carry(&from, &to, &map, embedding, tree, output),
+        Err(f) => Err(Refusal::Faulty(Document::Tree, f)),
+    }
+}
 
 // Carries a document, after all documents are judged: length of the image and number of filler elements.
 pub fn carry<'a>(
@@ -22,17 +41,5 @@ pub fn carry<'a>(
 ) -> Answer
     ensures { Answers (model.carry source.now target.now embedding.now tree.now output.old) output.new result }
 {
-    let mut from = [0u16; TABLE];
-    let mut to = [0u16; TABLE];
-    let mut map = [0u16; MAP];
-    let setting = setting_judge::judge(source, target, embedding, &mut from, &mut to, &mut map);
-    if let Verdict::Has(f, document) = setting {
-        return faulting(f, document);
-    }
-    let judgement = tree_judge::judge::judge(&from, tree);
-    let judged = judgement.judged;
-    if let Judged::Has(f) = judged {
-        return faulting(f, TREE);
-    }
-    carried(carrying::carry(&from, &to, &map, embedding, tree, output))
+    Answer::from(carried(source, target, embedding, tree, output))
 }

@@ -1,1 +1,2 @@
-pub mod Judging
+-- `Judging`: from judged documents to what the judging entries answer.
+mod Judging

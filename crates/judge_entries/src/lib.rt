@@ -3,43 +3,45 @@
 #![tactic(auto)]
 
 ghost use Rattle.std.specs.Prelude.{◌≡◌};
-ghost use Rattle.model.specs.Definitions.Entries.{answer_of, judge_table, judge_tree, judge_embedding};
-ghost use Rattle.loaded_table.specs.Loaded.{Bounded};
-ghost use Rattle.loaded_table.specs.Loaded as loaded_table;
-ghost use Rattle.answers.specs.Answers.{Answered};
+ghost use Rattle.answers.specs.Answers.{counted_result};
 ghost use Rattle.answer_numbers.specs.Numbers.{numbers};
-ghost use Rattle.judge_entries.specs.Judging.{TreeAnswer};
+ghost use Rattle.model.specs.Definitions.Entries.{answer_of, judge_table, judge_embedding, judge_tree};
 
-use answer_numbers::{Answer, accepting, faulting, judged};
-use answers::{Judged, Judging};
-use codes::{SOURCE_TABLE, TREE};
+use answer_numbers::Answer;
+use answers::{Document, Refusal};
 use embedding_form::count::edge_count;
 use loaded_embedding::MAP;
-use loaded_table::TABLE;
-use setting_judge::Verdict;
+use loaded_table::{TABLE, types};
+
+// The number of types of a table, or why it is refused.
+fn table_types(table: &[u8]) -> Result<usize, Refusal>
+    ensures { counted_result result ≡ judge_table table.now }
+{
+    let mut loaded = [0u16; TABLE];
+    match table_judge::judge(table, &mut loaded) {
+        Ok(()) => Ok(types(&loaded)),
+        Err(f) => Err(Refusal::Faulty(Document::SourceTable, f)),
+    }
+}
 
 // Judges a table: number of types.
 pub fn judge_table(table: &[u8]) -> Answer
     ensures { numbers result ≡ answer_of (judge_table table.now) }
 {
-    let mut loaded = [0u16; TABLE];
-    let judged = table_judge::judge(table, &mut loaded);
-    match judged {
-        Judged::Has(f) => faulting(f, SOURCE_TABLE),
-        Judged::Sound => accepting(loaded_table::types(&loaded) as u64, 0),
-    }
+    Answer::from(table_types(table))
 }
 
-// Judges a tree by a loaded table: number of elements.
-fn judge_tree_by<'a>(table: &'a [u16; TABLE], tree: &'a [u8]) -> Answer
-    requires { Bounded table.now }
-    ensures { TreeAnswer (loaded_table.table_by table.now) tree.now result }
+// The number of elements of a tree, after its table, or why one of them is refused.
+fn tree_elements(table: &[u8], tree: &[u8]) -> Result<usize, Refusal>
+    ensures { counted_result result ≡ judge_tree table.now tree.now }
 {
-    let r = tree_judge::judge::judge(table, tree);
-    let judged = r.judged;
-    match judged {
-        Judged::Has(f) => faulting(f, TREE),
-        Judged::Sound => accepting(r.elements as u64, 0),
+    let mut loaded = [0u16; TABLE];
+    if let Err(f) = table_judge::judge(table, &mut loaded) {
+        return Err(Refusal::Faulty(Document::SourceTable, f));
+    }
+    match tree_judge::judge::judge(&loaded, tree) {
+        Ok(n) => Ok(n),
+        Err(f) => Err(Refusal::Faulty(Document::Tree, f)),
     }
 }
 
@@ -47,34 +49,23 @@ fn judge_tree_by<'a>(table: &'a [u16; TABLE], tree: &'a [u8]) -> Answer
 pub fn judge_tree(table: &[u8], tree: &[u8]) -> Answer
     ensures { numbers result ≡ answer_of (judge_tree table.now tree.now) }
 {
-    let mut loaded = [0u16; TABLE];
-    let judged = table_judge::judge(table, &mut loaded);
-    match judged {
-        Judged::Has(f) => faulting(f, SOURCE_TABLE),
-        Judged::Sound => judge_tree_by(&loaded, tree),
-    }
+    Answer::from(tree_elements(table, tree))
 }
 
-// What judging an embedding, after both tables, answers: number of edges.
-fn embedding_answer(source: &[u8], target: &[u8], embedding: &[u8]) -> Judging
-    ensures { Answered result (judge_embedding source.now target.now embedding.now) }
+// The number of edges of an embedding, after both tables, or why one of the three is refused.
+fn embedding_edges(source: &[u8], target: &[u8], embedding: &[u8]) -> Result<usize, Refusal>
+    ensures { counted_result result ≡ judge_embedding source.now target.now embedding.now }
 {
     let mut from = [0u16; TABLE];
     let mut to = [0u16; TABLE];
     let mut map = [0u16; MAP];
-    let verdict = setting_judge::judge(source, target, embedding, &mut from, &mut to, &mut map);
-    match verdict {
-        Verdict::Has(f, document) => Judging::Refused(f, document),
-        Verdict::Sound => {
-            let edges = edge_count(&from);
-            Judging::Accepted(edges)
-        }
-    }
+    setting_judge::judge(source, target, embedding, &mut from, &mut to, &mut map)?;
+    Ok(edge_count(&from))
 }
 
 // Judges an embedding, after both tables: number of edges.
 pub fn judge_embedding(source: &[u8], target: &[u8], embedding: &[u8]) -> Answer
     ensures { numbers result ≡ answer_of (judge_embedding source.now target.now embedding.now) }
 {
-    judged(embedding_answer(source, target, embedding))
+    Answer::from(embedding_edges(source, target, embedding))
 }

@@ -15,13 +15,6 @@ use loaded_table::TABLE;
 use rows::{CHARACTERS, CHILD};
 use scanning::spans::close_of;
 
-// A byte at full width.
-pub fn wide(x: u8) -> usize
-    ensures { (result ≡ x) × (result < 256) }
-{
-    x as usize
-}
-
 // The offset of element number i of the content at the start of tr, where element number `seen` stands at `near`. The loop passes
 // over one element a turn.
 pub fn element_from<'a>(tr: &'a [u8], sp: &'a [u16], i: usize, seen: usize, near: usize) -> usize
