@@ -41,14 +41,14 @@ module _ {bs rows : List ℕ} {done : ⊤} (h : TableJudged bs (Ok done) rows) w
       rw (accepted, ← types, same) refl
 
   -- a tree is judged by it
-  pub tree_counted : {tr : List ℕ} {n : ℕ} → TreeJudged (loaded_table.table_by rows) tr (Ok n) → counted_result (Ok n) ≡ judge_tree bs tr
+  pub tree_counted : (tr : List ℕ) (n : ℕ) → TreeJudged (loaded_table.table_by rows) tr (Ok n) → counted_result (Ok n) ≡ judge_tree bs tr
   unfolding judge_tree unless_faulty
-  tree_counted {tr} {n} j =
+  tree_counted tr n j =
       let k = subst (λ (S : model.Table). TreeJudged S tr (Ok n)) (h.loaded accepted).same_table j in
       rw (accepted, k.0, k.1) refl
 
-  pub tree_faulty : {tr : List ℕ} {f : Fault} → TreeJudged (loaded_table.table_by rows) tr (Err f) → counted_result (Err (Faulty Tree f)) ≡ judge_tree bs tr
+  pub tree_faulty : (tr : List ℕ) (f : Fault) → TreeJudged (loaded_table.table_by rows) tr (Err f) → counted_result (Err (Faulty Tree f)) ≡ judge_tree bs tr
   unfolding judge_tree unless_faulty
-  tree_faulty {tr} {f} j =
+  tree_faulty tr f j =
       let k = subst (λ (S : model.Table). TreeJudged S tr (Err f)) (h.loaded accepted).same_table j in
       rw (accepted, k) refl

@@ -92,9 +92,9 @@ module _ {s t e from to map : List ℕ} (h : Standing s t e from to map) (done :
       ∙ ap (λ (X : Setting). after_tree loaded tr out (done X)) (sym (same_setting h)))
 
   -- the tree is refused
-  pub tree_refused : {f : Fault} → judged_tree loaded tr ≡ has (fault f) → untouched out (faulty tree (fault f)) ≡ after_setting s t e out (after_tree T tr out (done (setting_of s t e)))
+  pub tree_refused : (f : Fault) → judged_tree loaded tr ≡ has (fault f) → untouched out (faulty tree (fault f)) ≡ after_setting s t e out (after_tree T tr out (done (setting_of s t e)))
   unfolding unless_faulty
-  tree_refused found = (rw found refl) ∙ after_setting_lem
+  tree_refused f found = (rw found refl) ∙ after_setting_lem
 
   -- it is accepted: what is done with it
   pub tree_accepted : judged_tree loaded tr ≡ sound → done (setting_in from to map e) ≡ after_setting s t e out (after_tree T tr out (done (setting_of s t e)))

@@ -2,14 +2,14 @@
 use Rattle.judge_entries.proofs.Judging.{loaded_bounded, tree_table_faulty, tree_counted, tree_faulty}
 use Rattle.judge_entries.proofs.tree_elements.Goals as goal
 
-pub judge-2-requires : goal.judge-2-requires
-judge-2-requires c = loaded_bounded c.in_default.ensures
+pub judge-requires-2 : goal.judge-requires-2
+judge-requires-2 c = loaded_bounded c.in_default.ensures
 
 pub returns-in-Err : goal.returns-in-Err
 returns-in-Err c = tree_table_faulty _ c.in-Err.ensures
 
 pub returns-in-Ok : goal.returns-in-Ok
-returns-in-Ok c = tree_counted c.in_default.ensures c.in-Ok.ensures
+returns-in-Ok c = tree_counted c.in_default.ensures _ _ c.in-Ok.ensures
 
 pub returns-in-Err-judge : goal.returns-in-Err-judge
-returns-in-Err-judge c = tree_faulty c.in_default.ensures c.in-Err-judge.ensures
+returns-in-Err-judge c = tree_faulty c.in_default.ensures _ _ c.in-Err-judge.ensures
