@@ -16,7 +16,7 @@ use Rattle.answer_numbers.specs.Numbers.{numbers}
 use Rattle.loaded_table.specs.Loaded.{types_in, heights_of, fill_of, table_by, length_of_lem}
 use Rattle.model.specs.Definitions.Table.{Table}
 use Rattle.model.specs.Definitions.Heights.{height_of}
-use Rattle.model.specs.Definitions.Refusals.{Fault, too_long, bad_form, over_limit, bad_operand, repeated_member, no_finite_instance, root_moved, wrong_end, wrong_steps, path_clash, unexpected, output_too_short, fault_number, numbers_of}
+use Rattle.model.specs.Definitions.Refusals.{Fault, too_long, bad_form, over_limit, bad_operand, repeated_member, no_finite_instance, root_moved, wrong_end, wrong_steps, path_clash, unexpected, fault_number, numbers_of}
 use Rattle.model.specs.Definitions.Entries as model
 use Rattle.model.specs.Definitions.Entries.{Result, answer_of, untouched}
 use Rattle.model.specs.Definitions.Operations.{kept_length}

@@ -13,7 +13,7 @@ use Rattle.answers.specs.declared.Fault.{Fault}
 use Rattle.answers.specs.declared.Fault.TheVariants.{TooLong, BadForm}
 use Rattle.answers.specs.Answers.{fault, refusal, counted_result}
 use Rattle.model.specs.Definitions.Table as model
-use Rattle.model.specs.Definitions.Refusals.{source_table, operations, document_number, fault_unless, fits, max_length, sound, has}
+use Rattle.model.specs.Definitions.Refusals.{fault_unless, fits, max_length, sound, has}
 use Rattle.model.specs.Definitions.Entries.{Result, refused, accepted, untouched, unless_faulty, judged_table}
 use Rattle.model.specs.Definitions.Operations.{Operation, operate}
 use Rattle.model.specs.Definitions.Extending.{reads, unreadable, first_operation, Performed, performed, unread, with_answer, perform_one, perform_next, perform_to, perform, answer_bytes, reported, long_operations, extend}

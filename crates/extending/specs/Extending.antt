@@ -1,6 +1,6 @@
 -- What the contracts of this crate say: an operation read at an offset, a turn of carrying operations out, and what is reported. The
 -- definitions are those of the model's Extending.antt.
-use Rattle.std.specs.Prelude.{◌≡◌, Option, Some, None, Result, Ok, Err, List, ℕ, ◌+◌, ◌≤◌, ◌<◌, length, take, drop}
+use Rattle.std.specs.Prelude.{◌≡◌, Option, Some, None, Result, Ok, Err, List, ℕ, ◌+◌, ◌≤◌, length, take, drop}
 use Rattle.answers.specs.Answers.{counted_result}
 use Rattle.answers.specs.declared.Refusal.{Refusal}
 use Rattle.model.specs.Definitions.Entries.{Outcome}

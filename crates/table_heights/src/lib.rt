@@ -36,8 +36,7 @@ fn highest(table: &[u16; TABLE], t: usize) -> usize
     best
 }
 
-// The member of least height of type t, the earliest of equals, 0 where there are none. The loop keeps the least of those
-// passed.
+// The member of least height of type t, the earliest of equals, 0 where there are none.
 pub fn least_member(table: &[u16; TABLE], t: usize) -> usize
     requires { Bounded table.now × (t < types_in table.now) }
     ensures { result ≡ model.least_member (heights_of table.now) (members_at table.now t) }
@@ -47,13 +46,11 @@ pub fn least_member(table: &[u16; TABLE], t: usize) -> usize
         return 0;
     }
     let mut best = member(table, t, 0);
-    let mut i = 1;
-    while i < many {
+    for i in 1..many {
         let m = member(table, t, i);
         if height_at(table, m) < height_at(table, best) {
             best = m;
         }
-        i += 1;
     }
     best
 }

@@ -1,7 +1,6 @@
 -- `operation_at` meets its contract: the first byte and the number of those behind it tell which operation stands there.
 use mathlib.Core.Logic.{⊎_elim}
-use native.Mathlib.Omega.{arith}
-use borrow.Author.Tests.{ltb-true, lt-ltb, le-ltb}
+use borrow.Author.Tests.{lt-ltb, le-ltb}
 use Rattle.extending.proofs.Reading.{type_read, long_type_read, member_read, none_read}
 use Rattle.extending.proofs.operation_at.Goals as goal
 

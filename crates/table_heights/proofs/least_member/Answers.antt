@@ -28,7 +28,7 @@ loop-i-init c =
     let ms = members_at a.table.now a.t in
     let some : 0 < c.count-many.result = omega (arith, c.if-many-eq0.false) in
     let first = member_is a.table.now a.t 0 (omega (arith, c.count-many.ensures.0)) c.member-best.ensures.0 in
-    (omega arith, ap (λ m. least_member hs (m ∷ drop 1 ms)) first ∙ least_start hs ms (rw (members_long _ _ c.requires c.count-many.ensures.0) some))
+    ap (λ m. least_member hs (m ∷ drop 1 ms)) first ∙ least_start hs ms (rw (members_long _ _ c.requires c.count-many.ensures.0) some)
 
 pub member-m-requires : goal.member-m-requires
 member-m-requires c =
@@ -39,12 +39,6 @@ height_at-requires c = tt
 
 pub height_at-requires-in-loop-i : goal.height_at-requires-in-loop-i
 height_at-requires-in-loop-i c = tt
-
-pub overflow_add-i : goal.overflow_add-i
-overflow_add-i c = omega arith
-
-pub loop-i-smaller : goal.loop-i-smaller
-loop-i-smaller c = omega arith
 
 pub loop-i-preserved : goal.loop-i-preserved
 loop-i-preserved c =
@@ -61,9 +55,9 @@ loop-i-preserved c =
       | then-height_at w ↦ w.best-is ∙ is ∙ sym (lesser_second hs c.loop-i.best m (omega (arith, w.if-height_at.true, old, new)))
       | else-height_at w ↦ w.best-is ∙ sym (lesser_first hs c.loop-i.best m (omega (arith, w.if-height_at.false, old, new)))
     ] in
-    (omega arith, least_turn hs ms c.loop-i.i c.loop-i.best c.if-height_at.best _ (rw (members_long _ _ c.requires c.count-many.ensures.0) here) e c.loop-i.invariant.1)
+    least_turn hs ms c.loop-i.i c.loop-i.best c.if-height_at.best _ (rw (members_long _ _ c.requires c.count-many.ensures.0) here) e c.loop-i.invariant
 
 pub returns : goal.returns
 returns c =
     let a = c.args in
-    least_end (heights_of a.table.now) (members_at a.table.now a.t) c.loop-i.i c.loop-i.best _ (rw (members_long _ _ c.requires c.count-many.ensures.0) c.loop-i-test.false) c.loop-i.invariant.1
+    least_end (heights_of a.table.now) (members_at a.table.now a.t) c.loop-i.i c.loop-i.best _ (rw (members_long _ _ c.requires c.count-many.ensures.0) c.loop-i-test.false) c.loop-i.invariant

@@ -1,7 +1,6 @@
 -- `least_member` meets its contract: the least member of those passed and of those left is the least of all.
 use mathlib.Core.Path.{◌≡◌}
 use mathlib.Core.List.{◌∷◌}
-use Prim.Native.Nat.{◌-◌, ◌≤◌}
 use lib.ListN.{drop}
 use Rattle.loaded_table.specs.Loaded.{heights_of}
 use Rattle.model.specs.Definitions.Heights.{least_member}
@@ -9,7 +8,4 @@ use Rattle.table_heights.specs.Sections.{members_at}
 use Rattle.table_heights.proofs.least_member.Given as goal
 
 abbrev pub invariant-loop-i : goal.invariant-loop-i
-invariant-loop-i l = (l.i ≤ l.many) × (least_member (heights_of l.table) (l.best ∷ drop l.i (members_at l.table l.t)) ≡ least_member (heights_of l.table) (members_at l.table l.t))
-
-abbrev pub decreases-loop-i : goal.decreases-loop-i
-decreases-loop-i l = l.many - l.i
+invariant-loop-i l = (least_member (heights_of l.table) (l.best ∷ drop l.i (members_at l.table l.t)) ≡ least_member (heights_of l.table) (members_at l.table l.t))
