@@ -5,7 +5,7 @@
 ghost use Rattle.model.specs.Definitions.Decimal.{DecimalWritten};
 ghost use Rattle.lafindry.specs.Calls.{JudgeTableCall, JudgeEmbeddingCall, ExplainClashCall, ExtendTableCall, JudgeTreeCall, CarryCall, BringBackCall, ReadAlongCall};
 
-use answer_numbers::{Answer, ExplanationNumbers, explained};
+use answer_numbers::{Answer, ExplanationNumbers};
 
 // Judges a table: number of types.
 #[unsafe(no_mangle)]
@@ -32,7 +32,7 @@ pub extern "C" fn lafindry_explain_clash(
 ) -> ExplanationNumbers
     ensures { ExplainClashCall source.now target.now embedding.now result }
 {
-    explained(explaining::explain(source, target, embedding))
+    ExplanationNumbers::from(explaining::explain(source, target, embedding))
 }
 
 // Judges a tree, after its table: number of elements.

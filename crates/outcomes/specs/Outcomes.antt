@@ -1,5 +1,5 @@
 -- What an entry that writes answers: the first of the four documents that is refused, or what is done with an accepted tree.
-use Rattle.std.specs.Prelude.{◌≡◌, refl, List, ℕ, Result, Ok}
+use Rattle.std.specs.Prelude.{◌≡◌, refl, List, ℕ, Result, Err}
 use Rattle.std.proofs.Math.Path.{sym, ap}
 use Rattle.std.proofs.Common.{◌∙◌, subst, leb-true}
 use Rattle.answer_numbers.specs.declared.Answer.{Answer}
@@ -41,6 +41,22 @@ counts_answered a h answer = record { same_answer = answer ∙ ap answer_of h.sa
 
 pub writes_answered : {o : Outcome} {new : List ℕ} {r : Result Written Refusal} (a : Answer) → Writes o new r → numbers a ≡ answer_of (written_result r) → Answers o new a
 writes_answered a h answer = record { same_answer = answer ∙ ap answer_of h.same_result; same_output = h.same_output }
+
+-- a refusal leaves the output as it was
+pub counts_refused : (out : List ℕ) (why : Refusal) → Counts (untouched out (refusal why)) out (Err why)
+unfolding untouched
+counts_refused out why = record { same_result = refl; same_output = refl }
+
+pub writes_refused : (out : List ℕ) (why : Refusal) → Writes (untouched out (refusal why)) out (Err why)
+unfolding untouched
+writes_refused out why = record { same_result = refl; same_output = refl }
+
+-- what is said of an outcome holds of the same outcome otherwise written
+pub counts_as : {o p : Outcome} {new : List ℕ} {r : Result ℕ Refusal} → Counts o new r → o ≡ p → Counts p new r
+counts_as {new = new} {r = r} h e = subst (λ (q : Outcome). Counts q new r) e h
+
+pub writes_as : {o p : Outcome} {new : List ℕ} {r : Result Written Refusal} → Writes o new r → o ≡ p → Writes p new r
+writes_as {new = new} {r = r} h e = subst (λ (q : Outcome). Writes q new r) e h
 
 -- ---- the first three documents
 
