@@ -26,7 +26,9 @@ fn read<'a>(
     let mut map = [0u16; MAP];
     setting_judge::judge(source, target, embedding, &mut from, &mut to, &mut map)?;
     match tree_judge::judge::judge(&to, tree) {
-        Ok(elements) => reading_along::read_along(&from, &to, &map, embedding, tree, elements, output),
+        Ok(elements) => reading_along::read_along(
+            &from, &to, &map, embedding, tree, elements, output,
+        ),
         Err(f) => Err(Refusal::Faulty(Document::Tree, f)),
     }
 }
