@@ -49,7 +49,8 @@ fn refusing(refusal: u64, document: u64, mark: usize) -> Answer
     }
 }
 
-// The answer for a fault of a document, which is given by its number: `ForFault` holds for every number, so it stays one.
+// The answer for a fault of a document. That is given by its number and not as a `Document`: `ForFault` says what is answered for every
+// number.
 pub fn faulting(f: Fault, document: u64) -> Answer
     ensures { ForFault f document result }
 {

@@ -12,7 +12,7 @@ use loaded_embedding::MAP;
 use loaded_table::TABLE;
 
 // Judges the three documents' bytes, each by all its checks before the next. Where all are accepted they are loaded; else
-// nothing is said of the arrays.
+// nothing is said of the arrays. A fault is handed up by an `if`: the closure that `map_err` would need gets no proof that serves.
 pub fn judge(
     source: &[u8],
     target: &[u8],
