@@ -3,12 +3,13 @@
 # make staticlib: prove the entries and write target/staticlib/liblafindry.a for C; include/lafindry.h declares them.
 # make bench: time the entries beside the Rust reference, in one run.
 # make bench-places: time the entries with the archive at four places in the program, to part the code from the linker.
+# make count-places: count the places of which docs/DESIGN-PASS.md tells.
 # make check-definitions: have the prover confirm cases on the definitions (by hand: minutes).
 
 CARGO = CARGO_TARGET_DIR=target/cargo cargo
 REFERENCE = --manifest-path tests/reference/Cargo.toml
 
-.PHONY: test run staticlib bench bench-places check-definitions reference
+.PHONY: test run staticlib bench bench-places check-definitions reference count-places
 
 test:
 	@tools/test
@@ -26,6 +27,9 @@ bench: staticlib
 
 bench-places: staticlib
 	@tools/bench-places
+
+count-places:
+	@tools/count-places --short
 
 reference:
 	@$(CARGO) build --quiet --release --offline $(REFERENCE)
