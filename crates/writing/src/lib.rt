@@ -13,7 +13,8 @@ pub fn put_open(out: &mut [u8], at: usize, t: u8) -> usize
     ensures { Writes out.old out.new at (0x30 ∷ t ∷ []) result }
 {
     out[at] = OPENS;
-    out[at + 1] = t;
+    let second = at + 1;
+    out[second] = t;
     at + 2
 }
 
@@ -35,12 +36,18 @@ pub fn put_end(out: &mut [u8], at: usize) -> usize
     at + 1
 }
 
-// Writes the bytes of `from` at a, a + 1, .., e - 1.
+// Writes the bytes of `from` at a, a + 1, .., e - 1. What the loop has yet to write gives the whole.
+// It stays a loop by hand: `copy_from_slice` calls memmove, and README says that the archive needs memcpy and memset alone.
 pub fn copy(from: &[u8], a: usize, e: usize, out: &mut [u8], at: usize) -> usize
     requires { (a ≤ e) × (e ≤ length from.now) × (at + (e - a) ≤ length out.old) }
     ensures { Writes out.old out.new at (take (e - a) (drop a from.now)) result }
 {
-    let end = at + (e - a);
-    out[at..end].copy_from_slice(&from[a..e]);
-    end
+    let mut i = a;
+    let mut to = at;
+    while i < e {
+        out[to] = from[i];
+        to += 1;
+        i += 1;
+    }
+    to
 }
