@@ -1,5 +1,5 @@
 -- `brought` meets its contract: the first of the four documents that is refused, or what is done with an accepted tree.
-use Rattle.std.proofs.Common.{List, ℕ, refl, ◌∙◌}
+use Rattle.std.proofs.Common.{List, ℕ, refl}
 use Rattle.std.proofs.lemmas.Result.{err_from_is_err_and}
 use Rattle.model.specs.Definitions.Content.{content_of}
 use Rattle.model.specs.Definitions.Image.{Setting}
