@@ -12,10 +12,8 @@ use Rattle.model.specs.Definitions.Commands.{TreeCommand, opens, character, clos
 use Rattle.model.specs.Definitions.TreeChecks.{TreeState, no_root, inside, root_closed, tree_ended, closed, tree_step, tree_complete, tree_form}
 use Rattle.model.proofs.Theorems.Reading.{raw_at, tree_reads, left_stops, left_goes, goes_within, left_ends, no_tree-commands}
 use Rattle.tree_form.specs.Form.{state, form_left, Shallow, InForm, AfterEnd}
-use Rattle.tree_form.specs.Commands.{command, ReadsCommand}
-use Rattle.tree_form.specs.declared.command.TreeCommand.TheVariants as code
+use Rattle.tree_form.specs.Commands.{ReadsCommand}
 use Rattle.tree_form.specs.declared.form.TreeState.TheVariants as states
-use Rattle.tree_form.specs.declared.command.TreeCommand as commands
 use Rattle.tree_form.specs.declared.form.TreeState as forms
 
 -- the machine stops at an alien command
@@ -182,24 +180,6 @@ ended_stops alien_t = refl
 -- so a byte behind 3F is the verdict
 pub form_more : (bs : List ℕ) (at : ℕ) → at < length bs → AfterEnd bs at → fails at ≡ tree_form bs
 form_more bs at h i = form_stops tree_ended (tree_reads bs at h) (ended_stops (tree_command (raw_at bs at))) i.whole
-
--- ---- what the default arms of the code leave
-
--- before the root every command is refused that opens no element
-pub no_root_stops : (c : commands.TreeCommand) → ((t : ℕ) → c ≡ code.Opens t → ⊥) → stops ≡ tree_step no_root (command c)
-unfolding tree_step
-no_root_stops (code.Opens t) h = absurd (h t refl)
-no_root_stops (code.Character b) h = refl
-no_root_stops code.Closes h = refl
-no_root_stops code.End h = refl
-
--- behind it every one but 3F
-pub root_closed_stops : (c : commands.TreeCommand) → (c ≡ code.End → ⊥) → stops ≡ tree_step root_closed (command c)
-unfolding tree_step
-root_closed_stops (code.Opens t) h = refl
-root_closed_stops (code.Character b) h = refl
-root_closed_stops code.Closes h = refl
-root_closed_stops code.End h = absurd (h refl)
 
 -- a document may end in no other state than the last
 pub not_ended : (s : forms.TreeState) → (s ≡ states.Ended → ⊥) → tree_complete (state s) ≡ false

@@ -8,11 +8,12 @@ ghost use Rattle.tree_form.specs.Form.{state, next, form_left, Shallow};
 use crate::command::{TreeCommand, command_at};
 use checking::Check;
 
-// Before the root; in an element with so many around it; behind the root; behind 3F.
+// In an element with so many around it; before the root; behind the root; behind 3F. The first is the state at nearly every command, and
+// the compiled loop asks for it first.
 #[derive(Clone, Copy, Debug, PartialEq, Eq)]
 pub enum TreeState {
-    NoRoot,
     Inside(usize),
+    NoRoot,
     RootClosed,
     Ended,
 }
@@ -29,27 +30,30 @@ fn closed(around: usize) -> TreeState
 }
 
 impl TreeState {
-    // The state behind a command; none where the command is refused.
+    // The state behind a command; none where the command is refused. The command is asked for first, for the compiled loop.
+    #[tactic(auto, unfolding(model::specs::Definitions::TreeChecks::tree_step))]
     fn after(self, c: TreeCommand) -> Option<TreeState>
         requires { Shallow (state self) (2 ^ 63) }
         ensures { next result ≡ tree_step (state self) (command c) }
     {
-        match self {
-            TreeState::NoRoot => match c {
-                TreeCommand::Opens(_) => Some(TreeState::Inside(0)),
+        match c {
+            TreeCommand::Opens(_) => match self {
+                TreeState::Inside(around) => Some(TreeState::Inside(around + 1)),
+                TreeState::NoRoot => Some(TreeState::Inside(0)),
+                TreeState::RootClosed | TreeState::Ended => None,
+            },
+            TreeCommand::Character(_) => match self {
+                TreeState::Inside(_) => Some(self),
                 _ => None,
             },
-            TreeState::Inside(around) => match c {
-                TreeCommand::Opens(_) => Some(TreeState::Inside(around + 1)),
-                TreeCommand::Character(_) => Some(self),
-                TreeCommand::Closes => Some(closed(around)),
-                TreeCommand::End => None,
-            },
-            TreeState::RootClosed => match c {
-                TreeCommand::End => Some(TreeState::Ended),
+            TreeCommand::Closes => match self {
+                TreeState::Inside(around) => Some(closed(around)),
                 _ => None,
             },
-            TreeState::Ended => None,
+            TreeCommand::End => match self {
+                TreeState::RootClosed => Some(TreeState::Ended),
+                _ => None,
+            },
         }
     }
 }
