@@ -2,7 +2,7 @@
 ghost use Rattle.std.specs.Prelude.{◌≡◌, ⊤};
 ghost use Rattle.answers.specs.Answers.{verdict};
 ghost use Rattle.model.specs.Definitions.TableChecks.{table_form, table_step, table_move, begins, joins, finishes, table_complete};
-ghost use Rattle.table_form.specs.Read.{command};
+ghost use Rattle.table_form.specs.Read.{command, read};
 ghost use Rattle.table_form.specs.Forms.{state, next, form_left};
 
 use crate::command::{TableCommand, command_at};
@@ -77,6 +77,16 @@ impl State {
         ensures { result ≡ table_complete (state self) }
     {
         matches!(self, State::Ended)
+    }
+}
+
+// What is read at an offset makes of the state: a command as `State::after` says; what is none is refused.
+pub fn step(s: State, found: Option<TableCommand>) -> Option<State>
+    ensures { next result ≡ table_step (state s) (read found) }
+{
+    match found {
+        Some(c) => s.after(c),
+        None => None,
     }
 }
 
