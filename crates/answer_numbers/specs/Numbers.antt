@@ -1,12 +1,12 @@
 -- The five numbers of an answer, as the model's.
-use Rattle.std.specs.Prelude.{◌≡◌, List, ℕ}
+use Rattle.std.specs.Prelude.{◌≡◌, refl, List, ℕ}
 use Rattle.answer_numbers.specs.declared.Answer.{Answer}
 use Rattle.answer_numbers.specs.declared.ExplanationNumbers.{ExplanationNumbers}
 use Rattle.answers.specs.declared.Fault.{Fault}
 use Rattle.answers.specs.Answers.{fault}
 use Rattle.model.specs.Definitions.Refusals.{Document, document_number, faulty, fault_number, fault_mark, numbers_of}
 use Rattle.model.specs.Definitions.Entries as model
-use Rattle.model.specs.Definitions.Entries.{Outcome, answer_of, refused}
+use Rattle.model.specs.Definitions.Entries.{Outcome, answer_of, refused, untouched}
 use Rattle.model.specs.Definitions.Explanation as explanations
 
 abbrev pub numbers : Answer → model.Answer
@@ -29,6 +29,11 @@ fault_answer d f a answer = answer
 pub record Answers (o : Outcome) (new : List ℕ) (a : Answer) : Type 0 where
   pub same_answer : numbers a ≡ answer_of o.result
   pub same_output : new ≡ o.output
+
+-- an answer for a fault, and the output as it was
+pub fault_answers : (out : List ℕ) (d : Document) (f : Fault) (a : Answer) → ForFault f (document_number d) a → Answers (untouched out (faulty d (fault f))) out a
+unfolding untouched
+fault_answers out d f a answer = record { same_answer = fault_answer d f a answer; same_output = refl }
 
 -- ---- explaining a clash (02, N9)
 
