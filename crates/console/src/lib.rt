@@ -4,6 +4,7 @@
 
 ghost use Rattle.std.specs.Prelude.{◌≡◌, ◌<◌, ◌≤◌, take, length, IfOk, OnErr};
 ghost use Rattle.std.specs.Io.KnownBytes.{Consumes, IsAtEnd};
+ghost use Rattle.console.specs.Called.{GivenBy};
 
 use answer_numbers::Answer;
 use codes::MAX_BYTES;
@@ -57,12 +58,14 @@ pub fn read_file<'a, R: Files>(
 }
 
 // What an entry that writes answers for the source table in the file s1 of the working directory, the target table in s2, the embedding in
-// em and the tree in tr, with room for the longest document. A file that can't be opened counts as empty.
+// em and the tree in tr, with room for the longest document. A file that can't be opened counts as empty. What files hold is said by no
+// contract; that the answer is one that the entry gives for some four documents is.
 pub fn call_on_files<
     R: Files,
     F: for<'a> FnOnce(&[u8], &[u8], &'a [u8], &'a [u8], &mut [u8]) -> Answer,
 >(rt: &R, entry: F) -> io::Result<Answer>
     requires { F.IsAlwaysCallable entry }
+    ensures { IfOk result (λ a. GivenBy F.FnOnce entry a) }
 {
     let mut s = [0u8; FILE_BYTES];
     let mut t = [0u8; FILE_BYTES];
