@@ -37,6 +37,13 @@ fn for_clash(why: Refusal) -> bool
     }
 }
 
+// The explanation of a refusal that has none: the refusal itself.
+fn unexplained(why: Refusal) -> Explanation
+    ensures { answers.explanation result ≡ model.unexplained (answers.counted_result (Err why)) }
+{
+    Explanation::Unexplained(Err(why))
+}
+
 // Judges the three documents, and explains the answer where two paths clash.
 pub fn explain(source: &[u8], target: &[u8], embedding: &[u8]) -> Explanation
     ensures { answers.explanation result ≡ model.explain source.now target.now embedding.now }
@@ -48,11 +55,11 @@ pub fn explain(source: &[u8], target: &[u8], embedding: &[u8]) -> Explanation
         Ok(()) => Explanation::Unexplained(Ok(edge_count(&from))),
         Err(why) => {
             if !for_clash(why) {
-                return Explanation::Unexplained(Err(why));
+                return unexplained(why);
             }
             match clash_of(&from, &to, embedding, &map) {
                 Some(clash) => Explanation::Explained(clash),
-                None => Explanation::Unexplained(Err(why)),
+                None => unexplained(why),
             }
         }
     }

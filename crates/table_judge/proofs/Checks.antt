@@ -42,6 +42,10 @@ pub right : (r : Result ⊤ ℕ) {v : model.Verdict} → verdict r ≡ v → tru
 right (Ok done) said e = sym said
 right (Err at) said e = true_false (sym e) refl
 
+-- a check that answers a place has failed there
+pub failed : {r : Result ⊤ ℕ} {v : model.Verdict} {at : ℕ} → verdict r ≡ v → r ≡ Err at → v ≡ fails at
+failed said e = sym said ∙ ap verdict e
+
 -- what the fault of a check that is not right comes to, behind `map_err` and `?`
 pub record Refuses (v : model.Verdict) (K : ℕ → Fault) (out : Result ⊤ Fault) : Type 0 where
   pub at : ℕ

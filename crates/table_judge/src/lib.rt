@@ -19,7 +19,9 @@ fn judge_loaded(t: &[u8], table: &mut [u16; TABLE]) -> Result<(), Fault>
 {
     table_load::load(t, table);
     table_operands::operands::operands(t, types(table)).map_err(Fault::BadOperand)?;
-    table_operands::repeats::repeats(t).map_err(Fault::RepeatedMember)?;
+    if let Err(at) = table_operands::repeats::repeats(t) {
+        return Err(Fault::RepeatedMember(at));
+    }
     table_heights::find_heights(table);
     table_heights::first_endless(table).map_err(Fault::NoFiniteInstance)?;
     table_fill::find_fill(table);

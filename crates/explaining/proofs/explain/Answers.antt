@@ -12,7 +12,7 @@ pub edge_count-requires : goal.edge_count-requires
 edge_count-requires c = (standing _ _ _ _ _ _ _ c.judge.ensures c.in-Ok.is).loaded.source_stands.bounded
 
 pub returns-then-not-for_clash : goal.returns-then-not-for_clash
-returns-then-not-for_clash c = refused_otherwise (refusing _ _ _ _ _ _ _ c.judge.ensures c.in-Err.is) (sym c.for_clash.ensures ∙ c.if-not-for_clash.true)
+returns-then-not-for_clash c = rw c.unexplained.ensures (refused_otherwise (refusing _ _ _ _ _ _ _ c.judge.ensures c.in-Err.is) (sym c.for_clash.ensures ∙ c.if-not-for_clash.true))
 
 pub clash_of-requires : goal.clash_of-requires
 clash_of-requires c = searchable (refused _ _ _ _ _ _ _ c.judge.ensures c.in-Err.is) (sym c.for_clash.ensures ∙ c.if-not-for_clash.false)
@@ -25,5 +25,5 @@ returns-in-Some c = clash-explained (refused _ _ _ _ _ _ _ c.judge.ensures c.in-
     c.clash_of.ensures c.in-Some.is
 
 pub returns-in-None : goal.returns-in-None
-returns-in-None c = none-explained (refused _ _ _ _ _ _ _ c.judge.ensures c.in-Err.is) (sym c.for_clash.ensures ∙ c.if-not-for_clash.false)
-    c.clash_of.ensures c.in-None.is
+returns-in-None c = rw c.unexplained-in-None.ensures (none-explained (refused _ _ _ _ _ _ _ c.judge.ensures c.in-Err.is) (sym c.for_clash.ensures ∙ c.if-not-for_clash.false)
+    c.clash_of.ensures c.in-None.is)
