@@ -34,5 +34,8 @@ pub fn class_of(c: u8) -> CharacterClass
 pub fn allowed(c: u8) -> bool
     ensures { result ≡ model.allowed c }
 {
-    class_of(c) != CharacterClass::NotAllowed
+    match class_of(c) {
+        CharacterClass::NotAllowed => false,
+        _ => true,
+    }
 }
